@@ -1,0 +1,15 @@
+pub mod Order
+pub mod Middles
+pub mod Partners
+pub mod Levels
+pub mod Only
+pub mod Pairs
+pub mod Neighbours
+pub mod Grades
+pub mod Squares
+pub mod Conforming
+pub mod Sets
+pub mod Closing
+pub mod Needs
+pub mod Chains
+pub mod Reaching
