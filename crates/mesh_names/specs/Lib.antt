@@ -8,5 +8,8 @@ pub mod Squares
 pub mod Forests
 pub mod Conformity
 pub mod LeastForest
+pub mod Leaves
+pub mod Patches
+pub mod Marks
 pub mod Chains
 pub mod Reaching
