@@ -7,6 +7,7 @@
 #![tactic(auto)]
 
 mod keyword;
+mod words;
 pub mod laws;
 mod refusal;
 mod text;
