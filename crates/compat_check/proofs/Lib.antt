@@ -1,3 +1,5 @@
 mod Walks
 mod Owners
 mod Vertices
+mod Ranks
+mod Links

@@ -2,3 +2,4 @@ pub mod Meshes
 pub mod Sides
 pub mod Around
 pub mod Corners
+pub mod Earlier

@@ -6,4 +6,5 @@
 //! bisected before do. Every element name on it then has at most one partner.
 
 pub mod around;
+mod earlier;
 pub mod mesh;
