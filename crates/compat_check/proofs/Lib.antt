@@ -3,3 +3,5 @@ mod Owners
 mod Vertices
 mod Ranks
 mod Links
+mod Meetings
+mod Areas

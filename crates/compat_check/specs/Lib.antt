@@ -3,3 +3,5 @@ pub mod Sides
 pub mod Around
 pub mod Corners
 pub mod Earlier
+pub mod Places
+pub mod Faults

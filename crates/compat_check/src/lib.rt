@@ -7,4 +7,9 @@
 
 pub mod around;
 mod earlier;
+mod edges;
+mod refusal;
+mod triples;
 pub mod mesh;
+
+pub use refusal::CheckRefusal;
