@@ -5,3 +5,6 @@ mod Ranks
 mod Links
 mod Meetings
 mod Areas
+mod Sorted3
+mod TwinKeys
+mod Lists

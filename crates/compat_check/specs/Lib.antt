@@ -5,3 +5,4 @@ pub mod Corners
 pub mod Earlier
 pub mod Places
 pub mod Faults
+pub mod Twins

@@ -10,6 +10,7 @@ mod earlier;
 mod edges;
 mod refusal;
 mod triples;
+mod twins;
 pub mod mesh;
 
 pub use refusal::CheckRefusal;
