@@ -8,3 +8,4 @@ mod Areas
 mod Sorted3
 mod TwinKeys
 mod Lists
+mod Pairings

@@ -6,3 +6,4 @@ pub mod Earlier
 pub mod Places
 pub mod Faults
 pub mod Twins
+pub mod Paired
