@@ -11,3 +11,8 @@ mod Lists
 mod Pairings
 mod Numbers
 mod Valid
+mod Hanging
+mod Linking
+mod Finding
+mod Alone
+mod Asking
