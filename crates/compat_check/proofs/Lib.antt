@@ -16,3 +16,4 @@ mod Linking
 mod Finding
 mod Alone
 mod Asking
+mod Lows

@@ -25,6 +25,15 @@ rules_before sides (suc n) = rule_at n (slice_index_or sides n None) (rules_befo
 abbrev pub AreFit : ℕ → List (Option Side) → Type 0
 AreFit n sides = (k : ℕ) (s : Side) → slice_index_or sides k None ≡ Some s → (s.element < n) × (s.edge < 3)
 
+abbrev pub low_of : List ℤ → ℕ → ℤ
+low_of lows h = slice_index_or lows h (pos 0)
+
+-- for each head the lowest height among the first k elements of its part, and of the head itself
+pub record AreLows (n k : ℕ) (head : ℕ → ℕ) (height : ℕ → ℤ) (lows : List ℤ) : Type 0 where
+  pub each : length lows ≡ n
+  pub below : (x : ℕ) → x < k → low_of lows (head x) ≤ℤ height x
+  pub hit : (x : ℕ) → x < n → (y : ℕ) × (y < n) × (head y ≡ head x) × (height y ≡ low_of lows (head x))
+
 -- the grades that some heights give: over the lowest of their part
 pub record AreGrades (n : ℕ) (rules : List Rule) (grades : List ℕ) : Type 0 where
   pub each : length grades ≡ n

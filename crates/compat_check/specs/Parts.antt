@@ -21,6 +21,11 @@ abbrev pub Touches : List Rule → ℕ → ℕ → Type 0
 Touches [] x y = ⊥
 Touches (rule ∷ rules) x y = ((rule.0 ≡ x) × (rule.1 ≡ y)) ⊎ ((rule.0 ≡ y) × (rule.1 ≡ x)) ⊎ Touches rules x y
 
+-- the rules speak of the first n elements
+abbrev pub InRange : ℕ → List Rule → Type 0
+InRange n [] = Unit {0}
+InRange n (rule ∷ rules) = (rule.0 < n) × (rule.1 < n) × InRange n rules
+
 -- from element to element over rules
 abbrev pub IsPath : List Rule → ℕ → List ℕ → ℕ → Type 0
 IsPath rules x [] y = x ≡ y
@@ -33,6 +38,10 @@ Hangs rules x y = (qs : List ℕ) × IsPath rules x qs y
 abbrev pub count : (ℕ → ℕ) → ℕ → ℕ → ℕ
 count head zero h = 0
 count head (suc n) h = cond (eqb (head n) h) 1 0 + count head n h
+
+-- the number of elements
+abbrev pub size : Parts → ℕ
+size parts = length parts.parents.items
 
 abbrev pub parent_of : Parts → ℕ → ℕ
 parent_of parts x = slice_index_or parts.parents.items x 0

@@ -31,7 +31,7 @@ fn opposite(rise: i32) -> i32
 }
 
 impl Parts {
-    ghost use Rattle.compat_check.specs.Parts.{AreParts, AreSettled, Leads, Links, Rule, Satisfies, rank_of};
+    ghost use Rattle.compat_check.specs.Parts.{AreParts, AreSettled, Leads, Links, Rule, Satisfies, rank_of, size};
 
     /// Each element alone.
     pub(crate) fn new(alloc: Global, count: u32) -> Result<Parts, AllocError>
@@ -51,14 +51,22 @@ impl Parts {
         })
     }
 
+    /// How many elements there are.
+    pub(crate) fn size(&self) -> u32
+        requires { size self.now ≤ 65535 }
+        ensures { result ≡ size self.now }
+    {
+        self.parents.len() as u32
+    }
+
     /// The head of an element's part, and how much its grade is above the head's.
     pub(crate) fn find(&self, element: u32) -> (u32, i32)
-        requires element { element < length self.now.parents.items }
-        requires few { length self.now.parents.items ≤ 65535 }
-        requires parts { AreParts (length self.now.parents.items) self.now }
-        ensures found { (head : ℕ → ℕ) (height : ℕ → ℤ) → Leads (length self.now.parents.items) self.now head height → (result.0 ≡ head element) × (result.1 ≡ height element) }
-        ensures within { result.0 < length self.now.parents.items }
-        ensures low { rank_of self.now result.0 < length self.now.parents.items }
+        requires element { element < size self.now }
+        requires few { size self.now ≤ 65535 }
+        requires parts { AreParts (size self.now) self.now }
+        ensures found { (head : ℕ → ℕ) (height : ℕ → ℤ) → Leads (size self.now) self.now head height → (result.0 ≡ head element) × (result.1 ≡ height element) }
+        ensures within { result.0 < size self.now }
+        ensures low { rank_of self.now result.0 < size self.now }
         ensures small { (negsuc 65534 ≤ℤ result.1) × (result.1 ≤ℤ pos 65535) }
     {
         let mut at = element;
@@ -72,7 +80,7 @@ impl Parts {
 
     // Puts the part of one head under another head.
     fn link(&mut self, child: u32, top: u32, rise: i32)
-        requires child { (child < length self.old.parents.items) × (child < length self.old.rises.items) × (child < length self.old.ranks.items) }
+        requires child { (child < size self.old) × (child < length self.old.rises.items) × (child < length self.old.ranks.items) }
         requires top { top < length self.old.ranks.items }
         requires low { rank_of self.old child < 65535 }
         ensures { Links self.old self.new child top rise }
@@ -85,12 +93,12 @@ impl Parts {
     /// Asks that the grade of one element is that of another and a rise from -1 to 1. Answers false
     /// where no grades meet this and all that was asked before.
     pub(crate) fn ask(&mut self, first: u32, second: u32, rise: i32) -> bool
-        requires first { first < length self.old.parents.items }
-        requires second { second < length self.old.parents.items }
-        requires few { length self.old.parents.items ≤ 65535 }
+        requires first { first < size self.old }
+        requires second { second < size self.old }
+        requires few { size self.old ≤ 65535 }
         requires rise { (negsuc 0 ≤ℤ rise) × (rise ≤ℤ pos 1) }
-        requires parts { AreParts (length self.old.parents.items) self.old }
-        ensures { (rules : List Rule) → AreSettled (length self.old.parents.items) rules self.old → MatchBool result (AreSettled (length self.old.parents.items) ((first, second, rise) ∷ rules) self.new) ((g : ℕ → ℤ) → Satisfies g ((first, second, rise) ∷ rules) → ⊥) }
+        requires parts { AreParts (size self.old) self.old }
+        ensures { (rules : List Rule) → AreSettled (size self.old) rules self.old → MatchBool result (AreSettled (size self.old) ((first, second, rise) ∷ rules) self.new) ((g : ℕ → ℤ) → Satisfies g ((first, second, rise) ∷ rules) → ⊥) }
     {
         let (head, height) = self.find(first);
         let (other, other_height) = self.find(second);
