@@ -5,15 +5,17 @@
 //! where its elements have grades, as the meshes of ALBERTA (Schmidt and Siebert 2005) that were
 //! bisected before do. Every element name on it then has at most one partner.
 
-pub mod around;
-pub mod check;
+mod around;
 mod earlier;
 mod edges;
 mod grading;
+pub mod mesh;
 mod parts;
+mod passes;
 mod refusal;
 mod triples;
 mod twins;
-pub mod mesh;
 
+pub use mesh::MacroMesh;
+pub use passes::check;
 pub use refusal::CheckRefusal;

@@ -10,7 +10,7 @@ use Rattle.compat_check.specs.Results.{AreMadeLabels}
 use Rattle.compat_check.specs.declared.mesh.Side.{Side}
 use Rattle.compat_check.proofs.Graded.{told_of, rules_in}
 use Rattle.compat_check.proofs.Whole.{Shown, either, compatible_of, stored_of, labels_made, length_of_map}
-use Rattle.compat_check.proofs.check.check.Goals as goal
+use Rattle.compat_check.proofs.passes.check.Goals as goal
 
 -- the facts of the passes, of the lists that the mesh keeps
 passes_at : (vs vertices : List MacroVertex) (ts triples : List Triple) (sides : List (Option Side)) → vs ≡ vertices → ts ≡ triples → Passes vs ts sides → Passes vertices triples sides
