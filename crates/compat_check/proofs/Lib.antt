@@ -1,5 +1,6 @@
 mod Walks
 mod Owners
+mod Sharing
 mod Vertices
 mod Ranks
 mod Links

@@ -10,3 +10,4 @@ pub mod Paired
 pub mod Parts
 pub mod Grading
 pub mod Results
+pub mod Partnership

@@ -1,11 +1,12 @@
 //! Partners and corners of names, by one walk down a name's word.
-ghost use Rattle.std.specs.Prelude.{◌≡◌, ◌<◌, ◌≤◌, IfSome, [], ◌∷◌, option_map};
-ghost use Rattle.mesh_names.specs.Names.{depth};
+ghost use Rattle.std.specs.Prelude.{◌≡◌, ◌<◌, ◌≤◌, IfSome, Some, [], ◌∷◌, option_map};
+ghost use Rattle.mesh_names.specs.Names.{Name, depth};
 ghost use Rattle.mesh_names.specs.Triangles.{size, level, triangle, midpoint};
 ghost use Rattle.mesh_names.specs.Partners.{half_partner, partner, top_partner};
 ghost use Rattle.mesh_names.specs.Patches.{patch_by, patch_of, vertex_of, IsKey};
 ghost use Rattle.compat_check.specs.Meshes.{across_in, edge_of, shape_of, edge_name};
 ghost use Rattle.compat_check.specs.Around.{IsAround};
+ghost use Rattle.compat_check.specs.Partnership.{SharesEdge};
 ghost use Rattle.compat_check.specs.Corners.{AreCorners, IsOfMesh};
 
 use mesh_names::laws;
@@ -143,13 +144,19 @@ impl MacroMesh {
         }
     }
 
-    /// The other name with the same refinement edge, which is of the same level; `None` exactly where
-    /// that edge is on the boundary.
+    /// The one other name with the same refinement edge, which is of the same level; `None` exactly
+    /// where no other name has it, on the boundary.
     pub fn partner(&self, name: ElemName) -> Option<ElemName>
         requires root { name.0 < size (shape_of self.now) }
         requires level { level (shape_of self.now) name ≤ 24 }
-        ensures { result ≡ option_map (λ m. m.0) (partner (across_in self.now) name.0 name.1) }
+        ensures partner { result ≡ option_map (λ m. m.0) (partner (across_in self.now) name.0 name.1) }
+        ensures shares { IfSome result (SharesEdge (shape_of self.now) name) }
+        ensures only { (m : Name) → SharesEdge (shape_of self.now) name m → result ≡ Some m }
     {
+        laws::partners_share();
+        laws::partners_pair();
+        laws::partner_is_only();
+        let _ = &self.sides;
         match self.around(name).partner {
             None => None,
             Some((other, _)) => Some(other),
