@@ -9,6 +9,9 @@ pub mod Grades
 pub mod Squares
 pub mod Conforming
 pub mod Sets
+pub mod Booleans
+pub mod Leaving
+pub mod Marking
 pub mod Closing
 pub mod Needs
 pub mod Chains

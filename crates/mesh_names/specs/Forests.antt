@@ -1,6 +1,7 @@
 -- Forests: finite sets of names that hold the parent of each member, their leaves, and conformity.
 use Rattle.std.specs.Prelude.{◌≡◌, ℕ, ◌<◌, ◌≤◌, Bool, true, false, List, ◌∷◌}
-use Rattle.std.specs.FinSet.{FinSet, contains}
+use Rattle.std.specs.FinSet.{FinSet, contains, from_list}
+use Rattle.std.specs.List.Sorted.{IsStrictlySortedBy}
 use Rattle.mesh_names.specs.Names.{Name, name_cmp}
 use Rattle.mesh_names.specs.Triangles.{Shape, Triangle, size, level, triangle, middle, IsCorner}
 
@@ -15,6 +16,11 @@ Has names n = contains names n ≡ true
 -- each of the fewer names is one of the more
 abbrev pub Within : Names → Names → Type 0
 Within fewer more = (n : Name) → Has fewer n → Has more n
+
+-- the list of a set's names, in their order
+pub record IsListOf (names : Names) (list : List Name) : Type 0 where
+  pub in_order : IsStrictlySortedBy name_cmp list
+  pub all : from_list list ≡ names
 
 -- the bisected elements: names of the mesh, none of which has a child above level 24, each with its parent
 pub record IsForest (mesh : Shape) (members : Names) : Type 0 where
