@@ -10,6 +10,7 @@ pub mod Squares
 pub mod Conforming
 pub mod Sets
 pub mod Booleans
+pub mod Inserting
 pub mod Leaving
 pub mod Marking
 pub mod Closing
