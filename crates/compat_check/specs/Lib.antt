@@ -1,0 +1,4 @@
+pub mod Meshes
+pub mod Sides
+pub mod Around
+pub mod Corners

@@ -1,0 +1,9 @@
+pub mod Limits
+pub mod Steps
+pub mod Lines
+pub mod Keywords
+pub mod Sections
+pub mod Numbers
+pub mod Meaning
+pub mod Text
+pub mod Examples
