@@ -1,5 +1,5 @@
 -- The set of leaves, name by name.
-use Rattle.std.proofs.Common.{◌≡◌, ◌⊎◌, ℕ, suc, ◌+◌, ◌<◌, Bool, true, false, cond, not, ◌&&◌, refl, sym, ap, ◌∙◌, subst, List, [], ◌∷◌, ◌++◌, take, length, inl, inr, ⊎_elim, arith, append_assoc, append-nil, slice_index_or, take-suc}
+use Rattle.std.proofs.Common.{◌≡◌, ◌⊎◌, ℕ, suc, ◌+◌, ◌<◌, Bool, true, false, cond, not, refl, sym, ap, ◌∙◌, subst, List, [], ◌∷◌, ◌++◌, take, length, inl, inr, ⊎_elim, arith, append_assoc, slice_index_or, take-suc}
 use Rattle.std.specs.FinSet.{contains, insert, empty, from_list, items, difference, contains-empty}
 use Rattle.mesh_names.specs.Names.{Name, depth, name_cmp}
 use Rattle.mesh_names.specs.Triangles.{Shape, size}

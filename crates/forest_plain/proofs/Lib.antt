@@ -7,3 +7,4 @@ pub mod Worklist
 pub mod Counting
 pub mod Filtering
 pub mod LevelOrder
+pub mod Refining

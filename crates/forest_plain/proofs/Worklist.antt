@@ -1,7 +1,7 @@
 -- The least forest by a list of names that are still to be added.
 use Rattle.std.proofs.Common.{◌≡◌, ◌⊎◌, ℕ, zero, suc, ◌+◌, ◌-◌, ◌*◌, ◌<◌, ◌≤◌, Bool, true, false, cond, not, ◌&&◌, refl, sym, ap, ◌∙◌, subst, List, [], ◌∷◌, ◌++◌, length, arith, inl, inr, ⊎_elim, length-append, append-nil}
 use Rattle.std.specs.Prelude.{Option, Some, None, option_map, option_to_list}
-use Rattle.std.specs.FinSet.{contains, insert, remove, from_list, len, items, empty, contains-insert, contains-remove, contains-empty, len-insert, len-remove, len-empty}
+use Rattle.std.specs.FinSet.{contains, insert, remove, from_list, len, items, empty, contains-remove, contains-empty, len-insert, len-remove, len-empty}
 use Rattle.mesh_names.specs.Names.{Name, name_cmp, name_eq, parent_of}
 use Rattle.mesh_names.specs.Order.{name_cmp_total}
 use Rattle.mesh_names.specs.Triangles.{Shape, size, level}
@@ -12,7 +12,7 @@ use Rattle.mesh_names.specs.LeastForest.{CanHold, IsLeast, least_forest}
 use Rattle.forest_plain.specs.Closing.{names_above}
 use Rattle.mesh_names.proofs.Conforming.{conforms_by_partners}
 use Rattle.mesh_names.proofs.Closing.{least_by_levels}
-use Rattle.mesh_names.proofs.Sets.{In, is_or_not, both_sides, or_either, or-left, or-right, has-in, in-has, has-item, item-has, in-append, in-first, in-second, tied-same, same-tied, within-both}
+use Rattle.mesh_names.proofs.Sets.{In, is_or_not, both_sides, has-in, in-has, has-item, item-has, in-append, in-first, in-second, tied-same, same-tied, within-both}
 use Rattle.mesh_names.proofs.Inserting.{has-insert, new-insert, insert-either}
 use Rattle.mesh_names.proofs.Booleans.{and_both, and-both, not_true, not-true, true-not}
 

@@ -4,13 +4,16 @@ use Rattle.std.specs.FinSet.{difference, from_list}
 use Rattle.mesh_names.specs.Names.{Name}
 use Rattle.mesh_names.specs.Triangles.{Shape, level}
 use Rattle.mesh_names.specs.Partners.{Across}
-use Rattle.mesh_names.specs.Forests.{Names, IsLeaf}
+use Rattle.mesh_names.specs.Forests.{Names, IsForest, IsLeaf}
+use Rattle.mesh_names.specs.Conformity.{HoldsPartners}
 use Rattle.mesh_names.specs.LeastForest.{IsLeast}
 use Rattle.mesh_names.specs.Patches.{patch_count}
 use Rattle.mesh_names.specs.Marks.{is_mark, names_leaf, bisections, AreNeeds}
+use Rattle.mesh_names.specs.declared.patch.RoundDelta.{RoundDelta}
 use Rattle.mesh_names.specs.declared.rows.MarkRow.{MarkRow}
 use Rattle.mesh_names.specs.declared.rows.Place.{Place}
 use Rattle.mesh_names.specs.declared.rows.Place.TheVariants.{EveryLeaf, Elem, Corner}
+use Rattle.forest_plain.specs.Deltas.{AreBorn}
 use Rattle.forest_plain.specs.declared.refusal.RoundRefusal.{RoundRefusal}
 use Rattle.forest_plain.specs.declared.refusal.RoundRefusal.TheVariants.{NotALeaf, LevelTooDeep, PoolFull, Memory}
 
@@ -80,11 +83,33 @@ pub record IsFirstFault (mesh : Shape) (old : Names) (rows : List MarkRow) (refu
   pub fine : All (IsFine mesh old) before
   pub fault : IsRowFault mesh old row refusal
 
+-- the first row that cannot be done has this refusal, or memory was wanting
+abbrev pub IsRowsRefusal : Shape → Names → List MarkRow → RoundRefusal → Type 0
+IsRowsRefusal mesh old rows (NotALeaf row) = IsFirstFault mesh old rows (NotALeaf row)
+IsRowsRefusal mesh old rows (LevelTooDeep row deep) = IsFirstFault mesh old rows (LevelTooDeep row deep)
+IsRowsRefusal mesh old rows (PoolFull needed kept pool) = ⊥
+IsRowsRefusal mesh old rows Memory = Unit {0}
+
 -- the least conforming forest that holds the old one and all that the rows ask for
 pub record IsRefined (mesh : Shape) (old : Names) (rows : List MarkRow) (new : Names) : Type 0 where
   pub needs : Names
   pub are_needs : AreNeeds mesh old rows needs
   pub least : IsLeast mesh old needs new
+
+-- a conforming forest with no more patches than the pool has room for
+pub record Stands (mesh : Shape) (across : Across) (pool : ℕ) (members : Names) : Type 0 where
+  pub forest : IsForest mesh members
+  pub partners : HoldsPartners across members
+  pub room : patch_count across members ≤ pool
+  pub some : 1 ≤ pool
+  pub most : pool ≤ 1048576
+
+-- a round that was done: the rows lead from the old forest to the new one, which adds these patches
+pub record IsRound (mesh : Shape) (across : Across) (old : Names) (rows : List MarkRow) (new : Names) (delta : RoundDelta) : Type 0 where
+  pub fine : All (IsFine mesh old) rows
+  pub refined : IsRefined mesh old rows new
+  pub born : AreBorn mesh across old new delta.born.items
+  pub died : delta.died.items ≡ []
 
 -- all rows can be done, and the refined forest has this many patches
 pub record Needs (mesh : Shape) (across : Across) (old : Names) (rows : List MarkRow) (patches : ℕ) : Type 0 where

@@ -1,6 +1,7 @@
 //! What a round adds to a forest.
-ghost use Rattle.std.specs.Prelude.{◌≡◌, [], ◌∷◌, ◌++◌, All, IfOk, OnOk, count_by};
-ghost use Rattle.mesh_names.specs.Patches.{owns, patch_of};
+ghost use Rattle.std.specs.Prelude.{◌≡◌, [], ◌∷◌, ◌++◌, All, IfOk, OnOk};
+ghost use Rattle.mesh_names.specs.Forests.{IsForest};
+ghost use Rattle.mesh_names.specs.Patches.{owns, patch_count, patch_of};
 ghost use Rattle.compat_check.specs.Meshes.{across_in, shape_of};
 ghost use Rattle.forest_plain.specs.Deltas.{IsInMesh, new_owners, owns_new, patches_at, patches_below};
 
@@ -10,14 +11,16 @@ use mesh_names::name::ElemName;
 use mesh_names::patch::PatchName;
 use std::alloc::{AllocError, Global};
 
-/// How many of the names own their patch.
-pub fn count_owners(mesh: &MacroMesh, names: &[ElemName]) -> usize
-    requires { All (IsInMesh (shape_of mesh.now)) names.now }
-    ensures { result ≡ count_by (owns (across_in mesh.now)) names.now }
+/// The number of patches. Takes no memory.
+pub fn count_patches(mesh: &MacroMesh, members: &NameSet) -> usize
+    requires { IsForest (shape_of mesh.now) members.now }
+    ensures { result ≡ patch_count (across_in mesh.now) members.now }
 {
     let mut count = 0;
-    for name in names {
-        count += usize::from(is_owner(mesh, *name));
+    for name in members.names.iter() {
+        if is_owner(mesh, *name) {
+            count += 1;
+        }
     }
     count
 }

@@ -5,6 +5,7 @@
 
 pub mod closing;
 pub mod delta;
+pub mod forest;
 pub mod leaves;
 pub mod marks;
 pub mod name_set;

@@ -11,7 +11,7 @@ use std::marker::Model;
 /// A finite set of names, in their order.
 #[derive(Drop)]
 pub struct NameSet {
-    names: BTreeSet<ElemName>,
+    pub(crate) names: BTreeSet<ElemName>,
 }
 
 impl Model for NameSet {

@@ -3,9 +3,8 @@ use Rattle.std.specs.Prelude.{IfOk}
 use Rattle.mesh_names.specs.Names.{Name}
 use Rattle.mesh_names.specs.Forests.{Names, IsListOf}
 use Rattle.mesh_names.specs.Triangles.{size}
-use Rattle.mesh_names.specs.Leaves.{tops, children}
+use Rattle.mesh_names.specs.Leaves.{tops}
 use Rattle.compat_check.specs.Meshes.{shape_of}
-use Rattle.forest_plain.specs.Rounds.{IsUnsplit}
 use Rattle.forest_plain.proofs.LeafSets.{all_leaves, members_short}
 use Rattle.forest_plain.proofs.leaves.leaf_list.Goals as goal
 
