@@ -11,6 +11,7 @@ joined_zero j u l n h e = append_nil (padded j u) ∙ ap (padded j) (sym e)
     append_nil [] = refl
     append_nil (x ∷ xs) = λ i. x ∷ append_nil xs i
 
+-- digits in two parts
 pub joined : (j k u l n m : ℕ) → m ≡ j + k → n ≡ u * 10 ^ k + l → l < 10 ^ k → padded j u ++ padded k l ≡ padded m n
 joined j zero u l n m em e h = joined_zero j u l n h (omega (arith, e, h)) ∙ ap (λ i. padded i n) (let s : j ≡ m = omega (arith, em) in s)
 joined j (suc k) u l n m em e h =
@@ -23,6 +24,7 @@ joined j (suc k) u l n m em e h =
     ∙ (λ i. joined j k u (l / 10) (n / 10) (j + k) refl up low i ++ (48 + sym last i) ∷ [])
     ∙ ap (λ i. padded i n) (let s : suc (j + k) ≡ m = omega (arith, em) in s)
 
+-- a list is its front and its last item
 pub last_at : (xs : List ℕ) (n : ℕ) → length xs ≡ n + 1 → take n xs ++ get_or xs n 0 ∷ [] ≡ xs
 last_at [] n e = absurd (omega (arith, e))
 last_at (x ∷ []) zero e = refl
@@ -41,17 +43,16 @@ snoc_other : (xs : List ℕ) (d : ℕ) → d ≢ 48 → trimmed (xs ++ d ∷ [])
 snoc_other [] d ne = ap (λ b. cond b [] (d ∷ [])) (let e : (d == 48) ≡ false = grind (arith, nat_tests) in e)
 snoc_other (x ∷ xs) d ne = ap (before_trimmed x) (snoc_other xs d ne) ∙ front-snoc x xs d
 
+-- a 0 at the end is dropped
 pub trim_zero : (xs : List ℕ) → 1 ≤ length xs → get_or xs (length xs - 1) 0 ≡ 48 → trimmed (take (length xs - 1) xs) ≡ trimmed xs
 trim_zero xs le z = let front = take (length xs - 1) xs in
     sym (snoc_zero front) ∙ ap (λ d. trimmed (front ++ d ∷ [])) (sym z) ∙ ap trimmed (last_at xs (length xs - 1) (omega arith))
 
+-- another digit at the end stays
 pub trim_other : (xs : List ℕ) → 1 ≤ length xs → get_or xs (length xs - 1) 0 ≢ 48 → trimmed xs ≡ xs
 trim_other xs le ne = let e = last_at xs (length xs - 1) (omega arith) in ap trimmed (sym e) ∙ snoc_other (take (length xs - 1) xs) (get_or xs (length xs - 1) 0) ne ∙ e
 
-pub trim_none : (xs : List ℕ) → length xs < 1 → trimmed xs ≡ xs
-trim_none [] h = refl
-trim_none (x ∷ xs) h = absurd (omega arith)
-
+-- a fraction that is not 0 has a point
 pub fraction_some : (f : ℕ) → f ≢ 0 → fraction f ≡ 46 ∷ trimmed (padded 22 f)
 fraction_some f ne = ap (λ b. cond b [] (46 ∷ trimmed (padded 22 f))) (let e : (f == 0) ≡ false = grind (arith, nat_tests) in e)
 
@@ -78,5 +79,6 @@ kept_front old s new more e h = take_again s new (length old) h (omega (arith, a
 pub whole_part : (n : ℕ) → n / 4096 / 10000000000 ≡ n * 244140625 / 10 ^ 22
 whole_part n = omega arith
 
+-- its rest
 pub part_rest : (n : ℕ) → n / 4096 % 10000000000 * 1000000000000 + n % 4096 * 244140625 ≡ n * 244140625 % 10 ^ 22
 part_rest n = omega arith

@@ -1,4 +1,5 @@
 -- Powers of ten, and what shifting the point does to a whole part.
+use Rattle.mesh_io.specs.Decimals.{greatest_cut}
 use Rattle.std.proofs.Common.{◌≡◌, ℕ, ◌+◌, ◌-◌, ◌*◌, ◌/◌, ◌^◌, ◌<◌, ◌≤◌, ◌⊎◌, ◌∙◌, inl, inr, zero, suc, ⊎_elim, sym, ap, subst, arith}
 use Rattle.std.proofs.Math.Nat.{mul-le-mul_left}
 use Rattle.std.proofs.lemmas.Nat.{pow-add, div_below, le-div, div-add-mod'}
@@ -31,21 +32,23 @@ div_low n w = omega (arith, div-add-mod' n w)
 pub div_high : (n w : ℕ) → 0 < w → n < (n / w + 1) * w
 div_high n w p = omega (arith, div-add-mod' n w)
 
+-- a shift up by more than down needs no division
 pub shift_up : (n up down : ℕ) → down ≤ up → n * 10 ^ up / 10 ^ down ≡ n * 10 ^ (up - down)
 shift_up n up down h = let p : 0 < 10 ^ down = ten_pos down in let e = ten_split down up h in
     div_is (n * 10 ^ up) (10 ^ down) (n * 10 ^ (up - down)) p
     (omega (arith, ap (λ x. n * x) e))
     (omega (arith, ap (λ x. n * x) e, p))
 
+-- a shift down by more than up is one division
 pub shift_down : (n up down : ℕ) → up ≤ down → n * 10 ^ up / 10 ^ down ≡ n / 10 ^ (down - up)
 shift_down n up down h = let w = 10 ^ (down - up) in let u = 10 ^ up in let e : 10 ^ down ≡ w * u = ten_split up down h in
     div_is (n * u) (10 ^ down) (n / w) (ten_pos down)
     (omega (arith, ap (λ x. (n / w) * x) e, mul_le (n / w * w) n u u (div_low n w) (omega arith)))
     (omega (arith, ap (λ x. (n / w + 1) * x) e, mul_le (n + 1) ((n / w + 1) * w) u u (let f = div_high n w (ten_pos (down - up)) in omega (arith, f)) (omega arith), ten_pos up))
 
--- What a head says of the whole part: it is the same, or both are above the range.
+-- what a head says of the cut: it is the same, or both are above the range.
 pub head_cut : (m kept d u w : ℕ) → Heads m kept d →
-    (m * 10 ^ u / 10 ^ w ≡ kept * 10 ^ (d + u) / 10 ^ w) ⊎ ((1000000000000000000244140624 < m * 10 ^ u / 10 ^ w) × (1000000000000000000244140624 < kept * 10 ^ (d + u) / 10 ^ w))
+    (m * 10 ^ u / 10 ^ w ≡ kept * 10 ^ (d + u) / 10 ^ w) ⊎ ((greatest_cut < m * 10 ^ u / 10 ^ w) × (greatest_cut < kept * 10 ^ (d + u) / 10 ^ w))
 head_cut m kept d u w h = by h.full
   where
     exact : d ≡ 0 → m * 10 ^ u / 10 ^ w ≡ kept * 10 ^ (d + u) / 10 ^ w
@@ -66,7 +69,7 @@ head_cut m kept d u w h = by h.full
         ∙ div_is m (10 ^ (w - u)) q (ten_pos (w - u)) (omega (arith, ap (λ x. q * x) split, low, h.low)) (omega (arith, ap (λ x. (q + 1) * x) split, high, h.high))
         ∙ sym (shift_down kept (d + u) w le)
 
-    beyond : 10 ^ 27 ≤ kept → w < d + u → (1000000000000000000244140624 < m * 10 ^ u / 10 ^ w) × (1000000000000000000244140624 < kept * 10 ^ (d + u) / 10 ^ w)
+    beyond : 10 ^ 27 ≤ kept → w < d + u → (greatest_cut < m * 10 ^ u / 10 ^ w) × (greatest_cut < kept * 10 ^ (d + u) / 10 ^ w)
     beyond big lt = let t = d + u - w in
         let ten : 10 ≤ 10 ^ t = ten_le 1 t (omega arith) in
         let much : 10 ^ 27 * 10 ≤ kept * 10 ^ t = mul_le _ _ _ _ big ten in
@@ -78,6 +81,6 @@ head_cut m kept d u w h = by h.full
         let first = le-div (kept * 10 ^ t) (m * 10 ^ u) (10 ^ w) (ten_pos w) here in
         (omega (arith, first, much), omega (arith, there, much))
 
-    by : (d ≡ 0) ⊎ (10 ^ 27 ≤ kept) → (m * 10 ^ u / 10 ^ w ≡ kept * 10 ^ (d + u) / 10 ^ w) ⊎ ((1000000000000000000244140624 < m * 10 ^ u / 10 ^ w) × (1000000000000000000244140624 < kept * 10 ^ (d + u) / 10 ^ w))
+    by : (d ≡ 0) ⊎ (10 ^ 27 ≤ kept) → (m * 10 ^ u / 10 ^ w ≡ kept * 10 ^ (d + u) / 10 ^ w) ⊎ ((greatest_cut < m * 10 ^ u / 10 ^ w) × (greatest_cut < kept * 10 ^ (d + u) / 10 ^ w))
     by (inl z) = inl (exact z)
     by (inr big) = ⊎_elim (λ lt. inr (beyond big lt)) (λ le. inl (within le)) (cases_lt w (d + u))

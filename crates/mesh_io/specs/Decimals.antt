@@ -90,6 +90,10 @@ units x = cut x / 244140625
 abbrev pub greatest_units : ℕ
 greatest_units = 100000 * 10 ^ 10 * 4096
 
+-- the greatest cut in the range, one less than that of the next fine unit
+abbrev pub greatest_cut : ℕ
+greatest_cut = greatest_units * 244140625 + 244140624
+
 -- n, or -n where minus
 abbrev pub with_sign : Bool → ℕ → ℤ
 with_sign minus n = cond minus (neg_ℤ (pos n)) (pos n)

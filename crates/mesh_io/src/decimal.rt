@@ -4,7 +4,7 @@
 //! are counted: in the range of the coordinates the fine units depend on no more.
 ghost use Rattle.std.specs.Prelude.{◌≡◌, ℕ, ◌+◌, ◌-◌, ◌*◌, ◌/◌, ◌^◌, ◌<◌, ◌≤◌, length, cond, nat_le, Some, None, Ok, Err, IfSome, IfNone, IfOk, true};
 ghost use Rattle.std.specs.Bool.{OnTrue};
-ghost use Rattle.mesh_io.specs.Decimals.{Decimal, digits_at, after_digits, number, is_minus, unsigned, places_at, after_places, signed_digits, exponent, measured, fine_units};
+ghost use Rattle.mesh_io.specs.Decimals.{Decimal, digits_at, after_digits, number, is_minus, unsigned, places_at, after_places, signed_digits, exponent, measured, fine_units, greatest_cut};
 ghost use Rattle.mesh_io.specs.Decimals.{is_digit as is_digit_byte};
 ghost use Rattle.mesh_io.specs.Heads.{Heads};
 
@@ -134,8 +134,8 @@ fn exponent_of(bytes: &[u8]) -> Option<(bool, u128)>
 // The whole part of kept * 10 ^ up / 10 ^ down; None where it is above the range.
 fn scaled(kept: u128, up: u128, down: u128) -> Option<u128>
     requires { kept < 10 ^ 28 }
-    ensures some { IfSome result (λ c. (c ≡ kept * 10 ^ up / 10 ^ down) × (c ≤ 1000000000000000000244140624)) }
-    ensures none { IfNone result (1000000000000000000244140624 < kept * 10 ^ up / 10 ^ down) }
+    ensures some { IfSome result (λ c. (c ≡ kept * 10 ^ up / 10 ^ down) × (c ≤ greatest_cut)) }
+    ensures none { IfNone result (greatest_cut < kept * 10 ^ up / 10 ^ down) }
 {
     if kept == 0 {
         return Some(0);

@@ -1,3 +1,4 @@
+use Rattle.mesh_io.specs.Decimals.{greatest_cut}
 use Rattle.std.proofs.Common.{◌≡◌, ◌-◌, ◌*◌, ◌/◌, ◌^◌, ◌∙◌, sym, ap, arith}
 use Rattle.mesh_io.proofs.Powers.{ten_le, ten_pos, shift_up, shift_down, div_is, div_low, div_high, mul_le}
 use Rattle.std.proofs.lemmas.Nat.{div_below}
@@ -40,12 +41,12 @@ returns-then-kept-power-clause-none c =
     let e = shift_up c.args.kept c.args.up c.args.down (omega arith) in
     let same = ap (λ p. c.args.kept * p) c.pow-power.ensures in
     let p = ten_pos (c.args.up - c.args.down) in
-    let high = div_high 1000000000000000000244140624 c.pow-power.result (omega (arith, c.pow-power.ensures, p)) in
+    let high = div_high greatest_cut c.pow-power.result (omega (arith, c.pow-power.ensures, p)) in
     let over = mul_le _ _ c.pow-power.result c.pow-power.result c.if-kept-power.true (omega arith) in omega (arith, e, same, high, over)
 
 pub returns-else-kept-power-clause-some : goal.returns-else-kept-power-clause-some
 returns-else-kept-power-clause-some c =
     let e = shift_up c.args.kept c.args.up c.args.down (omega arith) in
     let same = ap (λ p. c.args.kept * p) c.pow-power.ensures in
-    let low = div_low 1000000000000000000244140624 c.pow-power.result in
+    let low = div_low greatest_cut c.pow-power.result in
     let under = mul_le _ _ c.pow-power.result c.pow-power.result c.if-kept-power.false (omega arith) in (same ∙ sym e, omega (arith, low, under))
