@@ -8,10 +8,25 @@ use Rattle.mesh_names.specs.Names.{Name, depth}
 abbrev pub letter_text : Bool → ℕ
 letter_text b = cond b 49 48
 
--- a point and the letters, the first letter first; nothing where there is no letter
+-- the letters of a word, the first letter first
+abbrev pub letters_text : List Bool → List ℕ
+letters_text w = map letter_text (reverse w)
+
+-- a point and the letters; nothing where there is no letter
 abbrev pub word_text : List Bool → List ℕ
 word_text [] = []
-word_text (b ∷ w) = 46 ∷ map letter_text (reverse (b ∷ w))
+word_text (b ∷ w) = 46 ∷ letters_text (b ∷ w)
+
+-- the digits are those of a root
+pub record IsRoot (digits : List ℕ) (r : ℕ) : Type 0 where
+  pub small : r < 65535
+  pub digits_are : digits ≡ decimal r
+
+-- the letters are those of a word of 1 to 24
+pub record IsWord (letters : List ℕ) (w : List Bool) : Type 0 where
+  pub some : 0 < length w
+  pub few : length w ≤ 24
+  pub letters_are : letters ≡ letters_text w
 
 -- the spelling of a name: its root in decimal without leading zeros, and then its letters
 abbrev pub spelling : Name → List ℕ
@@ -23,9 +38,12 @@ pub record Spells (text : List ℕ) (n : Name) : Type 0 where
   pub rooted : n.0 < 65535
   pub shallow : depth n ≤ 24
 
+abbrev pub is_point : ℕ → Bool
+is_point c = c == 46
+
 -- the only name that the text could spell: digits up to a point, and letters after it
 abbrev pub likely_name : List ℕ → Name
-likely_name text = (digits_value 10 (before_first (λ c. c == 46) text), map (λ c. c == 49) (reverse (after_first (λ c. c == 46) text)))
+likely_name text = (digits_value 10 (before_first is_point text), map (λ c. c == 49) (reverse (after_first is_point text)))
 
 -- whether the text is the spelling of the name, which is within the limits
 abbrev pub is_spelling : List ℕ → Name → Bool
