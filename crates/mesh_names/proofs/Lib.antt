@@ -17,3 +17,4 @@ pub mod Closing
 pub mod Needs
 pub mod Chains
 pub mod Reaching
+pub mod SpelledNames

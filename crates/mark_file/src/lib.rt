@@ -1,0 +1,8 @@
+#![tactic(auto)]
+//! The marks file: rows that say, round by round, which elements are to be bisected.
+//!
+//! The file is CSV. Its header is `round,what,where,number`; a row as `2,mark,0.01,3` asks in
+//! round 2 for three bisections of the element `0.01`. Blanks at the ends of a field are dropped.
+
+pub mod read;
+pub mod refusal;
