@@ -1,0 +1,1 @@
+//! Numbers for the vertices of a mesh.
