@@ -3,6 +3,7 @@ pub mod Steps
 pub mod Lines
 pub mod Keywords
 pub mod Sections
+pub mod Walks
 pub mod Numbers
 pub mod Meaning
 pub mod Text

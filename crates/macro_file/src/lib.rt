@@ -7,6 +7,7 @@
 #![tactic(auto)]
 
 mod keyword;
+mod tokens;
 mod words;
 pub mod laws;
 mod refusal;
