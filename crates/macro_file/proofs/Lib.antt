@@ -1,3 +1,5 @@
 pub mod Cuts
 pub mod WordLemmas
 pub mod TokenLemmas
+pub mod LineLemmas
+pub mod SectionLemmas

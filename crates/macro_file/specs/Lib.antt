@@ -4,6 +4,7 @@ pub mod Lines
 pub mod Keywords
 pub mod Sections
 pub mod Walks
+pub mod Places
 pub mod Numbers
 pub mod Meaning
 pub mod Text

@@ -7,9 +7,13 @@
 #![tactic(auto)]
 
 mod keyword;
+mod lines;
+mod section;
+mod sections;
 mod tokens;
 mod words;
 pub mod laws;
+mod memory;
 mod refusal;
 mod text;
 
