@@ -1,3 +1,7 @@
+pub mod DigitLists
 pub mod Finding
+pub mod Measures
+pub mod Padded
 pub mod Planned
+pub mod Powers
 pub mod Writing

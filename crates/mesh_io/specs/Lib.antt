@@ -1,3 +1,6 @@
+pub mod Decimals
 pub mod Faults
+pub mod Heads
 pub mod Shelves
 pub mod Sinks
+pub mod Written

@@ -5,6 +5,7 @@
 //! of concurrent work, for tests.
 #![tactic(auto)]
 
+mod decimal;
 mod file_shelf;
 mod gate;
 mod mem_shelf;
@@ -14,7 +15,9 @@ mod shelf;
 mod sink;
 mod stream_sink;
 mod text;
+mod written;
 
+pub use decimal::{DecimalRefusal, read_decimal};
 pub use file_shelf::FileShelf;
 pub use gate::{Gate, GatePoint, NoGate};
 pub use mem_shelf::MemShelf;
@@ -23,6 +26,7 @@ pub use shelf::{LoadRefusal, Shelf};
 pub use sink::{Failed, Sink, put_all};
 pub use stream_sink::StreamSink;
 pub use text::{TextRefusal, put_whole};
+pub use written::put_decimal;
 
 #[cfg(test)]
 mod tests;
