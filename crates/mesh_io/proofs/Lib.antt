@@ -4,4 +4,5 @@ pub mod Measures
 pub mod Padded
 pub mod Planned
 pub mod Powers
+pub mod Reading
 pub mod Writing

@@ -8,6 +8,7 @@
 mod decimal;
 mod file_shelf;
 mod gate;
+pub mod laws;
 mod mem_shelf;
 mod mem_sink;
 mod plan;
