@@ -109,9 +109,13 @@ fn the_first_of_equal_names_is_loaded_but_at_listed_calls(rt: HostRuntime) -> Re
     Ok(())
 }
 
+fn tell<G: Gate + Sync>(gate: &G) {
+    gate.at(GatePoint::Claimed, 1);
+}
+
 #[test]
-fn a_gate_may_hold_nobody() {
-    NoGate.at(GatePoint::Claimed, 1);
+fn threads_may_share_a_gate_that_holds_nobody() {
+    tell(&NoGate);
 }
 
 // The expected values of the decimals are those of exact fractions.
