@@ -32,6 +32,9 @@ const NO_DIGITS: Head = Head {
 // A head from here on has 28 digits.
 const FULL: u128 = 1_000_000_000_000_000_000_000_000_000;
 
+// The most digits of an exponent.
+const EXPONENT_DIGITS: usize = 6;
+
 // A fine unit in parts of 10 ^ -22.
 const FINE_UNIT: u128 = 244_140_625;
 
@@ -103,7 +106,7 @@ fn exponent_text(text: &[u8]) -> Option<(bool, u128)>
     ensures small { IfSome result (λ e. e.1 < 1000000) }
 {
     let (minus, bare) = sign(text);
-    if bare.is_empty() || bare.len() > 6 {
+    if bare.is_empty() || bare.len() > EXPONENT_DIGITS {
         return None;
     }
     let (head, rest) = digits(NO_DIGITS, bare);

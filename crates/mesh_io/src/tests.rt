@@ -47,6 +47,35 @@ fn a_long_text_reaches_a_real_file(rt: HostRuntime) -> Result<(), Fail> {
     Ok(())
 }
 
+// Takes each piece whole, and keeps the length of the longest.
+#[derive(Drop)]
+struct Widest {
+    bytes: usize,
+}
+
+impl Sink for Widest {
+    ghost use Rattle.std.specs.Prelude.{None};
+
+    ghost holds = { λ _. None };
+
+    ghost faults = { λ _. 0 };
+
+    fn write(&mut self, piece: &[u8]) -> Result<usize, Failed> {
+        self.bytes = self.bytes.max(piece.len());
+        Ok(piece.len())
+    }
+}
+
+#[test]
+fn no_piece_is_longer_than_64_kibibytes(rt: HostRuntime) -> Result<(), Fail> {
+    let text = vec![in rt.alloc(); b'x'; 200000]?;
+    let mut sink = Widest { bytes: 0 };
+    let outcome = put_all(&mut sink, text.as_slice());
+    assert!(rt; outcome.is_ok());
+    assert_eq!(rt; sink.bytes, 65536);
+    Ok(())
+}
+
 #[test]
 fn a_sink_that_fails_keeps_the_front_of_the_text(rt: HostRuntime) -> Result<(), Fail> {
     // Room, most in one write, the write that is to fail, what is held then.
