@@ -1,0 +1,15 @@
+pub mod Names
+pub mod Letters
+pub mod Order
+pub mod Triangles
+pub mod Partners
+pub mod Validity
+pub mod Squares
+pub mod Forests
+pub mod Conformity
+pub mod LeastForest
+pub mod Leaves
+pub mod Patches
+pub mod Marks
+pub mod Chains
+pub mod Reaching

@@ -1,0 +1,82 @@
+-- Effective marks and needs: what the rows of a round ask for.
+use Rattle.std.specs.Prelude.{◌≡◌, ℕ, ◌<◌, ◌≤◌, ℤ, pos, negsuc, Bool, true, false, cond, ◌&&◌, List, [], ◌∷◌, ◌++◌, length, map, Option, Some, None, unwrap_or}
+use Rattle.mesh_names.specs.Names.{Name, name_eq}
+use Rattle.mesh_names.specs.Triangles.{Shape}
+use Rattle.mesh_names.specs.Forests.{Names, Has, IsForest, IsListOf, IsLeaf}
+use Rattle.mesh_names.specs.LeastForest.{Work, needs_of}
+use Rattle.mesh_names.specs.Leaves.{leaves}
+use Rattle.mesh_names.specs.declared.rows.MarkRow.{MarkRow}
+use Rattle.mesh_names.specs.declared.rows.What.{What}
+use Rattle.mesh_names.specs.declared.rows.What.TheVariants.{Mark, Elem as element_value, Vert as vertex_value}
+use Rattle.mesh_names.specs.declared.rows.Place.{Place}
+use Rattle.mesh_names.specs.declared.rows.Place.TheVariants.{EveryLeaf, Elem, Corner}
+
+-- the row is one of marks
+abbrev pub is_mark : What → Bool
+is_mark Mark = true
+is_mark element_value = false
+is_mark vertex_value = false
+
+-- the place is this leaf, or `*`
+abbrev pub names_leaf : Place → Name → Bool
+names_leaf EveryLeaf n = true
+names_leaf (Elem m) n = name_eq m n
+names_leaf (Corner m k) n = false
+
+-- the row marks this leaf
+abbrev pub marks_leaf : MarkRow → Name → Bool
+marks_leaf row n = is_mark row.what && names_leaf row.place n
+
+-- a mark may name every leaf or one element
+abbrev pub takes_mark : Place → Bool
+takes_mark EveryLeaf = true
+takes_mark (Elem m) = true
+takes_mark (Corner m k) = false
+
+-- a row that a round takes: a mark from 0 to 24
+pub record IsWellFormed (row : MarkRow) : Type 0 where
+  pub mark : is_mark row.what ≡ true
+  pub place : takes_mark row.place ≡ true
+  pub times : ℕ
+  pub number : row.number ≡ pos times
+  pub small : times ≤ 24
+
+-- the later of two, where there is one
+abbrev pub later : Option ℤ → Option ℤ → Option ℤ
+later earlier None = earlier
+later earlier (Some z) = Some z
+
+-- the number of the last row that marks this leaf
+abbrev pub last_mark : List MarkRow → Name → Option ℤ
+last_mark [] n = None
+last_mark (row ∷ rows) n = later (cond (marks_leaf row n) (Some row.number) None) (last_mark rows n)
+
+-- the effective mark: that number, or 0 where no row marks the leaf
+abbrev pub effective_mark : List MarkRow → Name → ℤ
+effective_mark rows n = unwrap_or (last_mark rows n) (pos 0)
+
+-- how many bisections a mark asks for
+abbrev pub bisections : ℤ → ℕ
+bisections (pos k) = k
+bisections (negsuc k) = 0
+
+-- n is t, or below it by a word u of fewer letters than the leaf t is to be bisected
+pub record IsNeeded (mesh : Shape) (old : Names) (rows : List MarkRow) (n : Name) : Type 0 where
+  pub leaf : Name
+  pub word : List Bool
+  pub is_leaf : IsLeaf mesh old leaf
+  pub fewer : length word < bisections (effective_mark rows leaf)
+  pub below : n ≡ (leaf.0, word ++ leaf.1)
+
+-- the set of all that the rows ask for
+pub record AreNeeds (mesh : Shape) (old : Names) (rows : List MarkRow) (needs : Names) : Type 0 where
+  pub needed : (n : Name) → Has needs n → IsNeeded mesh old rows n
+  pub all : (n : Name) → IsNeeded mesh old rows n → Has needs n
+
+-- each leaf, and how often it is to be bisected
+abbrev pub work_of : List MarkRow → List Name → Work
+work_of rows list = map (λ (t : Name). (t, bisections (effective_mark rows t))) list
+
+-- the law that the needs of this work are what the rows ask for
+abbrev pub MarksGiveNeeds : Type 0
+MarksGiveNeeds = (mesh : Shape) (old : Names) (rows : List MarkRow) (list : List Name) → IsForest mesh old → IsListOf (leaves mesh old) list → AreNeeds mesh old rows (needs_of (work_of rows list))

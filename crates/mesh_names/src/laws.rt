@@ -1,0 +1,96 @@
+//! Laws over the definitions alone. Each function takes nothing and answers nothing: its
+//! contract is the law.
+ghost use Rattle.mesh_names.specs.Partners.{LevelsApart, PartnerIsOnly, PartnersPair, PartnersShare};
+ghost use Rattle.mesh_names.specs.Validity.{GradesAreOne, ValidTells};
+ghost use Rattle.mesh_names.specs.Squares.{SquaresFit};
+ghost use Rattle.mesh_names.specs.Conformity.{ConformsByPartners};
+ghost use Rattle.mesh_names.specs.Reaching.{LeastByChains};
+ghost use Rattle.mesh_names.specs.LeastForest.{LeastByLevels, LeastIsOne, NeedsAre, NeedsCanBeHeld};
+ghost use Rattle.mesh_names.specs.Leaves.{LeavesAre};
+ghost use Rattle.mesh_names.specs.Marks.{MarksGiveNeeds};
+ghost use Rattle.mesh_names.specs.Chains.{ChainWithin, ChainsStand};
+
+/// A valid and graded mesh tells what lies across each edge.
+pub fn valid_tells()
+    ensures { ValidTells }
+{}
+
+/// A mesh has at most one list of grades.
+pub fn grades_are_one()
+    ensures { GradesAreOne }
+{}
+
+/// Two small meshes are valid and compatible.
+pub fn squares_fit()
+    ensures { SquaresFit }
+{}
+
+/// A partner has the same refinement edge.
+pub fn partners_share()
+    ensures { PartnersShare }
+{}
+
+/// Names with one refinement edge have one level.
+pub fn levels_apart()
+    ensures { LevelsApart }
+{}
+
+/// A name has at most one other name with its refinement edge.
+pub fn partner_is_only()
+    ensures { PartnerIsOnly }
+{}
+
+/// A partner is another name of the same level, and has the name as its partner.
+pub fn partners_pair()
+    ensures { PartnersPair }
+{}
+
+/// A forest conforms exactly where it holds the partner of each member that has one.
+pub fn conforming_by_partners()
+    ensures { ConformsByPartners }
+{}
+
+/// The least forest is got by going through the levels from the greatest down.
+pub fn least_by_levels()
+    ensures { LeastByLevels }
+{}
+
+/// Exactly one least forest holds the old one and the needs.
+pub fn least_is_one()
+    ensures { LeastIsOne }
+{}
+
+/// The set of needs has the needed names.
+pub fn needs_are()
+    ensures { NeedsAre }
+{}
+
+/// Needs within level 24 can be held.
+pub fn needs_can_be_held()
+    ensures { NeedsCanBeHeld }
+{}
+
+/// The set of leaves has the leaves of a forest, and no others.
+pub fn leaves_are()
+    ensures { LeavesAre }
+{}
+
+/// Effective marks, from the last row that names a leaf, give the needs.
+pub fn marks_give_needs()
+    ensures { MarksGiveNeeds }
+{}
+
+/// A name has a chain, whose other names are of smaller levels.
+pub fn chains_stand()
+    ensures { ChainsStand }
+{}
+
+/// The chain of a name lies in each conforming forest that holds the name.
+pub fn chain_within()
+    ensures { ChainWithin }
+{}
+
+/// The least forest has the old names, and the patches of the chains of the needed ones.
+pub fn least_by_chains()
+    ensures { LeastByChains }
+{}

@@ -1,0 +1,34 @@
+//! Rows of marks, as a round takes them.
+use crate::name::ElemName;
+
+/// What a row sets: a mark, an element's value or a vertex's value.
+#[derive(Clone, Copy, Debug, PartialEq, Eq)]
+pub enum What {
+    Mark,
+    Elem,
+    Vert,
+}
+
+/// What a row names: every leaf, one element, or a corner (0 to 2) of one element.
+#[derive(Clone, Copy, Debug, PartialEq, Eq)]
+pub enum Place {
+    EveryLeaf,
+    Elem(ElemName),
+    Corner(ElemName, u8),
+}
+
+/// A row of the marks file, with its number there; the header is row 1.
+#[derive(Clone, Copy, Debug)]
+pub struct MarkRow {
+    pub row: u32,
+    pub what: What,
+    pub place: Place,
+    pub number: i64,
+}
+
+/// The rows of one round, in order. Rounds are counted from 1.
+#[derive(Debug, Drop)]
+pub struct RoundMarks {
+    pub number: u32,
+    pub rows: Vec<MarkRow>,
+}
