@@ -3,3 +3,4 @@ pub mod WordLemmas
 pub mod TokenLemmas
 pub mod LineLemmas
 pub mod SectionLemmas
+pub mod NumberLemmas

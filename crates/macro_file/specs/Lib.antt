@@ -6,6 +6,7 @@ pub mod Sections
 pub mod Walks
 pub mod Places
 pub mod Numbers
+pub mod Capped
 pub mod Meaning
 pub mod Text
 pub mod Examples

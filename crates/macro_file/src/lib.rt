@@ -14,6 +14,7 @@ mod tokens;
 mod words;
 pub mod laws;
 mod memory;
+mod numbers;
 mod refusal;
 mod text;
 
