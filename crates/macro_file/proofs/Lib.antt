@@ -4,3 +4,5 @@ pub mod TokenLemmas
 pub mod LineLemmas
 pub mod SectionLemmas
 pub mod NumberLemmas
+pub mod StepLemmas
+pub mod ListLemmas

@@ -13,6 +13,7 @@ mod sections;
 mod tokens;
 mod words;
 pub mod laws;
+mod lists;
 mod memory;
 mod numbers;
 mod refusal;
