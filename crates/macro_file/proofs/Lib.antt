@@ -6,3 +6,5 @@ pub mod SectionLemmas
 pub mod NumberLemmas
 pub mod StepLemmas
 pub mod ListLemmas
+pub mod CountLemmas
+pub mod RangeLemmas

@@ -29,7 +29,7 @@ fn count_tokens(bytes: &[u8], line: u32) -> u32
 }
 
 /// The numbers of a section, of which this many belong there.
-pub fn numbers(
+pub fn read_numbers(
     alloc: Global,
     section: &Section<'_>,
     wanted: u32,

@@ -13,8 +13,8 @@ use crate::refusal::MacroRefusal;
 use crate::section::Section;
 use crate::tokens::next_token;
 
-// Whether the key stands among the sections.
-fn stands(sections: &[Section], keyword: Keyword) -> bool
+/// Whether the key stands among the sections.
+pub fn stands(sections: &[Section], keyword: Keyword) -> bool
     ensures { result ≡ list_any (λ s. same s.keyword keyword) sections.now }
 {
     sections.iter().any(|s| s.keyword == keyword)

@@ -2,7 +2,7 @@ use Rattle.std.proofs.Common.{◌+◌, ◌≤◌, length}
 use Rattle.macro_file.specs.Walks.{tokens_from}
 use Rattle.macro_file.specs.Places.{section_of}
 use Rattle.macro_file.proofs.ListLemmas.{Reads}
-use Rattle.macro_file.proofs.lists.numbers.Given as goal
+use Rattle.macro_file.proofs.lists.read_numbers.Given as goal
 
 abbrev pub invariant-loop-found : goal.invariant-loop-found
 invariant-loop-found l = record {
