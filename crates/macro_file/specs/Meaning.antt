@@ -7,6 +7,7 @@ use Rattle.macro_file.specs.declared.refusal.Key.{Key}
 use Rattle.macro_file.specs.declared.refusal.Key.TheVariants.{VertexCount as vertex_count, ElementCount as element_count, Coordinates as coordinates, Triples as triples}
 use Rattle.macro_file.specs.declared.refusal.MacroRefusal.{MacroRefusal}
 use Rattle.macro_file.specs.declared.refusal.MacroRefusal.TheVariants.{KeyMissing, CountDiffers}
+use Rattle.macro_file.specs.declared.counts.Counts.{Counts}
 use Rattle.macro_file.specs.Steps.{then, each}
 use Rattle.macro_file.specs.Keywords.{same}
 use Rattle.macro_file.specs.Sections.{Section, stands, sections}
@@ -63,11 +64,6 @@ single_in (Some s) = then (numbers 1 s) (λ zs. Ok (number_at zs 0))
 
 abbrev pub single : Keyword → List Section → Result ℤ MacroRefusal
 single k ss = single_in (find (λ (s : Section). same s.keyword k) ss)
-
--- how many vertices and elements there are
-pub record Counts : Type 0 where
-  pub vertices : ℕ
-  pub elements : ℕ
 
 -- step 3: the numbers of the first four keys
 abbrev pub counts : List Section → Result Counts MacroRefusal

@@ -6,9 +6,18 @@
 //! first fault by line; `put_macro` writes a macro text as bytes that are read again as the same text.
 #![tactic(auto)]
 
+mod counts;
 mod keyword;
+mod lines;
+mod section;
+mod sections;
+mod tokens;
 mod words;
 pub mod laws;
+mod lists;
+mod lookup;
+mod memory;
+mod numbers;
 mod refusal;
 mod text;
 
