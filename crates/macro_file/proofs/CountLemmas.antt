@@ -1,5 +1,5 @@
 -- The section of a key, and its one number.
-use Rattle.std.proofs.Common.{◌≡◌, List, [], ◌∷◌, Bool, true, false, cond, map, ℤ, pos, Option, Some, None, Result, Ok, Err, ◌∙◌, refl, sym, ap}
+use Rattle.std.proofs.Common.{◌≡◌, List, [], ◌∷◌, Bool, true, false, cond, map, ℤ, pos, Some, None, Result, Ok, ◌∙◌, refl, sym, ap}
 use Rattle.std.specs.Prelude.{find, option_map}
 use Rattle.macro_file.specs.declared.keyword.Keyword.{Keyword}
 use Rattle.macro_file.specs.declared.section.Section.{Section as Place}

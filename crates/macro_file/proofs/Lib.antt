@@ -8,3 +8,6 @@ pub mod StepLemmas
 pub mod ListLemmas
 pub mod CountLemmas
 pub mod RangeLemmas
+pub mod LookupLemmas
+pub mod AssemblyLemmas
+pub mod ReaderLemmas

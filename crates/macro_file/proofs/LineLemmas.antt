@@ -1,7 +1,7 @@
 -- The lines of a file, one by one from the front, and the key lines among them.
-use Rattle.std.proofs.Common.{◌≡◌, ◌≢◌, ℕ, zero, suc, List, [], ◌∷◌, ◌++◌, Bool, true, false, ◌==◌, ◌&&◌, ◌||◌, cond, length, take, drop, ◌+◌, ◌-◌, ◌<◌, ◌≤◌, Option, Some, None, ◌∙◌, ◌⊎◌, inl, inr, ⊎_elim, refl, sym, ap, subst, arith, append_assoc}
+use Rattle.std.proofs.Common.{◌≡◌, ℕ, zero, suc, List, [], ◌∷◌, ◌++◌, Bool, true, false, ◌==◌, ◌&&◌, ◌||◌, cond, length, take, drop, ◌+◌, ◌<◌, ◌≤◌, Some, None, ◌∙◌, ⊎_elim, refl, sym, ap, subst, arith, append_assoc}
 use Rattle.std.specs.List.{position_or_len, onto_first}
-use Rattle.std.proofs.lemmas.Bool.{cases_Bool, eqb-true, or_parts, or_cases, and_left, and_right, and_parts, false≢true, true≢false}
+use Rattle.std.proofs.lemmas.Bool.{cases_Bool, eqb-true, or_parts, or_cases, and_right, false≢true, true≢false}
 use Rattle.std.proofs.lemmas.List.{append-nil, take-append-drop, drop-drop, take_all}
 use Rattle.macro_file.specs.Lines.{lines, at_newline, before, after}
 use Rattle.macro_file.specs.Sections.{Token, Block, tokens, add_line, blocks}
@@ -37,7 +37,7 @@ last_line [] e = refl
 last_line (b ∷ bs) e = ⊎_elim
     (λ yes. absurd (omega (arith, sym (position-yes (λ b. b == 10) b bs yes) ∙ e)))
     (λ no. let rest : newline_at bs ≡ length bs = omega (arith, sym (position-no (λ b. b == 10) b bs no) ∙ e) in
-      lines-plain b bs no (and_right (b == 13) (at_newline bs) (none bs rest)) ∙ ap (onto_first b) (last_line bs rest))
+    lines-plain b bs no (and_right (b == 13) (at_newline bs) (none bs rest)) ∙ ap (onto_first b) (last_line bs rest))
     (cases_Bool (b == 10))
   where
     none : (cs : List ℕ) → newline_at cs ≡ length cs → at_newline cs ≡ false
@@ -66,11 +66,11 @@ first_line (b ∷ bs) h = ⊎_elim
       lines-front = λ ys. ap (λ n. lines (take (suc n) (b ∷ bs) ++ ys)) (position-yes (λ b. b == 10) b bs yes) ∙ (let P : ℕ → Type 0 = λ k. lines (k ∷ ys) ≡ [] ∷ lines ys in subst P (sym (eqb-true b 10 yes)) refl);
     })
     (λ no. let within : newline_at bs < length bs = omega (arith, position-no (λ b. b == 10) b bs no, h) in
-      let f = first_line bs within in
-      record {
-        line = cond (b == 13 && at_newline bs) f.line (b ∷ f.line);
-        lines-front = λ ys. ap (λ n. lines (take (suc n) (b ∷ bs) ++ ys)) (position-no (λ b. b == 10) b bs no) ∙ line_step b bs f.line (λ zs. take (suc (newline_at bs)) bs ++ zs) no (λ zs. newline_after bs zs within) f.lines-front _ refl ys;
-      })
+    let f = first_line bs within in
+    record {
+      line = cond (b == 13 && at_newline bs) f.line (b ∷ f.line);
+      lines-front = λ ys. ap (λ n. lines (take (suc n) (b ∷ bs) ++ ys)) (position-no (λ b. b == 10) b bs no) ∙ line_step b bs f.line (λ zs. take (suc (newline_at bs)) bs ++ zs) no (λ zs. newline_after bs zs within) f.lines-front _ refl ys;
+    })
     (cases_Bool (b == 10))
 
 -- a line and its newline are whole
@@ -109,9 +109,9 @@ no_key_at : (b : ℕ) (bs : List ℕ) → ends_key b ≡ true → (b == 58) ≡ 
 no_key_at b bs e colon = ⊎_elim
     (λ newline. let P : ℕ → Type 0 = λ k. NoKey (k ∷ bs) in subst P (sym (eqb-true b 10 newline)) (record { line = []; more = lines bs; is = refl; none = refl }))
     (λ f. ⊎_elim
-      (λ comment. let r = some_line bs in let P : ℕ → Type 0 = λ k. NoKey (k ∷ bs) in subst P (sym (eqb-true b 35 comment)) (record { line = 35 ∷ r.0; more = r.1; is = ap (onto_first 35) r.2; none = refl }))
-      (λ yes. absurd (false≢true (sym colon ∙ yes)))
-      (or_cases (b == 35) _ f))
+    (λ comment. let r = some_line bs in let P : ℕ → Type 0 = λ k. NoKey (k ∷ bs) in subst P (sym (eqb-true b 35 comment)) (record { line = 35 ∷ r.0; more = r.1; is = ap (onto_first 35) r.2; none = refl }))
+    (λ yes. absurd (false≢true (sym colon ∙ yes)))
+    (or_cases (b == 35) _ f))
     (or_cases (b == 10) _ e)
 
 no_key : (bs : List ℕ) → at_colon (drop (key_end bs) bs) ≡ false → NoKey bs
@@ -119,15 +119,15 @@ no_key [] h = record { line = []; more = []; is = refl; none = refl }
 no_key (b ∷ bs) h = ⊎_elim
     (λ yes. no_key_at b bs yes (sym (ap (λ n. at_colon (drop n (b ∷ bs))) (position-yes ends_key b bs yes)) ∙ h))
     (λ no. let k = key_bytes b no in let f = no_key bs (sym (ap (λ n. at_colon (drop n (b ∷ bs))) (position-no ends_key b bs no)) ∙ h) in
-      ⊎_elim
-      (λ return. record { line = f.line; more = f.more; is = (λ i. cond (k.0 i) ([] ∷ lines bs) (cond (return i) (lines bs) (onto_first b (lines bs)))) ∙ f.is; none = f.none })
-      (λ plain. record {
-        line = b ∷ f.line;
-        more = f.more;
-        is = lines-plain b bs k.0 plain ∙ ap (onto_first b) f.is;
-        none = (λ i. after 58 (cond (k.1 i) [] (b ∷ before 35 f.line))) ∙ (λ i. cond (k.2 i) (Some (before 35 f.line)) (after 58 (before 35 f.line))) ∙ f.none;
-      })
-      (cases_Bool (b == 13 && at_newline bs)))
+    ⊎_elim
+    (λ return. record { line = f.line; more = f.more; is = (λ i. cond (k.0 i) ([] ∷ lines bs) (cond (return i) (lines bs) (onto_first b (lines bs)))) ∙ f.is; none = f.none })
+    (λ plain. record {
+      line = b ∷ f.line;
+      more = f.more;
+      is = lines-plain b bs k.0 plain ∙ ap (onto_first b) f.is;
+      none = (λ i. after 58 (cond (k.1 i) [] (b ∷ before 35 f.line))) ∙ (λ i. cond (k.2 i) (Some (before 35 f.line)) (after 58 (before 35 f.line))) ∙ f.none;
+    })
+    (cases_Bool (b == 13 && at_newline bs)))
     (cases_Bool (ends_key b))
 
 -- a line without a key reads as one after a colon
@@ -149,22 +149,22 @@ has_key : (bs q : List ℕ) → drop (key_end bs) bs ≡ 58 ∷ q → HasKey bs 
 has_key [] q h = cc
 has_key (b ∷ bs) q h = ⊎_elim
     (λ yes. let z = position-yes ends_key b bs yes in let both : b ∷ bs ≡ 58 ∷ q = sym (ap (λ n. drop n (b ∷ bs)) z) ∙ h in
-      let byte : b ≡ 58 = cc in let rest : bs ≡ q = cc in let f = some_line q in
-      let P : ℕ → Type 0 = λ k. (lines (b ∷ bs) ≡ (take k (b ∷ bs) ++ 58 ∷ f.0) ∷ f.1) × (before 35 (take k (b ∷ bs) ++ 58 ∷ f.0) ≡ take k (b ∷ bs) ++ 58 ∷ before 35 f.0) × (before 58 (take k (b ∷ bs) ++ 58 ∷ before 35 f.0) ≡ take k (b ∷ bs)) × (after 58 (take k (b ∷ bs) ++ 58 ∷ before 35 f.0) ≡ Some (before 35 f.0)) in
-      let r = subst P (sym z) (ap lines both ∙ ap (onto_first 58) f.2, refl, refl, refl) in
-      record { line = f.0; more = f.1; is = r.0; rest = f.2; bare = r.1; key = r.2; after_key = r.3 })
+    let byte : b ≡ 58 = cc in let rest : bs ≡ q = cc in let f = some_line q in
+    let P : ℕ → Type 0 = λ k. (lines (b ∷ bs) ≡ (take k (b ∷ bs) ++ 58 ∷ f.0) ∷ f.1) × (before 35 (take k (b ∷ bs) ++ 58 ∷ f.0) ≡ take k (b ∷ bs) ++ 58 ∷ before 35 f.0) × (before 58 (take k (b ∷ bs) ++ 58 ∷ before 35 f.0) ≡ take k (b ∷ bs)) × (after 58 (take k (b ∷ bs) ++ 58 ∷ before 35 f.0) ≡ Some (before 35 f.0)) in
+    let r = subst P (sym z) (ap lines both ∙ ap (onto_first 58) f.2, refl, refl, refl) in
+    record { line = f.0; more = f.1; is = r.0; rest = f.2; bare = r.1; key = r.2; after_key = r.3 })
     (λ no. let s = position-no ends_key b bs no in let k = key_bytes b no in
-      let f = has_key bs q (sym (ap (λ n. drop n (b ∷ bs)) s) ∙ h) in
-      let front = take (key_end bs) bs in
-      let plain : (b == 13 && at_newline bs) ≡ false = and_right (b == 13) (at_newline bs) (no_newline bs (sym (ap (λ n. drop n (b ∷ bs)) s) ∙ h)) in
-      let P : ℕ → Type 0 = λ j. (lines (b ∷ bs) ≡ (take j (b ∷ bs) ++ 58 ∷ f.line) ∷ f.more) × (before 35 (take j (b ∷ bs) ++ 58 ∷ f.line) ≡ take j (b ∷ bs) ++ 58 ∷ before 35 f.line) × (before 58 (take j (b ∷ bs) ++ 58 ∷ before 35 f.line) ≡ take j (b ∷ bs)) × (after 58 (take j (b ∷ bs) ++ 58 ∷ before 35 f.line) ≡ Some (before 35 f.line)) in
-      let r = subst P (sym s) (
-        lines-plain b bs k.0 plain ∙ ap (onto_first b) f.is,
-        (λ i. cond (k.1 i) [] (b ∷ before 35 (front ++ 58 ∷ f.line))) ∙ ap (λ xs. b ∷ xs) f.bare,
-        (λ i. cond (k.2 i) [] (b ∷ before 58 (front ++ 58 ∷ before 35 f.line))) ∙ ap (λ xs. b ∷ xs) f.key,
-        (λ i. cond (k.2 i) (Some (front ++ 58 ∷ before 35 f.line)) (after 58 (front ++ 58 ∷ before 35 f.line))) ∙ f.after_key
-      ) in
-      record { line = f.line; more = f.more; is = r.0; rest = f.rest; bare = r.1; key = r.2; after_key = r.3 })
+    let f = has_key bs q (sym (ap (λ n. drop n (b ∷ bs)) s) ∙ h) in
+    let front = take (key_end bs) bs in
+    let plain : (b == 13 && at_newline bs) ≡ false = and_right (b == 13) (at_newline bs) (no_newline bs (sym (ap (λ n. drop n (b ∷ bs)) s) ∙ h)) in
+    let P : ℕ → Type 0 = λ j. (lines (b ∷ bs) ≡ (take j (b ∷ bs) ++ 58 ∷ f.line) ∷ f.more) × (before 35 (take j (b ∷ bs) ++ 58 ∷ f.line) ≡ take j (b ∷ bs) ++ 58 ∷ before 35 f.line) × (before 58 (take j (b ∷ bs) ++ 58 ∷ before 35 f.line) ≡ take j (b ∷ bs)) × (after 58 (take j (b ∷ bs) ++ 58 ∷ before 35 f.line) ≡ Some (before 35 f.line)) in
+    let r = subst P (sym s) (
+      lines-plain b bs k.0 plain ∙ ap (onto_first b) f.is,
+      (λ i. cond (k.1 i) [] (b ∷ before 35 (front ++ 58 ∷ f.line))) ∙ ap (λ xs. b ∷ xs) f.bare,
+      (λ i. cond (k.2 i) [] (b ∷ before 58 (front ++ 58 ∷ before 35 f.line))) ∙ ap (λ xs. b ∷ xs) f.key,
+      (λ i. cond (k.2 i) (Some (front ++ 58 ∷ before 35 f.line)) (after 58 (front ++ 58 ∷ before 35 f.line))) ∙ f.after_key,
+    ) in
+    record { line = f.line; more = f.more; is = r.0; rest = f.rest; bare = r.1; key = r.2; after_key = r.3 })
     (cases_Bool (ends_key b))
   where
     no_newline : (cs : List ℕ) → drop (key_end cs) cs ≡ 58 ∷ q → at_newline cs ≡ false
@@ -237,10 +237,10 @@ read_line line here at end more bytes rest r within is stop colon newline less =
     record {
       whole = subst (λ xs. IsWhole line xs (here + 1)) (sym front) (whole-join line here (here + 1) (take at bytes) (take (size + 1) rest) r.whole one);
       joined = r.joined ∙ ap (λ xs. let p = blocks here (lines xs) in (tokens_from line (take at bytes) ++ p.0, p.1)) (sym is)
-        ∙ ap (λ (p : List Token × List Block). (tokens_from line (take at bytes) ++ p.0, p.1)) (blocks-no_key here end rest stop colon ∙ after-line here size rest n less)
-        ∙ (λ i. (sym (append_assoc (tokens_from line (take at bytes)) (tokens_from here (take (size + 1) rest)) p.0) i, p.1))
-        ∙ (λ i. ((ap (λ ts. ts ++ p.0) (sym (ap (tokens_from line) front ∙ r.whole (take (size + 1) rest)))) i, p.1))
-        ∙ ap (λ xs. let q = blocks (here + 1) (lines xs) in (tokens_from line (take (at + (size + 1)) bytes) ++ q.0, q.1)) (sym back);
+          ∙ ap (λ (p : List Token × List Block). (tokens_from line (take at bytes) ++ p.0, p.1)) (blocks-no_key here end rest stop colon ∙ after-line here size rest n less)
+          ∙ (λ i. (sym (append_assoc (tokens_from line (take at bytes)) (tokens_from here (take (size + 1) rest)) p.0) i, p.1))
+          ∙ (λ i. ((ap (λ ts. ts ++ p.0) (sym (ap (tokens_from line) front ∙ r.whole (take (size + 1) rest)))) i, p.1))
+          ∙ ap (λ xs. let q = blocks (here + 1) (lines xs) in (tokens_from line (take (at + (size + 1)) bytes) ++ q.0, q.1)) (sym back);
     }
 
 -- the rest of a key line, and what `next_key` finds after it

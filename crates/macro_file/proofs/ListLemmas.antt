@@ -1,6 +1,6 @@
 -- The numbers of a section, one by one.
-use Rattle.std.proofs.Common.{◌≡◌, ◌≢◌, ℕ, suc, ℤ, List, [], ◌∷◌, ◌++◌, Bool, true, false, ◌==◌, cond, length, ◌+◌, ◌<◌, ◌≤◌, Result, Ok, Err, ◌∙◌, refl, sym, ap, subst, arith}
-use Rattle.std.proofs.lemmas.Bool.{eq-eqb, ne_eqb, eqb-true, eqb-false}
+use Rattle.std.proofs.Common.{◌≡◌, ◌≢◌, ℕ, ℤ, List, [], ◌∷◌, ◌++◌, Bool, true, false, ◌==◌, cond, length, ◌+◌, ◌<◌, ◌≤◌, Result, Ok, Err, ◌∙◌, refl, sym, ap, arith}
+use Rattle.std.proofs.lemmas.Bool.{eq-eqb, ne_eqb}
 use Rattle.macro_file.specs.declared.refusal.MacroRefusal.{MacroRefusal}
 use Rattle.macro_file.specs.declared.refusal.MacroRefusal.TheVariants.{CountDiffers}
 use Rattle.macro_file.specs.Steps.{each}

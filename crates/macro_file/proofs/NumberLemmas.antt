@@ -1,5 +1,5 @@
 -- Whole numbers, digit by digit, and as they are held.
-use Rattle.std.proofs.Common.{◌≡◌, ℕ, suc, ℤ, pos, negsuc, neg_ℤ, List, [], ◌∷◌, Bool, true, false, ◌==◌, ◌&&◌, cond, nat_le, min, length, get_or, drop, ◌+◌, ◌-◌, ◌*◌, ◌<◌, ◌≤◌, Option, Some, None, Result, Ok, Err, ◌∙◌, refl, sym, ap, subst, arith}
+use Rattle.std.proofs.Common.{◌≡◌, ℕ, suc, ℤ, pos, negsuc, List, [], ◌∷◌, Bool, true, false, ◌==◌, ◌&&◌, cond, nat_le, min, length, get_or, drop, ◌+◌, ◌-◌, ◌*◌, ◌<◌, ◌≤◌, Option, Some, None, Ok, Err, ◌∙◌, refl, sym, ap, subst, arith}
 use Rattle.std.specs.Prelude.{int_lt, nat_lt, nat_abs, option_map}
 use Rattle.std.proofs.lemmas.Bool.{and_right, ltb-false, false≢true}
 use Rattle.macro_file.specs.declared.refusal.MacroRefusal.{MacroRefusal}

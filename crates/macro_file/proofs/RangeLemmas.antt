@@ -1,7 +1,7 @@
 -- The numbers that are read lie in their ranges.
-use Rattle.std.proofs.Common.{◌≡◌, ℕ, zero, suc, ℤ, pos, negsuc, neg_ℤ, nat_abs, List, [], ◌∷◌, Bool, true, false, ◌==◌, nat_le, cond, length, get_or, ◌+◌, ◌/◌, ◌<◌, ◌≤◌, ◌^◌, Option, Some, None, Result, Ok, Err, ◌∙◌, ◌⊎◌, inl, inr, ⊎_elim, refl, sym, ap, subst, arith, All}
-use Rattle.std.specs.Prelude.{int_lt, ◌≤ℤ◌, find}
-use Rattle.std.proofs.lemmas.Bool.{cases_Bool, eqb-true, ltb-false, leb-true}
+use Rattle.std.proofs.Common.{◌≡◌, ℕ, zero, suc, ℤ, pos, negsuc, neg_ℤ, nat_abs, List, [], ◌∷◌, Bool, true, false, ◌==◌, nat_le, cond, length, get_or, ◌≤◌, ◌^◌, Option, Some, None, Result, Ok, Err, ◌∙◌, ◌⊎◌, inl, inr, ⊎_elim, refl, sym, ap, subst, arith, All}
+use Rattle.std.specs.Prelude.{int_lt, find}
+use Rattle.std.proofs.lemmas.Bool.{eqb-true, leb-true}
 use Rattle.std.proofs.lemmas.Int.{ints}
 use Rattle.std.proofs.lemmas.List.Elements.{All-nil, All-cons}
 use Rattle.mesh_io.specs.Decimals.{Decimal, units, with_sign, greatest_units, measured, decimal_of, fine_units}

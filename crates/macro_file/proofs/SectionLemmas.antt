@@ -1,9 +1,8 @@
 -- One section after another.
-use Rattle.std.proofs.Common.{◌≡◌, ℕ, List, [], ◌∷◌, ◌++◌, Bool, true, false, ◌||◌, map, cond, length, ◌+◌, ◌≤◌, ◌<◌, Option, Some, None, IfSome, Result, Ok, Err, ◌∙◌, refl, sym, ap, subst, arith}
+use Rattle.std.proofs.Common.{◌≡◌, ℕ, List, [], ◌∷◌, ◌++◌, true, false, ◌||◌, map, cond, length, ◌+◌, ◌≤◌, ◌<◌, Option, Some, None, IfSome, Ok, Err, ◌∙◌, refl, sym, ap, subst, arith}
 use Rattle.std.specs.List.{list_any}
 use Rattle.std.proofs.lemmas.List.{map-append}
 use Rattle.macro_file.specs.declared.keyword.Keyword.{Keyword}
-use Rattle.macro_file.specs.declared.refusal.MacroRefusal.{MacroRefusal}
 use Rattle.macro_file.specs.declared.refusal.MacroRefusal.TheVariants.{BadKey, KeyTwice}
 use Rattle.macro_file.specs.declared.lines.KeyLine.{KeyLine}
 use Rattle.macro_file.specs.declared.section.Section.{Section as Place}
@@ -11,7 +10,7 @@ use Rattle.macro_file.specs.Steps.{then}
 use Rattle.macro_file.specs.Lines.{lines}
 use Rattle.macro_file.specs.Keywords.{same, keyword_of}
 use Rattle.macro_file.specs.Sections.{Token, Block, Section, blocks, stands, add_block, add_blocks, from_first_key, sections}
-use Rattle.macro_file.specs.Walks.{tokens_from, blocks_after, blocks_of}
+use Rattle.macro_file.specs.Walks.{blocks_after, blocks_of}
 use Rattle.macro_file.specs.Places.{section_of}
 
 -- how many bytes are left

@@ -1,11 +1,10 @@
 -- The words of a file, byte by byte from the front.
-use Rattle.std.proofs.Common.{◌≡◌, ◌≢◌, ℕ, zero, suc, List, [], ◌∷◌, ◌++◌, map, Bool, true, false, ◌==◌, ◌&&◌, ◌||◌, not, cond, length, take, drop, get_or, ◌+◌, ◌-◌, ◌<◌, ◌≤◌, filter, ◌∙◌, ◌⊎◌, inl, inr, ⊎_elim, refl, sym, ap, subst, arith}
+use Rattle.std.proofs.Common.{◌≡◌, ◌≢◌, ℕ, zero, suc, List, [], ◌∷◌, ◌++◌, map, Bool, true, false, ◌==◌, ◌&&◌, cond, length, take, drop, get_or, ◌+◌, ◌-◌, ◌<◌, ◌≤◌, filter, ◌∙◌, ◌⊎◌, inl, inr, ⊎_elim, refl, sym, ap, subst, arith}
 use Rattle.std.specs.List.{position_or_len, slice_split, onto_first}
-use Rattle.std.proofs.lemmas.Bool.{cases_Bool, eqb-true, eqb-false, ne_eqb, or_parts, or_cases, and_parts, false≢true}
+use Rattle.std.proofs.lemmas.Bool.{cases_Bool, eqb-true, or_parts, or_cases, and_parts, false≢true}
 use Rattle.std.proofs.lemmas.List.Splits.{slice_split-cons_yes, slice_split-cons_no}
 use Rattle.std.proofs.lemmas.List.{take_rest, length-drop}
 use Rattle.macro_file.specs.Lines.{lines, at_newline, before, is_blank, is_word, words}
-use Rattle.macro_file.specs.Sections.{tokens}
 use Rattle.macro_file.specs.Walks.{tokens_of_lines, tokens_from, ends_word}
 use Rattle.macro_file.proofs.Cuts.{position-yes, position-no}
 use Rattle.macro_file.proofs.WordLemmas.{words-blank}
@@ -83,14 +82,14 @@ empty_part : (bs l : List ℕ) (ls : List (List ℕ)) → ends_word bs ≡ true 
 empty_part [] l ls e h = let same : [] ≡ l = cc in ([], ap (λ m. slice_split is_blank (before 35 m)) (sym same))
 empty_part (b ∷ bs) l ls e h = ⊎_elim
     (λ blank. let f = some_line bs in let same : b ∷ f.0 ≡ l = let both : (b ∷ f.0) ∷ f.1 ≡ l ∷ ls = sym (lines-blank b bs blank ∙ ap (onto_first b) f.2) ∙ h in cc in
-      (slice_split is_blank (before 35 f.0), ap (λ m. slice_split is_blank (before 35 m)) (sym same) ∙ ap (slice_split is_blank) (before-blank b f.0 blank) ∙ slice_split-cons_yes is_blank b (before 35 f.0) blank))
+    (slice_split is_blank (before 35 f.0), ap (λ m. slice_split is_blank (before 35 m)) (sym same) ∙ ap (slice_split is_blank) (before-blank b f.0 blank) ∙ slice_split-cons_yes is_blank b (before 35 f.0) blank))
     (λ f. ⊎_elim
-      (λ newline. let same : [] ≡ l = let both : [] ∷ lines bs ≡ l ∷ ls = (let P : ℕ → Type 0 = λ k. [] ∷ lines bs ≡ lines (k ∷ bs) in subst P (sym (eqb-true b 10 newline)) refl) ∙ h in cc in ([], ap (λ m. slice_split is_blank (before 35 m)) (sym same)))
-      (λ g. ⊎_elim
-        (λ comment. let r = some_line bs in let same : 35 ∷ r.0 ≡ l = let both : (35 ∷ r.0) ∷ r.1 ≡ l ∷ ls = sym (ap (onto_first 35) r.2) ∙ (let P : ℕ → Type 0 = λ k. onto_first 35 (lines bs) ≡ lines (k ∷ bs) in subst P (sym (eqb-true b 35 comment)) refl) ∙ h in cc in ([], ap (λ m. slice_split is_blank (before 35 m)) (sym same)))
-        (λ return. let r = and_parts (b == 13) (at_newline bs) return in ends_line bs r.1 (sym (let P : ℕ → Type 0 = λ k. lines (k ∷ bs) ≡ lines bs in subst P (sym (eqb-true b 13 r.0)) (ap (λ t. cond t (lines bs) (onto_first 13 (lines bs))) r.1)) ∙ h))
-        (or_cases (b == 35) _ g))
-      (or_cases (b == 10) _ f))
+    (λ newline. let same : [] ≡ l = let both : [] ∷ lines bs ≡ l ∷ ls = (let P : ℕ → Type 0 = λ k. [] ∷ lines bs ≡ lines (k ∷ bs) in subst P (sym (eqb-true b 10 newline)) refl) ∙ h in cc in ([], ap (λ m. slice_split is_blank (before 35 m)) (sym same)))
+    (λ g. ⊎_elim
+    (λ comment. let r = some_line bs in let same : 35 ∷ r.0 ≡ l = let both : (35 ∷ r.0) ∷ r.1 ≡ l ∷ ls = sym (ap (onto_first 35) r.2) ∙ (let P : ℕ → Type 0 = λ k. onto_first 35 (lines bs) ≡ lines (k ∷ bs) in subst P (sym (eqb-true b 35 comment)) refl) ∙ h in cc in ([], ap (λ m. slice_split is_blank (before 35 m)) (sym same)))
+    (λ return. let r = and_parts (b == 13) (at_newline bs) return in ends_line bs r.1 (sym (let P : ℕ → Type 0 = λ k. lines (k ∷ bs) ≡ lines bs in subst P (sym (eqb-true b 13 r.0)) (ap (λ t. cond t (lines bs) (onto_first 13 (lines bs))) r.1)) ∙ h))
+    (or_cases (b == 35) _ g))
+    (or_cases (b == 10) _ f))
     (or_cases (is_blank b) _ e)
   where
     ends_line : (cs : List ℕ) → at_newline cs ≡ true → lines cs ≡ l ∷ ls → (parts : List (List ℕ)) × (slice_split is_blank (before 35 l) ≡ [] ∷ parts)

@@ -1,5 +1,5 @@
 -- Whole numbers of any length, as the reader holds them.
-use Rattle.std.specs.Prelude.{ℕ, ℤ, pos, negsuc, min, ◌-◌, ◌^◌}
+use Rattle.std.specs.Prelude.{ℕ, ℤ, pos, negsuc, min}
 
 -- a size of at most 10 ^ 18
 abbrev pub capped_size : ℕ → ℕ

@@ -4,9 +4,9 @@ pub mod Lines
 pub mod Keywords
 pub mod Sections
 pub mod Walks
-pub mod Places
 pub mod Numbers
 pub mod Capped
 pub mod Meaning
+pub mod Places
 pub mod Text
 pub mod Examples

@@ -120,6 +120,10 @@ made n ls = record {
   neighbours_given = is_some (listed Neighbours ls);
 }
 
--- what the bytes of a macro file mean
+-- what the sections of a file mean: steps 2 to 4
+abbrev pub sections_mean : List Section → Result Macro MacroRefusal
+sections_mean all = then (complete all) (λ ss. then (counts ss) (λ n. then (lists n ss) (λ ls. Ok (made n ls))))
+
+-- what the bytes of a macro file mean: step 1, and the others
 abbrev pub meaning : List ℕ → Result Macro MacroRefusal
-meaning bytes = then (sections bytes) (λ all. then (complete all) (λ ss. then (counts ss) (λ n. then (lists n ss) (λ ls. Ok (made n ls)))))
+meaning bytes = then (sections bytes) sections_mean

@@ -1,5 +1,5 @@
 -- The number that a word gives to the section of a key, or why it gives none.
-use Rattle.std.specs.Prelude.{ℕ, ℤ, pos, negsuc, neg_ℤ, List, length, cond, ◌==◌, ◌&&◌, nat_le, ◌^◌, int_lt, Option, Some, None, Result, Ok, Err}
+use Rattle.std.specs.Prelude.{ℕ, ℤ, pos, neg_ℤ, List, length, cond, ◌==◌, ◌&&◌, nat_le, ◌^◌, int_lt, Option, Some, None, Result, Ok, Err}
 use Rattle.mesh_io.specs.Decimals.{is_minus, unsigned, after_digits, number, with_sign, fine_units}
 use Rattle.mesh_io.specs.declared.decimal.DecimalRefusal.{DecimalRefusal}
 use Rattle.mesh_io.specs.declared.decimal.DecimalRefusal.TheVariants.{NotANumber as not_a_number, CoordRange as out_of_range}

@@ -4,14 +4,13 @@ ghost use Rattle.macro_file.specs.Keywords.{same};
 ghost use Rattle.macro_file.specs.Meaning.{keyword_for as keyword_for_key, required, single as single_by, counts as counts_by, wanted as wanted_by};
 ghost use Rattle.macro_file.specs.Places.{section_of};
 
-use std::alloc::Global;
-
 use crate::keyword::Keyword;
 use crate::lists::read_numbers;
 use crate::lookup::number_at;
 use crate::refusal::{Key, MacroRefusal};
 use crate::section::Section;
 use crate::sections::stands;
+use std::alloc::Global;
 
 /// How many vertices and elements a file has.
 #[derive(Clone, Copy)]
@@ -56,11 +55,7 @@ fn section_with<'a, 'b>(sections: &'b [Section<'a>], keyword: Keyword) -> Option
 }
 
 // The one number of a key, or 0 where the key is not there.
-fn single(
-    alloc: Global,
-    sections: &[Section<'_>],
-    keyword: Keyword,
-) -> Result<i64, MacroRefusal>
+fn single(alloc: Global, sections: &[Section<'_>], keyword: Keyword) -> Result<i64, MacroRefusal>
     ensures ok { IfOk result (λ z. single_by keyword (map section_of sections.now) ≡ Ok z) }
     ensures err { IfErr result (λ r. r ≢ MacroRefusal.Memory → single_by keyword (map section_of sections.now) ≡ Err r) }
 {

@@ -1,15 +1,16 @@
-ghost use Rattle.std.specs.Prelude.{◌≡◌, ◌≢◌, ◌+◌, ◌<◌, ◌≤◌, ◌^◌, ◌==◌, cond, length, IfOk, IfErr, Ok, Err};
+ghost use Rattle.std.specs.Prelude.{◌≡◌, ◌≢◌, ◌+◌, ◌<◌, ◌≤◌, ◌^◌, ◌==◌, cond, length, map, IfOk, IfErr, Ok, Err};
 ghost use Rattle.macro_file.specs.Walks.{tokens_from};
-ghost use Rattle.macro_file.specs.Meaning.{numbers as numbers_by};
-ghost use Rattle.macro_file.specs.Places.{section_of};
+ghost use Rattle.macro_file.specs.Meaning.{numbers as numbers_by, lists};
+ghost use Rattle.macro_file.specs.Places.{section_of, listed_of};
 
-use std::alloc::Global;
-
+use crate::counts::{Counts, wanted};
+use crate::keyword::Keyword;
 use crate::memory::push;
 use crate::numbers::value;
 use crate::refusal::MacroRefusal;
 use crate::section::Section;
 use crate::tokens::next_token;
+use std::alloc::Global;
 
 // How many words the bytes have, which begin in this line.
 fn count_tokens(bytes: &[u8], line: u32) -> u32
@@ -83,4 +84,30 @@ fn count_or(line: u32, wanted: u32, found: u32, refusal: MacroRefusal) -> MacroR
             found,
         }
     }
+}
+
+/// The numbers of a key.
+#[derive(Drop)]
+pub struct NumberList {
+    pub keyword: Keyword,
+    pub numbers: Vec<i64>,
+}
+
+/// The numbers of each section.
+pub fn read_lists(
+    alloc: Global,
+    sections: &[Section<'_>],
+    counts: Counts,
+) -> Result<Vec<NumberList>, MacroRefusal>
+    requires { (counts.vertices ≤ 65535) × (counts.elements ≤ 65535) }
+    ensures ok { IfOk result (λ v. lists counts (map section_of sections.now) ≡ Ok (map listed_of v.items)) }
+    ensures err { IfErr result (λ r. r ≢ MacroRefusal.Memory → lists counts (map section_of sections.now) ≡ Err r) }
+{
+    let mut lists = Vec::new(alloc);
+    for section in sections {
+        let keyword = section.keyword;
+        let numbers = read_numbers(alloc, section, wanted(counts, keyword))?;
+        push(&mut lists, NumberList { keyword, numbers })?;
+    }
+    Ok(lists)
 }

@@ -6,10 +6,9 @@ ghost use Rattle.mesh_io.specs.Decimals.{fine_units};
 ghost use Rattle.macro_file.specs.Numbers.{whole, bounded as bounded_by, coordinate as coordinate_of, value as value_by};
 ghost use Rattle.macro_file.specs.Capped.{capped, capped_size};
 
-use mesh_io::{DecimalRefusal, read_decimal};
-
 use crate::keyword::Keyword;
 use crate::refusal::MacroRefusal;
+use mesh_io::{DecimalRefusal, read_decimal};
 
 // Sizes are held up to this one; every bound of a number is below it.
 const GREATEST_SIZE: u64 = 1_000_000_000_000_000_000;

@@ -4,14 +4,13 @@ ghost use Rattle.macro_file.specs.Keywords.{same};
 ghost use Rattle.macro_file.specs.Sections.{sections};
 ghost use Rattle.macro_file.specs.Places.{section_of};
 
-use std::alloc::Global;
-
 use crate::keyword::{Keyword, keyword_of};
 use crate::lines::{next_key, section_bytes};
 use crate::memory::push;
 use crate::refusal::MacroRefusal;
 use crate::section::Section;
 use crate::tokens::next_token;
+use std::alloc::Global;
 
 /// Whether the key stands among the sections.
 pub fn stands(sections: &[Section], keyword: Keyword) -> bool
@@ -28,9 +27,7 @@ pub fn sections_of(alloc: Global, bytes: &[u8]) -> Result<Vec<Section<'_>>, Macr
 {
     let (head, mut next) = next_key(bytes, 1);
     if let Some(token) = next_token(head, 1) {
-        return Err(MacroRefusal::BadKey {
-            line: token.line,
-        });
+        return Err(MacroRefusal::BadKey { line: token.line });
     }
     let mut sections = Vec::new(alloc);
     while let Some(key) = next {
@@ -42,7 +39,14 @@ pub fn sections_of(alloc: Global, bytes: &[u8]) -> Result<Vec<Section<'_>>, Macr
             return Err(MacroRefusal::KeyTwice { line });
         }
         let (body, following) = section_bytes(key.after, line);
-        push(&mut sections, Section { keyword, line, body })?;
+        push(
+            &mut sections,
+            Section {
+                keyword,
+                line,
+                body,
+            },
+        )?;
         next = following;
     }
     Ok(sections)

@@ -1,4 +1,4 @@
-use Rattle.std.proofs.Common.{◌≡◌, ◌-◌, ◌+◌, ◌<◌, ◌≤◌, ◌∙◌, sym, ap, arith, length, take, drop, true, false}
+use Rattle.std.proofs.Common.{◌≡◌, ◌-◌, ◌+◌, ◌<◌, ◌∙◌, sym, ap, arith, length, take, drop}
 use Rattle.std.proofs.lemmas.List.{take_rest, length-drop}
 use Rattle.macro_file.specs.Walks.{at_colon}
 use Rattle.macro_file.proofs.LineLemmas.{found, none_found, read_line, newline_at}
@@ -27,7 +27,7 @@ loop-rest-preserved c =
     let less : end + c.to_newline.result < length rest = omega (arith, c.to_newline.ensures.within, part, c.if-newline-rest.false, c.key_length-end.ensures.within) in
     record {
       read = read_line c.args.line c.loop-rest.here at end c.to_newline.result bytes rest c.loop-rest.invariant.read c.loop-rest.invariant.within (take_rest bytes at) c.key_length-end.ensures.value
-        (ap at_colon (sym (take_rest rest end)) ∙ sym c.at_colon.ensures.colon ∙ c.if-at_colon.false) (c.to_newline.ensures.value ∙ ap newline_at (take_rest rest end)) less;
+          (ap at_colon (sym (take_rest rest end)) ∙ sym c.at_colon.ensures.colon ∙ c.if-at_colon.false) (c.to_newline.ensures.value ∙ ap newline_at (take_rest rest end)) less;
       within = omega (arith, less, size, c.loop-rest.invariant.within);
       counted = omega (arith, c.loop-rest.invariant.counted);
     }

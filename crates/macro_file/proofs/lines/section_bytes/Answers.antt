@@ -1,4 +1,4 @@
-use Rattle.std.proofs.Common.{◌+◌, ◌<◌, ◌∙◌, sym, ap, arith, length}
+use Rattle.std.proofs.Common.{◌+◌, ◌<◌, arith, length}
 use Rattle.std.proofs.lemmas.List.{take_rest}
 use Rattle.macro_file.proofs.LineLemmas.{after-last, section_found}
 use Rattle.macro_file.proofs.lines.section_bytes.Goals as goal

@@ -1,4 +1,4 @@
-use Rattle.std.proofs.Common.{◌≡◌, ◌+◌, ◌≤◌, ◌<◌, length, map, IfSome}
+use Rattle.std.proofs.Common.{◌≡◌, ◌+◌, ◌≤◌, length, map, IfSome}
 use Rattle.macro_file.specs.Sections.{sections, add_blocks}
 use Rattle.macro_file.specs.Walks.{blocks_of}
 use Rattle.macro_file.specs.Places.{section_of}

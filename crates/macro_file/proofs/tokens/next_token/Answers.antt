@@ -1,4 +1,4 @@
-use Rattle.std.proofs.Common.{◌∙◌, sym, arith, length}
+use Rattle.std.proofs.Common.{◌∙◌, sym, arith}
 use Rattle.macro_file.proofs.TokenLemmas.{between_tail, comment_tail, part-short, tail}
 use Rattle.macro_file.proofs.tokens.next_token.Goals as goal
 
