@@ -1,0 +1,6 @@
+mod OneKey
+mod Places
+mod MacroPlaces
+mod CornerKeys
+mod Adding
+mod Leaves
