@@ -1,5 +1,6 @@
 -- The corners of a leaf as keys.
-use Rattle.std.proofs.Common.{◌≡◌, ℕ, ◌<◌, Bool, true, false, cond, sym, ap, subst, ◌∙◌, List, [], ◌∷◌, length, arith}
+use Rattle.std.proofs.Common.{◌≡◌, ℕ, ◌<◌, Bool, true, false, cond, sym, ap, subst, ◌∙◌, List, [], ◌∷◌, length, get_or, arith}
+use Rattle.std.proofs.lemmas.List.{get_or_default}
 use Rattle.mesh_names.specs.Names.{Name}
 use Rattle.mesh_names.specs.Triangles.{Vertex, Corner, Mid, Triangle, size, before, middle, child_triangle, below, triangle, top_of}
 use Rattle.mesh_names.specs.Patches.{vertex_of, IsKey}
@@ -51,7 +52,7 @@ pub record AreCornerKeys (mesh : Mesh) (n : Name) (first second third : VertexKe
   pub second_is : vertex_of (shape_of mesh) second ≡ (triangle (shape_of mesh) n).1
   pub third_is : vertex_of (shape_of mesh) third ≡ (triangle (shape_of mesh) n).2
 
-pub corner_keys : (mesh : Mesh) → IsChecked mesh → (n : Name) → n.0 < size (shape_of mesh) → (keys : List VertexKey) → AreCorners mesh n keys → (first second third : VertexKey) → first ≡ key_at keys 0 → second ≡ key_at keys 1 → third ≡ key_at keys 2 → AreCornerKeys mesh n first second third
+corner_keys : (mesh : Mesh) → IsChecked mesh → (n : Name) → n.0 < size (shape_of mesh) → (keys : List VertexKey) → AreCorners mesh n keys → (first second third : VertexKey) → first ≡ key_at keys 0 → second ≡ key_at keys 1 → third ≡ key_at keys 2 → AreCornerKeys mesh n first second third
 corner_keys mesh checked n low keys corners first second third e0 e1 e2 =
     let low_corners = leaf_below mesh checked n low in
     let is0 : vertex_of (shape_of mesh) (key_at keys 0) ≡ (triangle (shape_of mesh) n).0 = ap (λ (t : Triangle). t.0) corners.stand in
@@ -66,3 +67,7 @@ corner_keys mesh checked n low keys corners first second third e0 e1 e2 =
       second_is = ap (vertex_of (shape_of mesh)) e1 ∙ is1;
       third_is = ap (vertex_of (shape_of mesh)) e2 ∙ is2;
     }
+
+pub leaf_keys : (mesh : Mesh) → IsChecked mesh → (n : Name) → n.0 < size (shape_of mesh) → (keys : List VertexKey) → AreCorners mesh n keys → length keys ≡ 3 → (d0 d1 d2 : VertexKey) → AreCornerKeys mesh n (get_or keys 0 d0) (get_or keys 1 d1) (get_or keys 2 d2)
+leaf_keys mesh checked n low keys corners three d0 d1 d2 =
+    corner_keys mesh checked n low keys corners _ _ _ (get_or_default keys 0 d0 (Macro 0) (omega arith)) (get_or_default keys 1 d1 (Macro 0) (omega arith)) (get_or_default keys 2 d2 (Macro 0) (omega arith))

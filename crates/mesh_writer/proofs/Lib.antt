@@ -4,3 +4,5 @@ mod MacroPlaces
 mod CornerKeys
 mod Adding
 mod Leaves
+mod Lines
+mod Numbered

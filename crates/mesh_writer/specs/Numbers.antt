@@ -3,11 +3,12 @@ use Rattle.std.specs.Prelude.{◌≡◌, ◌<◌, ◌≤◌, ℕ, zero, suc, ◌
 use Rattle.std.specs.Option.{option_map}
 use Rattle.std.specs.BTreeMap.{get, Updates}
 use Rattle.mesh_names.specs.Names.{Name, name_cmp}
-use Rattle.mesh_names.specs.Triangles.{Shape, Vertex, size, level, same}
+use Rattle.mesh_names.specs.Triangles.{Shape, Vertex, size, level, same, triangle}
 use Rattle.mesh_names.specs.Patches.{vertex_of, owns}
 use Rattle.mesh_names.specs.declared.patch.VertexKey.{VertexKey}
 use Rattle.mesh_names.specs.declared.patch.VertexKey.TheVariants.{Macro, Patch}
 use Rattle.compat_check.specs.Meshes.{Mesh, shape_of, across_in}
+use Rattle.mesh_writer.specs.Numbering.{is_among}
 use Rattle.mesh_writer.specs.declared.numbering.Numbers.{Numbers}
 
 -- a name of the mesh, of a level that an element can have
@@ -42,6 +43,12 @@ told numbers (Patch n) = get name_cmp numbers.by_owner n
 -- each key of the mesh has the number of its vertex, and no other key has one
 pub record AreNumbers (mesh : Mesh) (numbers : Numbers) : Type 0 where
   pub tell : (key : VertexKey) → IsKeyOf mesh key → told numbers key ≡ place_of (vertex_of (shape_of mesh) key) (written_in (shape_of mesh) numbers)
+
+-- the corners of the leaf are among the written vertices
+pub record IsWritten (mesh : Shape) (written : List Vertex) (n : Name) : Type 0 where
+  pub first : is_among (triangle mesh n).0 written ≡ true
+  pub second : is_among (triangle mesh n).1 written ≡ true
+  pub third : is_among (triangle mesh n).2 written ≡ true
 
 -- the owner has the number that it had, or where it had none the next one
 abbrev pub AddsOwner : Name → Option ℕ → Numbers → Numbers → Type 0

@@ -5,14 +5,13 @@ ghost use Rattle.compat_check.specs.Meshes.{shape_of};
 ghost use Rattle.mesh_writer.specs.Numbering.{corners_of, macro_vertices, vertices, with_new};
 ghost use Rattle.mesh_writer.specs.Numbers.{Adds, AreNumbers, IsInMesh, macro_keys, told, written_in};
 
+use crate::refusal::WriterRefusal;
 use compat_check::mesh::MacroMesh;
 use mesh_names::laws;
 use mesh_names::name::ElemName;
 use mesh_names::patch::VertexKey;
 use std::alloc::{AllocError, Global};
 use std::collections::BTreeMap;
-
-use crate::refusal::WriterRefusal;
 
 /// The written vertices, and their numbers: a macro vertex keeps its own, and the midpoint of a
 /// patch's refinement edge is looked up by the patch's owner.
