@@ -19,6 +19,10 @@ abbrev pub head_lines : ℕ → ℕ → List Line
 head_lines vertex_count leaf_count =
     codes "DIM: 2" ∷ codes "DIM_OF_WORLD: 2" ∷ [] ∷ (codes "number of vertices: " ++ decimal vertex_count) ∷ (codes "number of elements: " ++ decimal leaf_count) ∷ [] ∷ []
 
+-- the lines above the leaves
+abbrev pub heading : ℕ → ℕ → List Line
+heading vertex_count leaf_count = head_lines vertex_count leaf_count ++ codes "element vertices:" ∷ []
+
 -- three numbers, parted by one space
 abbrev pub triple_line : ℕ → ℕ → ℕ → Line
 triple_line a b c = decimal a ++ codes " " ++ decimal b ++ codes " " ++ decimal c
@@ -29,7 +33,7 @@ leaf_line mesh written n = let t = triangle mesh n in triple_line (number_of t.0
 
 -- the lines of the mesh over these leaves, with these written vertices
 abbrev pub mesh_lines : Shape → List Vertex → List Name → List Line
-mesh_lines mesh written leaves = head_lines (length written) (length leaves) ++ codes "element vertices:" ∷ map (leaf_line mesh written) leaves
+mesh_lines mesh written leaves = heading (length written) (length leaves) ++ map (leaf_line mesh written) leaves
 
 -- the text of the mesh over these leaves, of which the macro file has this many vertices
 abbrev pub mesh_text : Shape → ℕ → List Name → List ℕ
