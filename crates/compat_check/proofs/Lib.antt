@@ -9,3 +9,5 @@ mod Sorted3
 mod TwinKeys
 mod Lists
 mod Pairings
+mod Numbers
+mod Valid

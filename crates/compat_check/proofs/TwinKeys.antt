@@ -71,3 +71,8 @@ module _ (triples : List Triple) (distinct : IsFirst (length triples) (λ r. IsR
     each = ties.each ∙ known.each;
     last = λ s hs. let inside : s < length keys = omega (arith, known.each) in twin_before s inside (slice_index_or earlier s None) (ties.last s inside);
   }
+
+pub twin_swap : (t u : Triple) → (IsRepeated t → ⊥) → (IsRepeated u → ⊥) → IsTwin t u → IsTwin u t
+twin_swap t u dt du h =
+    let e = three_tie (corner_key t) (corner_key u) (key_from_twin t u dt du h) in
+    twin_from_key u t (tie_three (corner_key u) (corner_key t) (sym e.0, sym e.1, sym e.2))
