@@ -6,7 +6,7 @@ use Rattle.std.proofs.lemmas.List.{append-nil, take-append-drop, drop-drop, take
 use Rattle.macro_file.specs.Lines.{lines, at_newline, before, after}
 use Rattle.macro_file.specs.Sections.{Token, Block, tokens, add_line, blocks}
 use Rattle.macro_file.specs.Walks.{tokens_of_lines, tokens_from, ends_key, at_colon, blocks_after}
-use Rattle.macro_file.proofs.Cuts.{position-yes, position-no}
+use Rattle.macro_file.proofs.Cuts.{position-yes, position-no, take-add}
 use Rattle.macro_file.proofs.TokenLemmas.{some_line, lines-plain}
 
 abbrev pub newline_at : List ℕ → ℕ
@@ -192,11 +192,6 @@ newline_from (b ∷ bs) = ⊎_elim
     (λ yes. sym (ap (λ k. k + newline_at (drop k (b ∷ bs))) (position-yes ends_key b bs yes) ∙ (let z : 0 + newline_at (b ∷ bs) ≡ newline_at (b ∷ bs) = omega arith in z)))
     (λ no. position-no (λ b. b == 10) b bs (key_bytes b no).0 ∙ ap suc (newline_from bs) ∙ sym (ap (λ k. k + newline_at (drop k (b ∷ bs))) (position-no ends_key b bs no) ∙ (let z : suc (key_end bs) + newline_at (drop (key_end bs) bs) ≡ suc (key_end bs + newline_at (drop (key_end bs) bs)) = omega arith in z)))
     (cases_Bool (ends_key b))
-
-take-add : (m n : ℕ) (xs : List ℕ) → take (m + n) xs ≡ take m xs ++ take n (drop m xs)
-take-add zero n xs = ap (λ k. take k xs) (let z : 0 + n ≡ n = omega arith in z)
-take-add (suc m) n [] = ap (λ k. take k []) (let z : suc m + n ≡ suc (m + n) = omega arith in z) ∙ sym (take_all n [] (omega arith))
-take-add (suc m) n (x ∷ xs) = ap (λ k. take k (x ∷ xs)) (let z : suc m + n ≡ suc (m + n) = omega arith in z) ∙ ap (λ ys. x ∷ ys) (take-add m n xs)
 
 -- What `next_key` has read: whole lines without a key, up to `at`.
 pub record Read (line here at : ℕ) (bytes : List ℕ) : Type 0 where

@@ -1,13 +1,13 @@
 -- The words of a file, byte by byte from the front.
-use Rattle.std.proofs.Common.{◌≡◌, ◌≢◌, ℕ, zero, suc, List, [], ◌∷◌, ◌++◌, map, Bool, true, false, ◌==◌, ◌&&◌, cond, length, take, drop, get_or, ◌+◌, ◌-◌, ◌<◌, ◌≤◌, filter, ◌∙◌, ◌⊎◌, inl, inr, ⊎_elim, refl, sym, ap, subst, arith}
+use Rattle.std.proofs.Common.{◌≡◌, ◌≢◌, ℕ, zero, suc, List, [], ◌∷◌, ◌++◌, map, Bool, true, false, not, ◌==◌, ◌&&◌, cond, length, take, drop, get_or, ◌+◌, ◌-◌, ◌<◌, ◌≤◌, filter, ◌∙◌, ◌⊎◌, inl, inr, ⊎_elim, refl, sym, ap, subst, arith}
 use Rattle.std.specs.List.{position_or_len, slice_split, onto_first}
-use Rattle.std.proofs.lemmas.Bool.{cases_Bool, eqb-true, or_parts, or_cases, and_parts, false≢true}
+use Rattle.std.proofs.lemmas.Bool.{cases_Bool, not_from_true, not_from_false, eqb-true, or_parts, or_cases, and_parts, false≢true}
 use Rattle.std.proofs.lemmas.List.Splits.{slice_split-cons_yes, slice_split-cons_no}
 use Rattle.std.proofs.lemmas.List.{take_rest, length-drop}
 use Rattle.macro_file.specs.Lines.{lines, at_newline, before, is_blank, is_word, words}
 use Rattle.macro_file.specs.Walks.{tokens_of_lines, tokens_from, ends_word}
 use Rattle.macro_file.proofs.Cuts.{position-yes, position-no}
-use Rattle.macro_file.proofs.WordLemmas.{words-blank}
+use Rattle.macro_file.proofs.WordLemmas.{words-blank, blank_count}
 
 -- there is a first line
 pub some_line : (bs : List ℕ) → (l : List ℕ) × (ls : List (List ℕ)) × (lines bs ≡ l ∷ ls)
@@ -165,3 +165,11 @@ comment_tail n k (b ∷ bs) some is at = (let P : ℕ → Type 0 = λ m. tokens_
 
 pub part-short : (k : ℕ) (xs : List ℕ) → length (take (length xs - k) (drop k xs)) ≤ length xs
 part-short k xs = omega (arith, length-drop k xs, ap length (take_rest xs k))
+
+-- blanks at the front
+pub tokens-blanks : (n : ℕ) (bs : List ℕ) → tokens_from n bs ≡ tokens_from n (drop (blank_count bs) bs)
+tokens-blanks n [] = refl
+tokens-blanks n (b ∷ bs) = ⊎_elim
+    (λ e. tokens-blank n b bs e ∙ tokens-blanks n bs ∙ sym (ap (λ k. tokens_from n (drop k (b ∷ bs))) (position-no (λ b. not (is_blank b)) b bs (not_from_true _ e))))
+    (λ e. sym (ap (λ k. tokens_from n (drop k (b ∷ bs))) (position-yes (λ b. not (is_blank b)) b bs (not_from_false _ e))))
+    (cases_Bool (is_blank b))

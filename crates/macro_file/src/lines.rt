@@ -1,5 +1,5 @@
-ghost use Rattle.std.specs.Prelude.{◌≡◌, ℕ, ◌+◌, ◌-◌, ◌<◌, ◌≤◌, ◌^◌, IfSome, length, take};
-ghost use Rattle.std.specs.List.{position_or_len};
+ghost use Rattle.std.specs.Prelude.{◌≡◌, ℕ, ◌+◌, ◌-◌, ◌<◌, ◌≤◌, ◌^◌, IfSome, length, take, false};
+ghost use Rattle.std.specs.List.{list_any, position_or_len};
 ghost use Rattle.macro_file.specs.Lines.{lines};
 ghost use Rattle.macro_file.specs.Sections.{blocks};
 ghost use Rattle.macro_file.specs.Walks.{tokens_from, blocks_after, blocks_of};
@@ -22,17 +22,39 @@ fn ends_key(byte: u8) -> bool
     byte == b'\n' || byte == b'#' || byte == b':'
 }
 
+// Whether one of the bytes ends a key. With no early end, the compiler tests many bytes at once.
+fn has_key_end(bytes: &[u8]) -> bool
+    ensures { result ≡ list_any ends_key_byte bytes.now }
+{
+    let mut found = false;
+    for byte in bytes {
+        found |= (*byte == b'\n') | (*byte == b'#') | (*byte == b':');
+    }
+    found
+}
+
+// How many bytes at the front are in pieces of sixteen that have no newline, comment or colon.
+fn plain_length(bytes: &[u8]) -> usize
+    ensures plain { list_any ends_key_byte (take result bytes.now) ≡ false }
+    ensures within { result ≤ length bytes.now }
+{
+    let mut at = 0;
+    while bytes.len() - at >= 16 && !has_key_end(&bytes[at..at + 16]) {
+        at += 16;
+    }
+    at
+}
+
 // How many bytes stand before the first newline, comment or colon.
 fn key_length(bytes: &[u8]) -> usize
     ensures value { result ≡ position_or_len ends_key_byte bytes.now }
     ensures within { result ≤ length bytes.now }
 {
-    for (i, byte) in bytes.iter().enumerate() {
-        if ends_key(*byte) {
-            return i;
-        }
+    let mut at = plain_length(bytes);
+    while at < bytes.len() && !ends_key(bytes[at]) {
+        at += 1;
     }
-    bytes.len()
+    at
 }
 
 fn at_colon(bytes: &[u8]) -> bool

@@ -3,7 +3,7 @@ ghost use Rattle.std.specs.List.{position_or_len};
 ghost use Rattle.macro_file.specs.Lines.{at_newline as at_newline_byte};
 ghost use Rattle.macro_file.specs.Walks.{tokens_from, ends_word as ends_word_there};
 
-use crate::words::is_blank;
+use crate::words::{blank_count, is_blank};
 
 /// A word of the file, the number of its line, and the bytes after it.
 #[derive(Clone, Copy)]
@@ -63,6 +63,14 @@ fn token_length(bytes: &[u8]) -> usize
     at
 }
 
+// The bytes after the blanks at the front.
+fn skip_blanks(bytes: &[u8]) -> &[u8]
+    ensures same { (n : ℕ) → tokens_from n bytes.now ≡ tokens_from n result.now }
+    ensures short { length result.now ≤ length bytes.now }
+{
+    &bytes[blank_count(bytes)..]
+}
+
 /// The first word of bytes that begin in this line; None where there is none.
 pub fn next_token(bytes: &[u8], line: u32) -> Option<Token<'_>>
     requires { line + length bytes.now < 2 ^ 32 }
@@ -70,7 +78,7 @@ pub fn next_token(bytes: &[u8], line: u32) -> Option<Token<'_>>
     ensures within { IfSome result (λ t. (t.line + length t.rest.now ≤ line + length bytes.now) × (length t.rest.now < length bytes.now)) }
 {
     let mut here = line;
-    let mut left = bytes;
+    let mut left = skip_blanks(bytes);
     while let [byte, more @ ..] = left {
         if !ends_word(left) {
             let (text, rest) = left.split_at(token_length(left));
@@ -82,11 +90,11 @@ pub fn next_token(bytes: &[u8], line: u32) -> Option<Token<'_>>
         }
         if *byte == b'\n' {
             here += 1;
-            left = more;
+            left = skip_blanks(more);
         } else if *byte == b'#' {
             left = &more[to_newline(more)..];
         } else {
-            left = more;
+            left = skip_blanks(more);
         }
     }
     None
