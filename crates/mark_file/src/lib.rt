@@ -10,3 +10,5 @@ pub mod refusal;
 mod rounds;
 mod row;
 mod source;
+#[cfg(test)]
+mod tests;
