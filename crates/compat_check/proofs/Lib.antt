@@ -1,3 +1,13 @@
 mod Walks
 mod Owners
 mod Vertices
+mod Ranks
+mod Links
+mod Meetings
+mod Areas
+mod Sorted3
+mod TwinKeys
+mod Lists
+mod Pairings
+mod Numbers
+mod Valid

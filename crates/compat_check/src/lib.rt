@@ -6,4 +6,11 @@
 //! bisected before do. Every element name on it then has at most one partner.
 
 pub mod around;
+mod earlier;
+mod edges;
+mod refusal;
+mod triples;
+mod twins;
 pub mod mesh;
+
+pub use refusal::CheckRefusal;

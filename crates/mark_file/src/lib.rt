@@ -4,5 +4,9 @@
 //! The file is CSV. Its header is `round,what,where,number`; a row as `2,mark,0.01,3` asks in
 //! round 2 for three bisections of the element `0.01`. Blanks at the ends of a field are dropped.
 
+mod field;
 pub mod read;
 pub mod refusal;
+mod rounds;
+mod row;
+mod source;

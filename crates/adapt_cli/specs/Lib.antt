@@ -1,0 +1,4 @@
+pub mod Words
+pub mod FaultTexts
+pub mod Stops
+pub mod Rounds

@@ -1,0 +1,87 @@
+-- Places and edges.
+use Rattle.std.proofs.Common.{◌≡◌, ℕ, zero, suc, ◌+◌, ◌*◌, ◌/◌, ◌%◌, ◌<◌, ◌≤◌, ◌⊎◌, Bool, true, false, not, cond, eqb, ltb, List, [], length, refl, sym, ap, ◌∙◌, subst, inl, inr, ⊎_elim, arith, eq-eqb}
+use Rattle.std.specs.Prelude.{slice_index_or}
+use Rattle.std.proofs.lemmas.Bool.{cases_lt, cases_eq}
+use Rattle.std.proofs.lemmas.Bool.Decides.{nat_tests}
+use borrow.Author.Tests.{lt-ltb}
+use Rattle.mesh_names.specs.Triangles.{Triple, Shape, Vertex, Corner, Mid, middle, triple_of, top_of}
+use Rattle.mesh_names.specs.Partners.{Edge, Edge0, Edge1, Edge2, edge_at, edge_middle, turned_by}
+use Rattle.mesh_names.specs.Validity.{ends_of, IsSamePair}
+use Rattle.compat_check.specs.Meshes.{edge_of, edge_number}
+use Rattle.compat_check.specs.Places.{ends_at}
+use Rattle.compat_check.specs.Faults.{triple_in}
+
+pub edge_low : (e : Edge) → edge_number e < 3
+edge_low Edge0 = omega arith
+edge_low Edge1 = omega arith
+edge_low Edge2 = omega arith
+
+pub edge_back : (e : Edge) → edge_of (edge_number e) ≡ e
+edge_back Edge0 = refl
+edge_back Edge1 = refl
+edge_back Edge2 = refl
+
+pub number_back : (k : ℕ) → k < 3 → edge_number (edge_of k) ≡ k
+number_back zero h = refl
+number_back (suc zero) h = refl
+number_back (suc (suc zero)) h = refl
+number_back (suc (suc (suc k))) h = absurd (omega arith)
+
+pub element_at : (r : ℕ) (e : Edge) → (r * 3 + edge_number e) / 3 ≡ r
+element_at r e = omega (arith, edge_low e)
+
+pub number_at : (r : ℕ) (e : Edge) → (r * 3 + edge_number e) % 3 ≡ edge_number e
+number_at r e = omega (arith, edge_low e)
+
+pub place_ends : (triples : List Triple) (r : ℕ) (e : Edge) → ends_at triples (r * 3 + edge_number e) ≡ ends_of (triple_in triples r) e
+place_ends triples r e = (λ i. ends_of (slice_index_or triples (element_at r e i) []) (edge_of (number_at r e i))) ∙ ap (ends_of (triple_in triples r)) (edge_back e)
+
+-- a place is the place of its element and edge
+pub place_is : (k : ℕ) → (k / 3) * 3 + edge_number (edge_of (k % 3)) ≡ k
+place_is k = omega (arith, number_back (k % 3) (omega arith))
+
+pub pair_trans : (p q s : ℕ × ℕ) → IsSamePair p q → IsSamePair q s → IsSamePair p s
+pair_trans p q s h k = ⊎_elim
+    (λ (a : (p.0 ≡ q.0) × (p.1 ≡ q.1)). ⊎_elim
+    (λ (b : (q.0 ≡ s.0) × (q.1 ≡ s.1)). inl (a.0 ∙ b.0, a.1 ∙ b.1))
+    (λ (b : (q.0 ≡ s.1) × (q.1 ≡ s.0)). inr (a.0 ∙ b.0, a.1 ∙ b.1)) k)
+    (λ (a : (p.0 ≡ q.1) × (p.1 ≡ q.0)). ⊎_elim
+    (λ (b : (q.0 ≡ s.0) × (q.1 ≡ s.1)). inr (a.0 ∙ b.1, a.1 ∙ b.0))
+    (λ (b : (q.0 ≡ s.1) × (q.1 ≡ s.0)). inl (a.0 ∙ b.1, a.1 ∙ b.0)) k)
+    h
+
+not_less : (a b : ℕ) → b ≤ a → ltb a b ≡ false
+not_less a b h = grind (arith, nat_tests)
+
+middle_less : (i j : ℕ) → i < j → middle (Corner i) (Corner j) ≡ middle (Corner j) (Corner i)
+middle_less i j h = ap (λ b. cond b (Mid (Corner j) (Corner i)) (Mid (Corner i) (Corner j))) (not_less j i (omega arith)) ∙ sym (ap (λ b. cond b (Mid (Corner i) (Corner j)) (Mid (Corner j) (Corner i))) (lt-ltb i j h))
+
+pub corners_middle : (i j : ℕ) → middle (Corner i) (Corner j) ≡ middle (Corner j) (Corner i)
+corners_middle i j = ⊎_elim (λ (h : i < j). middle_less i j h) (λ (h : j ≤ i). ⊎_elim (λ (k : j < i). sym (middle_less j i k)) (λ (k : i ≤ j). let e : i ≡ j = omega arith in (λ x. middle (Corner (e x)) (Corner (sym e x)))) (cases_lt j i)) (cases_lt i j)
+
+pub edge_middle_is : (mesh : Shape) (r : ℕ) (e : Edge) → let p = ends_of (triple_of mesh r) e in edge_middle mesh r e ≡ middle (Corner p.0) (Corner p.1)
+edge_middle_is mesh r Edge0 = refl
+edge_middle_is mesh r Edge1 = refl
+edge_middle_is mesh r Edge2 = refl
+
+pub edge_at_is : (mesh : Shape) (r : ℕ) (e : Edge) → let p = ends_of (triple_of mesh r) e in edge_at e (top_of mesh r) ≡ (Corner p.0, Corner p.1)
+edge_at_is mesh r Edge0 = refl
+edge_at_is mesh r Edge1 = refl
+edge_at_is mesh r Edge2 = refl
+
+pub same_middle : (p q : ℕ × ℕ) → IsSamePair p q → middle (Corner p.0) (Corner p.1) ≡ middle (Corner q.0) (Corner q.1)
+same_middle p q h = ⊎_elim (λ (a : (p.0 ≡ q.0) × (p.1 ≡ q.1)). λ i. middle (Corner (a.0 i)) (Corner (a.1 i))) (λ (a : (p.0 ≡ q.1) × (p.1 ≡ q.0)). (λ i. middle (Corner (a.0 i)) (Corner (a.1 i))) ∙ corners_middle q.1 q.0) h
+
+corner_same : (i j : ℕ) → Corner i ≡ Corner j → i ≡ j
+corner_same i j e = cc
+
+pub turned_pair : (p q : ℕ × ℕ) (t : Bool) → (Corner q.0, Corner q.1) ≡ turned_by t (Corner p.0, Corner p.1) → IsSamePair q p
+turned_pair p q true e = inr (corner_same q.0 p.1 (ap (λ (y : Vertex × Vertex). y.0) e), corner_same q.1 p.0 (ap (λ (y : Vertex × Vertex). y.1) e))
+turned_pair p q false e = inl (corner_same q.0 p.0 (ap (λ (y : Vertex × Vertex). y.0) e), corner_same q.1 p.1 (ap (λ (y : Vertex × Vertex). y.1) e))
+
+not_equal : (a b : ℕ) → (a ≡ b → ⊥) → eqb a b ≡ false
+not_equal a b h = grind (arith, nat_tests)
+
+pub turn_is : (p q : ℕ × ℕ) (t : Bool) → (p.0 ≡ p.1 → ⊥) → (Corner q.0, Corner q.1) ≡ turned_by t (Corner p.0, Corner p.1) → not (eqb p.0 q.0) ≡ t
+turn_is p q true apart e = ap not (not_equal p.0 q.0 (λ h. apart (h ∙ corner_same q.0 p.1 (ap (λ (y : Vertex × Vertex). y.0) e))))
+turn_is p q false apart e = ap not (eq-eqb p.0 q.0 (sym (corner_same q.0 p.0 (ap (λ (y : Vertex × Vertex). y.0) e))))
