@@ -1,7 +1,8 @@
 -- A key more.
 use Rattle.std.proofs.Common.{◌≡◌, ℕ, Bool, true, false, cond, refl, sym, ap, subst, ◌∙◌, List, [], ◌∷◌, ◌++◌, length, map}
 use Rattle.std.proofs.lemmas.List.{map-append, length-map}
-use Rattle.std.specs.Prelude.{Option, Some, None}
+use Rattle.std.specs.Prelude.{All, Option, Some, None}
+use Rattle.std.proofs.lemmas.List.Elements.{All-nil, All-cons, All-append}
 use Rattle.std.specs.Option.{is_some}
 use Rattle.std.specs.Ordering.{eq_by_cmp}
 use Rattle.std.specs.BTreeMap.{get}
@@ -67,7 +68,10 @@ new_owner mesh laws n old new numbers is none adds =
     let among : is_among v w ≡ false = among-place v w ∙ ap is_some (sym (numbers.tell (Patch n) is) ∙ none) in
     let more : written_in (shape_of mesh) new ≡ w ++ v ∷ [] = ap (map (vertex_of (shape_of mesh))) adds.0 ∙ map-append (vertex_of (shape_of mesh)) old.keys.items (Patch n ∷ []) in
     record {
-      numbers = record { tell = λ key h. new_tell mesh laws n old new numbers is none adds key h ∙ sym (place-push (vertex_of (shape_of mesh) key) w v) ∙ ap (place_of (vertex_of (shape_of mesh) key)) (sym more) };
+      numbers = record {
+        keys = subst (All (IsKeyOf mesh)) (sym adds.0) (All-append (IsKeyOf mesh) old.keys.items (Patch n ∷ []) numbers.keys (All-cons (IsKeyOf mesh) (Patch n) [] is (All-nil (IsKeyOf mesh))));
+        tell = λ key h. new_tell mesh laws n old new numbers is none adds key h ∙ sym (place-push (vertex_of (shape_of mesh) key) w v) ∙ ap (place_of (vertex_of (shape_of mesh) key)) (sym more);
+      };
       written = more ∙ sym (ap (λ (b : Bool). cond b w (w ++ v ∷ [])) among);
     }
 

@@ -1,7 +1,9 @@
 -- Places among the macro vertices.
-use Rattle.std.proofs.Common.{◌≡◌, ℕ, zero, suc, ◌<◌, ◌≤◌, cond, eqb, refl, sym, ap, ◌∙◌, List, [], ◌∷◌, ◌++◌, length, map, arith, eq-eqb, ne_eqb}
+use Rattle.std.proofs.Common.{◌≡◌, ℕ, zero, suc, ◌<◌, ◌≤◌, cond, eqb, refl, sym, ap, subst, ◌∙◌, List, [], ◌∷◌, ◌++◌, length, map, arith, eq-eqb, ne_eqb}
 use Rattle.std.proofs.lemmas.List.{map-append, length-append}
 use Rattle.std.specs.Prelude.{Option, Some, None}
+use Rattle.std.specs.Prelude.{All}
+use Rattle.std.proofs.lemmas.List.Elements.{All-nil, All-cons, All-append}
 use native.Mathlib.Decide.{dec_lt}
 use Rattle.std.specs.Map.{lookup}
 use Rattle.std.specs.Ordering.{eq_by_cmp}
@@ -42,9 +44,14 @@ pub middle_none : (a b : Vertex) (count : ℕ) → place_of (middle a b) (macro_
 middle_none a b zero = refl
 middle_none a b (suc k) = place-push (middle a b) (macro_vertices k) (Corner k) ∙ (λ j. first_of (middle_none a b k j) (cond (middle-corner a b k j) (Some (length (macro_vertices k))) None))
 
+macro_keys_are : (mesh : Mesh) (count : ℕ) → count ≤ length mesh.vertices → All (IsKeyOf mesh) (macro_keys count)
+macro_keys_are mesh zero h = All-nil (IsKeyOf mesh)
+macro_keys_are mesh (suc k) h = let low : k < length mesh.vertices = omega arith in
+    All-append (IsKeyOf mesh) (macro_keys k) (Macro k ∷ []) (macro_keys_are mesh k (omega arith)) (All-cons (IsKeyOf mesh) (Macro k) [] low (All-nil (IsKeyOf mesh)))
+
 -- the numbers of the macro vertices
 pub macro_numbers : (mesh : Mesh) (numbers : Numbers) → numbers.keys.items ≡ macro_keys (length mesh.vertices) → numbers.by_owner.entries ≡ [] → AreNumbers mesh numbers × (written_in (shape_of mesh) numbers ≡ macro_vertices (length mesh.vertices))
-macro_numbers mesh numbers keys empty = (record { tell = tell }, written)
+macro_numbers mesh numbers keys empty = (record { keys = subst (All (IsKeyOf mesh)) (sym keys) (macro_keys_are mesh (length mesh.vertices) (omega arith)); tell = tell }, written)
   where
     written : written_in (shape_of mesh) numbers ≡ macro_vertices (length mesh.vertices)
     written = ap (map (vertex_of (shape_of mesh))) keys ∙ macro_stand (shape_of mesh) (length mesh.vertices)

@@ -1,5 +1,5 @@
 -- Written vertices by their keys, and the numbers that are kept for them.
-use Rattle.std.specs.Prelude.{◌≡◌, ◌<◌, ◌≤◌, ℕ, zero, suc, ◌+◌, cond, true, List, [], ◌∷◌, ◌++◌, length, map, Option, Some, None}
+use Rattle.std.specs.Prelude.{◌≡◌, ◌<◌, ◌≤◌, ℕ, zero, suc, ◌+◌, cond, true, List, [], ◌∷◌, ◌++◌, length, map, All, Option, Some, None}
 use Rattle.std.specs.Option.{option_map}
 use Rattle.std.specs.BTreeMap.{get, Updates}
 use Rattle.mesh_names.specs.Names.{Name, name_cmp}
@@ -40,8 +40,9 @@ abbrev pub told : Numbers → VertexKey → Option ℕ
 told numbers (Macro i) = Some i
 told numbers (Patch n) = get name_cmp numbers.by_owner n
 
--- each key of the mesh has the number of its vertex, and no other key has one
+-- the keys are of the mesh, and each key of the mesh is told the place of its vertex among them, or none where it is not there
 pub record AreNumbers (mesh : Mesh) (numbers : Numbers) : Type 0 where
+  pub keys : All (IsKeyOf mesh) numbers.keys.items
   pub tell : (key : VertexKey) → IsKeyOf mesh key → told numbers key ≡ place_of (vertex_of (shape_of mesh) key) (written_in (shape_of mesh) numbers)
 
 -- the corners of the leaf are among the written vertices

@@ -3,7 +3,7 @@ ghost use Rattle.std.specs.Prelude.{◌≡◌, map, length, All, IfOk, OnOk, IsS
 ghost use Rattle.mesh_names.specs.Patches.{vertex_of};
 ghost use Rattle.compat_check.specs.Meshes.{shape_of};
 ghost use Rattle.mesh_writer.specs.Numbering.{corners_of, macro_vertices, vertices, with_new};
-ghost use Rattle.mesh_writer.specs.Numbers.{Adds, AreNumbers, IsInMesh, macro_keys, told, written_in};
+ghost use Rattle.mesh_writer.specs.Numbers.{Adds, AreNumbers, IsInMesh, IsKeyOf, macro_keys, told, written_in};
 
 use crate::refusal::WriterRefusal;
 use compat_check::mesh::MacroMesh;
@@ -28,7 +28,8 @@ pub fn numbering(
     leaves: &[ElemName],
 ) -> Result<Vec<VertexKey>, WriterRefusal>
     requires { All (IsInMesh (shape_of mesh.now)) leaves.now }
-    ensures { IfOk result (λ keys. map (vertex_of (shape_of mesh.now)) keys.items ≡ vertices (shape_of mesh.now) (length mesh.now.vertices) leaves.now) }
+    ensures written { IfOk result (λ keys. map (vertex_of (shape_of mesh.now)) keys.items ≡ vertices (shape_of mesh.now) (length mesh.now.vertices) leaves.now) }
+    ensures keys { IfOk result (λ keys. All (IsKeyOf mesh.now) keys.items) }
 {
     let numbers = Numbers::of_leaves(alloc, mesh, leaves)?;
     Ok(numbers.keys)
