@@ -1,20 +1,20 @@
 -- Rounds that are made in order.
-use Rattle.std.proofs.Common.{◌≡◌, ◌⊎◌, ℕ, zero, suc, ◌+◌, ◌<◌, ◌≤◌, refl, sym, ap, ◌∙◌, subst, List, [], ◌∷◌, drop, length, slice_index_or, map, inl, inr, arith}
-use Rattle.std.specs.Prelude.{All, Result, Ok, Err, Some, string_bytes}
+use Rattle.std.proofs.Common.{◌≡◌, ℕ, zero, suc, ◌+◌, ◌<◌, ◌≤◌, refl, sym, ap, ◌∙◌, subst, List, [], ◌∷◌, drop, length, slice_index_or, inl, inr, arith}
+use Rattle.std.specs.Prelude.{All, Result, Ok, Err, string_bytes}
 use Rattle.mesh_names.specs.Triangles.{Shape}
 use Rattle.mesh_names.specs.Partners.{Across}
 use Rattle.mesh_names.specs.Forests.{Names}
 use Rattle.mesh_names.specs.Patches.{patch_count}
 use Rattle.mesh_names.specs.declared.rows.RoundMarks.{RoundMarks}
 use Rattle.mesh_names.specs.declared.patch.RoundDelta.{RoundDelta}
-use Rattle.mark_file.specs.Meaning.{Round, round_read, rounds_read}
+use Rattle.mark_file.specs.Meaning.{rounds_read}
 use Rattle.forest_plain.specs.Rounds.{IsFine, IsRefined, IsRound, IsRoundRefusal}
 use Rattle.forest_plain.specs.declared.refusal.RoundRefusal.{RoundRefusal}
-use Rattle.adapt_cli.specs.FaultTexts.{Fault, round_fault}
-use Rattle.adapt_cli.specs.Rounds.{Leads, Refuses, LeadTo}
+use Rattle.adapt_cli.specs.FaultTexts.{Fault}
+use Rattle.adapt_cli.specs.Rounds.{Leads, LeadTo}
 use Rattle.adapt_cli.specs.Stops.{StopsBy, IsRoundStop}
 use Rattle.adapt_cli.specs.declared.fault.Stop.{Stop}
-use Rattle.adapt_cli.specs.declared.fault.Stop.TheVariants.{Refused, Memory}
+use Rattle.adapt_cli.specs.declared.fault.Stop.TheVariants.{Refused, Memory, ReadFault, Usage}
 
 module _ (mesh : Shape) (sides : Across) (pool : ℕ) (rounds : List RoundMarks) (old : Names) where
   -- what the rounds from the i-th on lead to from here, all of them lead to from the start
@@ -67,6 +67,8 @@ module _ (mesh : Shape) (sides : Across) (pool : ℕ) (rounds : List RoundMarks)
   pub stop_here : (round d : RoundMarks) (refusal : RoundRefusal) → i < length rounds → round ≡ slice_index_or rounds i d → IsRoundRefusal mesh_now sides_now pool_now now round.rows.items refusal → (stop : Stop) → IsRoundStop round.number refusal stop →
       StopsBy (LeadTo mesh sides pool (rounds_read rounds) old) stop
   stop_here round d refusal low at cause Memory told = tt
+  stop_here round d refusal low at cause (ReadFault file) told = absurd told
+  stop_here round d refusal low at cause Usage told = absurd told
   stop_here round d refusal low at cause (Refused fault) told = so_far.leads (Err (fault.status, string_bytes fault.line)) (subst (λ (xs : List RoundMarks). LeadTo mesh sides pool (rounds_read xs) now (Err (fault.status, string_bytes fault.line))) (sym (next-drop rounds i round d low at)) (inr (
     (fault.status, string_bytes fault.line),
     record {

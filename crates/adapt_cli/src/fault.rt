@@ -15,11 +15,24 @@ pub struct Fault {
     pub line: String,
 }
 
+/// A file that the words name.
+#[derive(Clone, Copy, Debug, PartialEq, Eq)]
+pub enum InputFile {
+    Macro,
+    Marks,
+}
+
 /// Why there is no text to write.
 #[derive(Debug, Drop)]
 pub enum Stop {
+    /// A file or a round is refused.
     Refused(Fault),
+    /// Want of memory.
     Memory,
+    /// The load of a file failed.
+    ReadFault(InputFile),
+    /// The words are outside.
+    Usage,
 }
 
 impl From<AllocError> for Stop {

@@ -224,3 +224,9 @@ members_in mesh members list forest is i d h =
     let held = subst (λ (s : Names). Has s n) is.all (in-has n list (item-in list i d h)) in
     let low = forest.shallow n held in
     record { rooted = forest.rooted n held; low = omega (arith, low) }
+
+-- the leaves of a forest are names of the mesh
+pub leaves_in : (mesh : Shape) (members : Names) (list : List Name) → IsForest mesh members → ((r : ℕ) → r < size mesh → grade_of mesh r ≤ 24) → IsListOf (leaves mesh members) list → All (IsInMesh mesh) list
+leaves_in mesh members list forest low is i d h =
+    let l = leaf_at mesh members list forest is i d h in
+    record { rooted = l.rooted; low = leaf_level mesh members forest low (slice_index_or list i d) l }

@@ -6,6 +6,7 @@ ghost use Rattle.mesh_names.specs.Leaves.{leaves};
 ghost use Rattle.mesh_names.specs.Marks.{IsWellFormed};
 ghost use Rattle.mesh_names.specs.Patches.{patch_count};
 ghost use Rattle.compat_check.specs.Meshes.{across_in, shape_of};
+ghost use Rattle.forest_plain.specs.Deltas.{IsInMesh};
 ghost use Rattle.forest_plain.specs.Rounds.{IsFine, IsFirstFault, IsRefined, IsRound, IsRoundRefusal, IsRowsRefusal, Stands};
 
 use crate::closing::close;
@@ -61,8 +62,10 @@ impl<'m> PlainForest<'m> {
     /// The leaves in the order of names.
     pub fn leaves(&self) -> Result<Vec<ElemName>, RoundRefusal>
         ensures ok { IfOk result (λ v. IsListOf (leaves (mesh_of self.now) (members_of self.now)) v.items) }
+        ensures mesh { IfOk result (λ v. All (IsInMesh (mesh_of self.now)) v.items) }
         ensures memory { IfErr result (λ r. r ≡ RoundRefusal.Memory) }
     {
+        let _checked = self.mesh.element_count();
         let found = leaf_list(self.alloc, self.mesh, &self.members)?;
         Ok(found)
     }
