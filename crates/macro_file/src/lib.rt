@@ -26,3 +26,6 @@ mod words;
 pub use reader::read_macro;
 pub use refusal::{Key, MacroRefusal};
 pub use text::{MacroElem, MacroText, MacroVertex};
+
+#[cfg(test)]
+mod tests;
