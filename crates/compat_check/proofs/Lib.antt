@@ -11,3 +11,9 @@ mod Lists
 mod Pairings
 mod Numbers
 mod Valid
+mod Hanging
+mod Linking
+mod Finding
+mod Alone
+mod Asking
+mod Lows

@@ -79,7 +79,7 @@ pub turned_pair : (p q : ℕ × ℕ) (t : Bool) → (Corner q.0, Corner q.1) ≡
 turned_pair p q true e = inr (corner_same q.0 p.1 (ap (λ (y : Vertex × Vertex). y.0) e), corner_same q.1 p.0 (ap (λ (y : Vertex × Vertex). y.1) e))
 turned_pair p q false e = inl (corner_same q.0 p.0 (ap (λ (y : Vertex × Vertex). y.0) e), corner_same q.1 p.1 (ap (λ (y : Vertex × Vertex). y.1) e))
 
-not_equal : (a b : ℕ) → (a ≡ b → ⊥) → eqb a b ≡ false
+pub not_equal : (a b : ℕ) → (a ≡ b → ⊥) → eqb a b ≡ false
 not_equal a b h = grind (arith, nat_tests)
 
 pub turn_is : (p q : ℕ × ℕ) (t : Bool) → (p.0 ≡ p.1 → ⊥) → (Corner q.0, Corner q.1) ≡ turned_by t (Corner p.0, Corner p.1) → not (eqb p.0 q.0) ≡ t

@@ -7,3 +7,5 @@ pub mod Places
 pub mod Faults
 pub mod Twins
 pub mod Paired
+pub mod Parts
+pub mod Grading

@@ -8,6 +8,8 @@
 pub mod around;
 mod earlier;
 mod edges;
+mod grading;
+mod parts;
 mod refusal;
 mod triples;
 mod twins;

@@ -1,0 +1,15 @@
+use Rattle.std.proofs.Common.{sym, ◌∙◌, length, rules}
+use Rattle.std.specs.Int.{w32}
+use Rattle.std.proofs.lemmas.Int.{to_z-of_z}
+use mir.Val.{SFits, to_z, of_z}
+use Rattle.compat_check.proofs.Asking.{settled_none, settled_some}
+use Rattle.compat_check.proofs.grading.ask_all.Goals as goal
+
+pub loop-place-preserved-in_default : goal.loop-place-preserved-in_default
+loop-place-preserved-in_default c = settled_none c.args.count c.args.sides.now c.loop-place.place c.loop-place.parts c.in_default.is c.loop-place.invariant
+
+pub loop-place-preserved : goal.loop-place-preserved
+loop-place-preserved c =
+    let fits : SFits w32 c.rise.result = search rules in
+    settled_some c.args.count (length c.loop-place.parts.parents.items) c.args.sides.now c.loop-place.place c.in-Some.side (to_z w32 (of_z w32 c.rise.result)) c.loop-place.parts c.ask.new.self
+    (sym c.loop-place.invariant.1.1.each) c.in-Some.is (to_z-of_z w32 c.rise.result fits ∙ c.rise.ensures.rise) c.loop-place.invariant c.if-not-ask.ensures
