@@ -10,6 +10,7 @@ mod TwinKeys
 mod Lists
 mod Pairings
 mod Numbers
+mod Across
 mod Valid
 mod Hanging
 mod Linking
@@ -17,3 +18,6 @@ mod Finding
 mod Alone
 mod Asking
 mod Lows
+mod Graded
+mod Labelling
+mod Whole

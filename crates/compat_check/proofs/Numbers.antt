@@ -50,38 +50,9 @@ pair_trans p q s h k = ⊎_elim
     (λ (b : (q.0 ≡ s.1) × (q.1 ≡ s.0)). inl (a.0 ∙ b.1, a.1 ∙ b.0)) k)
     h
 
-not_less : (a b : ℕ) → b ≤ a → ltb a b ≡ false
-not_less a b h = grind (arith, nat_tests)
-
-middle_less : (i j : ℕ) → i < j → middle (Corner i) (Corner j) ≡ middle (Corner j) (Corner i)
-middle_less i j h = ap (λ b. cond b (Mid (Corner j) (Corner i)) (Mid (Corner i) (Corner j))) (not_less j i (omega arith)) ∙ sym (ap (λ b. cond b (Mid (Corner i) (Corner j)) (Mid (Corner j) (Corner i))) (lt-ltb i j h))
-
-pub corners_middle : (i j : ℕ) → middle (Corner i) (Corner j) ≡ middle (Corner j) (Corner i)
-corners_middle i j = ⊎_elim (λ (h : i < j). middle_less i j h) (λ (h : j ≤ i). ⊎_elim (λ (k : j < i). sym (middle_less j i k)) (λ (k : i ≤ j). let e : i ≡ j = omega arith in (λ x. middle (Corner (e x)) (Corner (sym e x)))) (cases_lt j i)) (cases_lt i j)
-
-pub edge_middle_is : (mesh : Shape) (r : ℕ) (e : Edge) → let p = ends_of (triple_of mesh r) e in edge_middle mesh r e ≡ middle (Corner p.0) (Corner p.1)
-edge_middle_is mesh r Edge0 = refl
-edge_middle_is mesh r Edge1 = refl
-edge_middle_is mesh r Edge2 = refl
-
-pub edge_at_is : (mesh : Shape) (r : ℕ) (e : Edge) → let p = ends_of (triple_of mesh r) e in edge_at e (top_of mesh r) ≡ (Corner p.0, Corner p.1)
-edge_at_is mesh r Edge0 = refl
-edge_at_is mesh r Edge1 = refl
-edge_at_is mesh r Edge2 = refl
-
-pub same_middle : (p q : ℕ × ℕ) → IsSamePair p q → middle (Corner p.0) (Corner p.1) ≡ middle (Corner q.0) (Corner q.1)
-same_middle p q h = ⊎_elim (λ (a : (p.0 ≡ q.0) × (p.1 ≡ q.1)). λ i. middle (Corner (a.0 i)) (Corner (a.1 i))) (λ (a : (p.0 ≡ q.1) × (p.1 ≡ q.0)). (λ i. middle (Corner (a.0 i)) (Corner (a.1 i))) ∙ corners_middle q.1 q.0) h
-
-corner_same : (i j : ℕ) → Corner i ≡ Corner j → i ≡ j
-corner_same i j e = cc
-
-pub turned_pair : (p q : ℕ × ℕ) (t : Bool) → (Corner q.0, Corner q.1) ≡ turned_by t (Corner p.0, Corner p.1) → IsSamePair q p
-turned_pair p q true e = inr (corner_same q.0 p.1 (ap (λ (y : Vertex × Vertex). y.0) e), corner_same q.1 p.0 (ap (λ (y : Vertex × Vertex). y.1) e))
-turned_pair p q false e = inl (corner_same q.0 p.0 (ap (λ (y : Vertex × Vertex). y.0) e), corner_same q.1 p.1 (ap (λ (y : Vertex × Vertex). y.1) e))
-
 pub not_equal : (a b : ℕ) → (a ≡ b → ⊥) → eqb a b ≡ false
 not_equal a b h = grind (arith, nat_tests)
 
-pub turn_is : (p q : ℕ × ℕ) (t : Bool) → (p.0 ≡ p.1 → ⊥) → (Corner q.0, Corner q.1) ≡ turned_by t (Corner p.0, Corner p.1) → not (eqb p.0 q.0) ≡ t
-turn_is p q true apart e = ap not (not_equal p.0 q.0 (λ h. apart (h ∙ corner_same q.0 p.1 (ap (λ (y : Vertex × Vertex). y.0) e))))
-turn_is p q false apart e = ap not (eq-eqb p.0 q.0 (sym (corner_same q.0 p.0 (ap (λ (y : Vertex × Vertex). y.0) e))))
+pub turn_is : (p q : ℕ × ℕ) (t : Bool) → (p.0 ≡ p.1 → ⊥) → (q.0 ≡ cond t p.1 p.0) × (q.1 ≡ cond t p.0 p.1) → not (eqb p.0 q.0) ≡ t
+turn_is p q true apart e = ap not (not_equal p.0 q.0 (λ h. apart (h ∙ e.0)))
+turn_is p q false apart e = ap not (eq-eqb p.0 q.0 (sym e.0))

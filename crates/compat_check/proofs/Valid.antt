@@ -2,30 +2,27 @@
 use Rattle.std.proofs.Common.{◌≡◌, ℕ, ◌+◌, ◌*◌, ◌/◌, ◌%◌, ◌<◌, ◌≤◌, ◌⊎◌, Bool, true, false, not, eqb, List, [], length, refl, sym, ap, ◌∙◌, subst, inl, inr, ⊎_elim, arith}
 use Rattle.std.specs.Prelude.{Option, Some, None, IfSome, IsSome, slice_index_or}
 use Rattle.std.proofs.lemmas.Bool.{cases_lt, cases_eq}
-use Rattle.mesh_names.specs.Triangles.{Triple, Shape, Vertex, Corner, size, triple_of, corner_of, top_of, triangle}
-use Rattle.mesh_names.specs.Partners.{Edge, Edge0, Edge1, Edge2, Tells, edge_at, edge_middle, edge_word, turned_by}
+use Rattle.mesh_names.specs.Triangles.{Triple, Shape}
+use Rattle.mesh_names.specs.Partners.{Edge, Edge0, Edge1, Edge2}
 use Rattle.mesh_names.specs.Validity.{IsValid, IsTwin, Shares, IsSamePair, across_of, ends_of}
 use Rattle.compat_check.specs.Meshes.{edge_of, edge_number}
 use Rattle.compat_check.specs.Sides.{told_in, side_told}
 use Rattle.compat_check.specs.Faults.{IsFirst, IsRepeated, triple_in}
-use Rattle.compat_check.specs.Twins.{AreTwins, IsTwinBefore}
+use Rattle.compat_check.specs.Twins.{AreTwins, IsTwinBefore, TwinFree}
 use Rattle.compat_check.specs.Places.{AreEarlier, IsEarlier, Meets, ends_at}
 use Rattle.compat_check.specs.Paired.{AreSides, IsSide, IsThirdAt, side_of}
 use Rattle.compat_check.specs.declared.mesh.Side.{Side}
 use Rattle.compat_check.proofs.Links.{same_some}
 use Rattle.compat_check.proofs.Pairings.{same_pair_back}
 use Rattle.compat_check.proofs.TwinKeys.{twin_swap}
-use Rattle.compat_check.proofs.Numbers.{edge_low, edge_back, number_back, element_at, number_at, place_ends, place_is, pair_trans, edge_middle_is, edge_at_is, same_middle, turned_pair, turn_is}
+use Rattle.compat_check.proofs.Numbers.{edge_low, place_ends, place_is, pair_trans, turn_is}
+use Rattle.compat_check.proofs.Across.{across_all, across_found, one_edge, turns_same}
 
 abbrev pub Unrepeated : List Triple → Type 0
 Unrepeated triples = IsFirst (length triples) (λ r. IsRepeated (triple_in triples r)) None
 
 abbrev pub ThirdFree : List (Option ℕ) → Type 0
 ThirdFree earlier = IsFirst (length earlier) (IsThirdAt earlier) None
-
--- no two elements have the same three vertices
-abbrev pub TwinFree : List Triple → Type 0
-TwinFree triples = (r s : ℕ) → r < s → s < length triples → IsTwin (triple_in triples r) (triple_in triples s) → ⊥
 
 pub meets_back : (triples : List Triple) (j i : ℕ) → Meets triples j i → Meets triples i j
 meets_back triples j i h = same_pair_back (ends_at triples j) (ends_at triples i) h
@@ -116,33 +113,25 @@ module _ (triples : List Triple) (grades : List ℕ) (unrepeated : Unrepeated tr
       (cases_lt k back.0))
       (cases_lt l k)
 
-module _ (triples : List Triple) (grades : List ℕ) (unrepeated : Unrepeated triples) (earlier : List (Option ℕ)) (known : AreEarlier triples earlier) (free : ThirdFree earlier) (tells : Tells (record { triples = triples; grades = grades }) (across_of (record { triples = triples; grades = grades }))) where
+module _ (triples : List Triple) (grades : List ℕ) (unrepeated : Unrepeated triples) (earlier : List (Option ℕ)) (known : AreEarlier triples earlier) (free : ThirdFree earlier) (valid : IsValid (record { triples = triples; grades = grades })) where
   apart_ends : (r : ℕ) → r < length triples → (e : Edge) → let p = ends_of (triple_in triples r) e in p.0 ≡ p.1 → ⊥
   apart_ends r hr Edge0 h = unrepeated r hr (inr (inl h))
   apart_ends r hr Edge1 h = unrepeated r hr (inr (inr (sym h)))
   apart_ends r hr Edge2 h = unrepeated r hr (inl h)
 
-  -- what is across an edge, over corner numbers
-  across_ends : (r s : ℕ) (e f : Edge) (t : Bool) → across_of (record { triples = triples; grades = grades }) r e ≡ Some (s, f, t) → let p = ends_of (triple_in triples r) e in let q = ends_of (triple_in triples s) f in (Corner q.0, Corner q.1) ≡ turned_by t (Corner p.0, Corner p.1)
-  across_ends r s e f t is = sym (edge_at_is (record { triples = triples; grades = grades }) s f) ∙ tells.same r s e f t is ∙ ap (turned_by t) (edge_at_is (record { triples = triples; grades = grades }) r e)
-
-  -- a place is of one element and edge
-  same_element : (r s : ℕ) (e f : Edge) → s * 3 + edge_number f ≡ r * 3 + edge_number e → r ≡ s
+  -- a place is of one element
+  same_element : (r s : ℕ) (e f : Edge) → s * 3 + edge_number f ≡ r * 3 + edge_number e → s ≡ r
   same_element r s e f h = omega (arith, edge_low e, edge_low f)
-
-  same_edge : (r s : ℕ) (e f : Edge) → s * 3 + edge_number f ≡ r * 3 + edge_number e → e ≡ f
-  same_edge r s e f h = let n : edge_number e ≡ edge_number f = omega (arith, edge_low e, edge_low f) in sym (edge_back e) ∙ ap edge_of n ∙ edge_back f
 
   no_side : (sides : List (Option Side)) → AreSides triples earlier sides (length triples * 3) → (r : ℕ) (e : Edge) → r < length triples → slice_index_or sides (r * 3 + edge_number e) None ≡ None → (a : Option (ℕ × Edge × Bool)) → across_of (record { triples = triples; grades = grades }) r e ≡ a → None ≡ a
   no_side sides are r e hr none None is = refl
   no_side sides are r e hr none (Some (s, f, t)) is =
-      let mesh : Shape = record { triples = triples; grades = grades } in
       let p = ends_of (triple_in triples r) e in
       let q = ends_of (triple_in triples s) f in
-      let pair : IsSamePair q p = turned_pair p q t (across_ends r s e f t is) in
-      let hs : s < length triples = tells.within r s e f t is in
-      absurd (lonely triples grades unrepeated earlier known free sides are (r * 3 + edge_number e) (s * 3 + edge_number f) (place_inside (length triples) r e hr) (place_inside (length triples) s f hs) none
-      (λ h. tells.apexes r s e f t hr is (λ i. (triangle mesh (same_element r s e f h i, edge_word (same_edge r s e f h i))).2))
+      let a = across_found (record { triples = triples; grades = grades }) valid r s e f t is in
+      let pair : IsSamePair q p = same_pair_back p q (turns_same t p q a.2) in
+      absurd (lonely triples grades unrepeated earlier known free sides are (r * 3 + edge_number e) (s * 3 + edge_number f) (place_inside (length triples) r e hr) (place_inside (length triples) s f a.0) none
+      (λ h. a.1 (same_element r s e f h))
       (shares_meet triples s r f e pair))
 
   one_side : (r : ℕ) (e : Edge) → r < length triples → (sd : Side) → IsSide triples (r * 3 + edge_number e) sd → side_told (Some sd) ≡ across_of (record { triples = triples; grades = grades }) r e
@@ -156,13 +145,13 @@ module _ (triples : List Triple) (grades : List ℕ) (unrepeated : Unrepeated tr
       let q = ends_of (triple_in triples s) f in
       let hs : s < length triples = omega (arith, side.1) in
       let pair : IsSamePair q p = subst (IsSamePair q) (place_ends triples r e) side.3 in
-      let middles : edge_middle mesh r e ≡ edge_middle mesh s f = edge_middle_is mesh r e ∙ same_middle p q (same_pair_back q p pair) ∙ sym (edge_middle_is mesh s f) in
-      ⊎_elim
-      (λ (h : (r ≡ s) × (e ≡ f)). absurd (side.2 (sym (place_is l) ∙ (λ i. sym h.0 i * 3 + edge_number (sym h.1 i)))))
-      (λ (h : (t : Bool) × (across_of mesh r e ≡ Some (s, f, t))).
-      let turn : not (eqb (ends_at triples k).0 q.0) ≡ h.0 = (λ i. not (eqb (place_ends triples r e i).0 q.0)) ∙ turn_is p q h.0 (apart_ends r hr e) (across_ends r s e f h.0 h.1) in
-      ap (λ (y : Side). side_told (Some y)) side.4 ∙ (λ i. Some (s, f, turn i)) ∙ sym h.1)
-      (tells.all r s e f hr hs middles)
+      let apart : r ≡ s → ⊥ = λ h.
+      let edges : e ≡ f = one_edge (triple_in triples r) (valid.distinct r hr) e f (subst (λ (y : ℕ). IsSamePair p (ends_of (triple_in triples y) f)) (sym h) (same_pair_back q p pair)) in
+      side.2 (sym (place_is l) ∙ (λ i. sym h i * 3 + edge_number (sym edges i))) in
+      let a = across_all mesh valid r s e f hr hs apart (same_pair_back q p pair) in
+      let turns = (across_found mesh valid r s e f a.0 a.1).2 in
+      let turn : not (eqb (ends_at triples k).0 q.0) ≡ a.0 = (λ i. not (eqb (place_ends triples r e i).0 q.0)) ∙ turn_is p q a.0 (apart_ends r hr e) turns in
+      ap (λ (y : Side). side_told (Some y)) side.4 ∙ (λ i. Some (s, f, turn i)) ∙ sym a.1
 
   told_by : (sides : List (Option Side)) → AreSides triples earlier sides (length triples * 3) → (r : ℕ) (e : Edge) → r < length triples → (o : Option Side) → slice_index_or sides (r * 3 + edge_number e) None ≡ o → told_in sides r e ≡ across_of (record { triples = triples; grades = grades }) r e
   told_by sides are r e hr None is = ap side_told is ∙ no_side sides are r e hr is (across_of (record { triples = triples; grades = grades }) r e) refl

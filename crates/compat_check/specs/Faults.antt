@@ -1,5 +1,5 @@
 -- What can be wrong with a triple, and the first place where something is.
-use Rattle.std.specs.Prelude.{◌≡◌, ℕ, ◌<◌, ◌≤◌, ◌⊎◌, ℤ, pos, ◌-ℤ◌, ◌*ℤ◌, List, Option, Some, None, slice_get, slice_index_or, []}
+use Rattle.std.specs.Prelude.{◌≡◌, ℕ, ◌<◌, ◌≤◌, ◌⊎◌, ℤ, pos, ◌-ℤ◌, ◌*ℤ◌, List, Option, Some, None, slice_get, slice_index_or, [], length}
 use Rattle.macro_file.specs.declared.text.MacroVertex.{MacroVertex}
 use Rattle.mesh_names.specs.Triangles.{Triple, corner_of}
 
@@ -34,3 +34,9 @@ doubled_area a b c = ((b.0 -ℤ a.0) *ℤ (c.1 -ℤ a.1)) -ℤ ((c.0 -ℤ a.0) *
 -- the three corners lie on a line
 abbrev pub IsFlat : List MacroVertex → Triple → Type 0
 IsFlat vertices t = doubled_area (point_at vertices (corner_of t 0)) (point_at vertices (corner_of t 1)) (point_at vertices (corner_of t 2)) ≡ pos 0
+
+-- no corner is outside, no two are equal, and no element is flat
+pub record AreSound (vertices : List MacroVertex) (triples : List Triple) : Type 0 where
+  pub inside : IsFirst (length triples) (λ r. IsOutside (length vertices) (triple_in triples r)) None
+  pub distinct : IsFirst (length triples) (λ r. IsRepeated (triple_in triples r)) None
+  pub thick : IsFirst (length triples) (λ r. IsFlat vertices (triple_in triples r)) None

@@ -9,3 +9,4 @@ pub mod Twins
 pub mod Paired
 pub mod Parts
 pub mod Grading
+pub mod Results

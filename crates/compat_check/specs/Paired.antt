@@ -1,7 +1,10 @@
 -- Edges that two elements share, by their places.
 use Rattle.std.specs.Prelude.{◌≡◌, ℕ, ◌*◌, ◌/◌, ◌%◌, ◌<◌, eqb, not, List, length, Option, Some, None, IfSome, IsSome, slice_index_or}
 use Rattle.mesh_names.specs.Triangles.{Triple}
-use Rattle.compat_check.specs.Places.{Meets, ends_at}
+use Rattle.compat_check.specs.Faults.{AreSound, IsFirst}
+use Rattle.compat_check.specs.Places.{AreEarlier, Meets, ends_at}
+use Rattle.compat_check.specs.Twins.{TwinFree}
+use Rattle.macro_file.specs.declared.text.MacroVertex.{MacroVertex}
 use Rattle.compat_check.specs.declared.mesh.Side.{Side}
 
 -- each place leads to one before it
@@ -25,3 +28,16 @@ pub record AreSides (triples : List Triple) (earlier : List (Option ℕ)) (sides
   pub each : length sides ≡ length triples * 3
   pub right : (k : ℕ) → k < length triples * 3 → IfSome (slice_index_or sides k None) (IsSide triples k)
   pub done : (k j : ℕ) → k < n → slice_index_or earlier k None ≡ Some j → IsSome (slice_index_or sides k None) × IsSome (slice_index_or sides j None)
+
+-- the table of an edge that is nowhere in three: what lies across each edge, found from the earlier places
+pub record IsTable (triples : List Triple) (sides : List (Option Side)) : Type 0 where
+  pub earlier : List (Option ℕ)
+  pub known : AreEarlier triples earlier
+  pub free : IsFirst (length earlier) (IsThirdAt earlier) None
+  pub sides_are : AreSides triples earlier sides (length triples * 3)
+
+-- a valid mesh, and its table
+pub record Passes (vertices : List MacroVertex) (triples : List Triple) (sides : List (Option Side)) : Type 0 where
+  pub sound : AreSound vertices triples
+  pub twin_free : TwinFree triples
+  pub table : IsTable triples sides

@@ -23,3 +23,7 @@ IsTwinBefore triples s (Some r) = (r < s) × IsTwin (triple_in triples r) (tripl
 pub record AreTwins (triples : List Triple) (earlier : List (Option ℕ)) : Type 0 where
   pub each : length earlier ≡ length triples
   pub last : (s : ℕ) → s < length triples → IsTwinBefore triples s (slice_index_or earlier s None)
+
+-- no two elements have the same three vertices
+abbrev pub TwinFree : List Triple → Type 0
+TwinFree triples = (r s : ℕ) → r < s → s < length triples → IsTwin (triple_in triples r) (triple_in triples s) → ⊥

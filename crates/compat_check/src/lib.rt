@@ -6,6 +6,7 @@
 //! bisected before do. Every element name on it then has at most one partner.
 
 pub mod around;
+pub mod check;
 mod earlier;
 mod edges;
 mod grading;

@@ -1,0 +1,77 @@
+use Rattle.std.proofs.Common.{◌≡◌, ◌*◌, ◌<◌, ◌≤◌, ◌∙◌, ℕ, List, [], ap, sym, subst, arith, length, map, refl}
+use Rattle.std.specs.Prelude.{ℤ, Option, slice_index_or, true, false}
+use Rattle.macro_file.specs.declared.text.MacroElem.{MacroElem}
+use Rattle.macro_file.specs.declared.text.MacroVertex.{MacroVertex}
+use Rattle.mesh_names.specs.Triangles.{Triple}
+use Rattle.compat_check.specs.Paired.{Passes}
+use Rattle.compat_check.specs.Parts.{InRange}
+use Rattle.compat_check.specs.Grading.{AreGrades, rules_before}
+use Rattle.compat_check.specs.Results.{AreMadeLabels}
+use Rattle.compat_check.specs.declared.mesh.Side.{Side}
+use Rattle.compat_check.proofs.Graded.{told_of, rules_in}
+use Rattle.compat_check.proofs.Whole.{Shown, either, compatible_of, stored_of, labels_made, length_of_map}
+use Rattle.compat_check.proofs.check.check.Goals as goal
+
+-- the facts of the passes, of the lists that the mesh keeps
+passes_at : (vs vertices : List MacroVertex) (ts triples : List Triple) (sides : List (Option Side)) → vs ≡ vertices → ts ≡ triples → Passes vs ts sides → Passes vertices triples sides
+passes_at vs vertices ts triples sides v t h = subst (λ (y : List MacroVertex × List Triple). Passes y.0 y.1 sides) (λ i. (v i, t i)) h
+
+rules_at : (vertices : List MacroVertex) (triples : List Triple) (sides ss : List (Option Side)) (count : ℕ) → Passes vertices triples sides → ss ≡ sides → count ≡ length triples → InRange count (rules_before ss (length ss))
+rules_at vertices triples sides ss count passes s n =
+    let table = told_of vertices triples sides [] passes in
+    let places : length ss ≡ length triples * 3 = ap length s ∙ table.each in
+    subst (λ (y : ℕ × List (Option Side) × ℕ). InRange y.0 (rules_before y.1 y.2)) (λ i. (sym n i, sym s i, sym places i)) (rules_in _ sides table (length triples * 3) (omega arith))
+
+shown_at : (vertices : List MacroVertex) (triples : List Triple) (sides ss : List (Option Side)) (grades : List ℕ) (count : ℕ) → Passes vertices triples sides → ss ≡ sides → count ≡ length triples →
+    AreGrades count (rules_before ss (length ss)) grades → ((r : ℕ) → r < count → slice_index_or grades r 0 ≤ 24) → Shown vertices triples grades sides
+shown_at vertices triples sides ss grades count passes s n are low =
+    let places : length ss ≡ length triples * 3 = ap length s ∙ passes.table.sides_are.each in
+    record {
+      passes = passes;
+      grades_are = subst (λ (y : ℕ × List (Option Side) × ℕ). AreGrades y.0 (rules_before y.1 y.2) grades) (λ i. (n i, s i, places i)) are;
+      low = λ r hr. low r (omega (arith, n));
+    }
+
+made_at : (n m : ℕ) (sides ss : List (Option Side)) (labels : List (List ℤ)) → n ≡ m → ss ≡ sides → AreMadeLabels n ss labels → AreMadeLabels m sides labels
+made_at n m sides ss labels e s h = subst (λ (y : ℕ × List (Option Side)). AreMadeLabels y.0 y.1 labels) (λ i. (e i, s i)) h
+
+pub check_grades-requires-clause-rules : goal.check_grades-requires-clause-rules
+check_grades-requires-clause-rules c =
+    let passes = passes_at c.deref-2.result.now c.args.text.vertices.items c.deref-3.result.now c.in_ok-triples.triples.items c.in_ok-sides.sides.items c.deref-2.ensures.value c.deref-3.ensures.value c.in_ok-sides.ensures in
+    let count : c.len.result ≡ length c.in_ok-triples.triples.items = omega (arith, c.len.ensures) in
+    rules_at c.args.text.vertices.items c.in_ok-triples.triples.items c.in_ok-sides.sides.items c.deref-6.result.now c.len.result passes c.deref-6.ensures.value count
+
+pub invariant_of-result : goal.invariant_of-result
+invariant_of-result c =
+    let passes = passes_at c.deref-2.result.now c.args.text.vertices.items c.deref-3.result.now c.in_ok-triples.triples.items c.in_ok-sides.sides.items c.deref-2.ensures.value c.deref-3.ensures.value c.in_ok-sides.ensures in
+    let count : c.len.result ≡ length c.in_ok-triples.triples.items = omega (arith, c.len.ensures) in
+    let shown = shown_at c.args.text.vertices.items c.in_ok-triples.triples.items c.in_ok-sides.sides.items c.deref-6.result.now c.in_ok-grades.grades.items c.len.result passes c.deref-6.ensures.value count c.in_ok-grades.ensures.0 c.in_ok-grades.ensures.1 in
+    let elements = c.args.text.elements.items in
+    let each : length c.in_ok-triples.triples.items ≡ length elements = length_of_map elements (List ℕ) (λ e. e.corners) c.in_ok-triples.triples.items (c.in_ok-triples.ensures ∙ ap (map (λ (e : MacroElem). e.corners)) c.deref.ensures.value) in
+    let each_label : length c.in_ok-labels.labels.items ≡ length elements = either (length c.in_ok-labels.labels.items ≡ length elements) c.args.text.labels_given
+    (λ given. length_of_map elements (List ℤ) (λ e. e.labels) c.in_ok-labels.labels.items (c.in_ok-labels.ensures.given given ∙ ap (map (λ (e : MacroElem). e.labels)) c.deref-7.ensures.value))
+    (λ made. (c.in_ok-labels.ensures.made made).each ∙ ap length c.deref-7.ensures.value) in
+    let each_value : length c.in_ok-values.values.items ≡ length elements = length_of_map elements ℤ (λ e. e.value) c.in_ok-values.values.items (c.in_ok-values.ensures ∙ ap (map (λ (e : MacroElem). e.value)) c.deref-9.ensures.value) in
+    stored_of c.args.text.vertices.items c.in_ok-triples.triples.items c.in_ok-grades.grades.items c.in_ok-labels.labels.items c.in_ok-values.values.items c.in_ok-sides.sides.items c.valid_tells.ensures shown
+    (omega (arith, c.args.text.some_vertices.1)) (omega (arith, each, c.args.text.some_elements.1)) (each_label ∙ sym each) (each_value ∙ sym each)
+
+pub returns : goal.returns
+returns c =
+    let passes = passes_at c.deref-2.result.now c.args.text.vertices.items c.deref-3.result.now c.in_ok-triples.triples.items c.in_ok-sides.sides.items c.deref-2.ensures.value c.deref-3.ensures.value c.in_ok-sides.ensures in
+    let count : c.len.result ≡ length c.in_ok-triples.triples.items = omega (arith, c.len.ensures) in
+    let shown = shown_at c.args.text.vertices.items c.in_ok-triples.triples.items c.in_ok-sides.sides.items c.deref-6.result.now c.in_ok-grades.grades.items c.len.result passes c.deref-6.ensures.value count c.in_ok-grades.ensures.0 c.in_ok-grades.ensures.1 in
+    let elements = c.args.text.elements.items in
+    let triples = c.in_ok-triples.ensures ∙ ap (map (λ (e : MacroElem). e.corners)) c.deref.ensures.value in
+    let each : length c.in_ok-triples.triples.items ≡ length elements = length_of_map elements (List ℕ) (λ e. e.corners) c.in_ok-triples.triples.items triples in
+    let compatible = compatible_of c.args.text.vertices.items c.in_ok-triples.triples.items c.in_ok-grades.grades.items c.in_ok-sides.sides.items shown in
+    record {
+      vertices = refl;
+      triples = triples;
+      values = c.in_ok-values.ensures ∙ ap (map (λ (e : MacroElem). e.value)) c.deref-9.ensures.value;
+      given = λ given. c.in_ok-labels.ensures.given given ∙ ap (map (λ (e : MacroElem). e.labels)) c.deref-7.ensures.value;
+      made = λ made.
+      let are = made_at (length c.deref-7.result.now) (length c.in_ok-triples.triples.items) c.in_ok-sides.sides.items c.deref-8.result.now c.in_ok-labels.labels.items (ap length c.deref-7.ensures.value ∙ sym each) c.deref-8.ensures.value (c.in_ok-labels.ensures.made made) in
+      (are.each, labels_made c.args.text.vertices.items c.in_ok-triples.triples.items c.in_ok-grades.grades.items c.in_ok-sides.sides.items passes c.in_ok-labels.labels.items are);
+      valid = (told_of c.args.text.vertices.items c.in_ok-triples.triples.items c.in_ok-sides.sides.items c.in_ok-grades.grades.items passes).valid;
+      compatible = compatible;
+    }
