@@ -6,7 +6,7 @@ use Rattle.std.specs.List.Sorted.{IsStrictlySortedBy}
 use Rattle.mesh_names.specs.Names.{Name, name_cmp}
 use Rattle.mesh_names.specs.Triangles.{Shape, size, level, grade_of}
 use Rattle.mesh_names.specs.Partners.{Across, Tells}
-use Rattle.mesh_names.specs.Forests.{Names, Has, IsForest, IsListOf, IsLeaf}
+use Rattle.mesh_names.specs.Forests.{Names, Has, IsForest, IsListOf, IsLeaf, IsInMesh}
 use Rattle.mesh_names.specs.Leaves.{leaves}
 use Rattle.mesh_names.specs.LeastForest.{Work, Reaches, CanHold, IsLeast, names_below, needs_of, least_forest}
 use Rattle.mesh_names.specs.Marks.{is_mark, names_leaf, marks_leaf, later, last_mark, effective_mark, bisections, work_of}
@@ -19,7 +19,6 @@ use Rattle.mesh_names.proofs.Marking.{marks_give_needs}
 use Rattle.mesh_names.proofs.Needs.{needs_can_be_held}
 use Rattle.mesh_names.proofs.Closing.{least_by_levels}
 use Rattle.mesh_names.proofs.Conforming.{conforms_by_partners}
-use Rattle.forest_plain.specs.Deltas.{IsInMesh}
 use Rattle.forest_plain.specs.Needed.{names_of, work_by}
 use Rattle.forest_plain.specs.Rounds.{IsDeepestLeaf, IsFine, IsGreatestIn, IsRefined, Stands}
 use Rattle.forest_plain.proofs.Counting.{len-retain}

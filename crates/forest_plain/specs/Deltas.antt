@@ -8,11 +8,6 @@ use Rattle.mesh_names.specs.Forests.{Names, IsListOf}
 use Rattle.mesh_names.specs.Patches.{owns, patch_of}
 use Rattle.mesh_names.specs.declared.patch.PatchName.{PatchName}
 
--- a name of the mesh, of a level that an element can have
-pub record IsInMesh (mesh : Shape) (n : Name) : Type 0 where
-  pub rooted : n.0 < size mesh
-  pub low : level mesh n ≤ 24
-
 -- the name owns a patch that is not in the old forest
 abbrev pub owns_new : Across → Names → Name → Bool
 owns_new across old n = not (contains old n) && owns across n

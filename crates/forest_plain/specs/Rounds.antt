@@ -53,7 +53,7 @@ pub record IsDeepestLeaf (mesh : Shape) (old : Names) (deepest : ℕ) : Type 0 w
   pub reached : level mesh leaf ≡ deepest
   pub greatest : (n : Name) → IsLeaf mesh old n → level mesh n ≤ deepest
 
--- the row asks for bisections of a leaf, down to a level above 24
+-- the row's mark is above 0, and its bisections of the deepest leaf that it names lead down to this level, above 24
 pub record IsTooDeep (mesh : Shape) (old : Names) (row : MarkRow) (deep : ℕ) : Type 0 where
   pub mark : is_mark row.what ≡ true
   pub positive : 0 < bisections row.number
@@ -96,7 +96,7 @@ pub record IsRefined (mesh : Shape) (old : Names) (rows : List MarkRow) (new : N
   pub are_needs : AreNeeds mesh old rows needs
   pub least : IsLeast mesh old needs new
 
--- a conforming forest with no more patches than the pool has room for
+-- a conforming forest with no more patches than the pool has room for, of which it has 1 to 1,048,576
 pub record Stands (mesh : Shape) (across : Across) (pool : ℕ) (members : Names) : Type 0 where
   pub forest : IsForest mesh members
   pub partners : HoldsPartners across members
@@ -112,7 +112,7 @@ pub record IsRound (mesh : Shape) (across : Across) (old : Names) (rows : List M
   pub died : delta.died.items ≡ []
 
 -- all rows can be done, and the refined forest has this many patches
-pub record Needs (mesh : Shape) (across : Across) (old : Names) (rows : List MarkRow) (patches : ℕ) : Type 0 where
+pub record NeedsPatches (mesh : Shape) (across : Across) (old : Names) (rows : List MarkRow) (patches : ℕ) : Type 0 where
   pub fine : All (IsFine mesh old) rows
   pub new : Names
   pub refined : IsRefined mesh old rows new
@@ -123,5 +123,5 @@ abbrev pub IsRoundRefusal : Shape → Across → ℕ → Names → List MarkRow 
 IsRoundRefusal mesh across room old rows (NotALeaf row) = IsFirstFault mesh old rows (NotALeaf row)
 IsRoundRefusal mesh across room old rows (LevelTooDeep row deep) = IsFirstFault mesh old rows (LevelTooDeep row deep)
 IsRoundRefusal mesh across room old rows (PoolFull needed kept pool) =
-    (patches : ℕ) × Needs mesh across old rows patches × (room < patches) × (needed ≡ min patches 4294967295) × (kept ≡ 0) × (pool ≡ room)
+    (patches : ℕ) × NeedsPatches mesh across old rows patches × (room < patches) × (needed ≡ min patches 4294967295) × (kept ≡ 0) × (pool ≡ room)
 IsRoundRefusal mesh across room old rows Memory = Unit {0}

@@ -1,9 +1,9 @@
 //! What a round adds to a forest.
 ghost use Rattle.std.specs.Prelude.{◌≡◌, [], ◌∷◌, ◌++◌, All, IfOk, OnOk};
-ghost use Rattle.mesh_names.specs.Forests.{IsForest};
+ghost use Rattle.mesh_names.specs.Forests.{IsForest, IsInMesh};
 ghost use Rattle.mesh_names.specs.Patches.{owns, patch_count, patch_of};
 ghost use Rattle.compat_check.specs.Meshes.{across_in, shape_of};
-ghost use Rattle.forest_plain.specs.Deltas.{IsInMesh, new_owners, owns_new, patches_at, patches_below};
+ghost use Rattle.forest_plain.specs.Deltas.{new_owners, owns_new, patches_at, patches_below};
 
 use crate::name_set::NameSet;
 use compat_check::mesh::MacroMesh;

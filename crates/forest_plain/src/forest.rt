@@ -1,12 +1,11 @@
 //! The plain forest.
 ghost use Rattle.std.specs.Prelude.{◌≡◌, ◌<◌, ◌≤◌, ◌↔◌, All, IfErr, IfOk, IsTrue, OnErr, OnOk};
 ghost use Rattle.std.specs.FinSet.{empty};
-ghost use Rattle.mesh_names.specs.Forests.{IsLeaf, IsListOf};
+ghost use Rattle.mesh_names.specs.Forests.{IsInMesh, IsLeaf, IsListOf};
 ghost use Rattle.mesh_names.specs.Leaves.{leaves};
 ghost use Rattle.mesh_names.specs.Marks.{IsWellFormed};
 ghost use Rattle.mesh_names.specs.Patches.{patch_count};
 ghost use Rattle.compat_check.specs.Meshes.{across_in, shape_of};
-ghost use Rattle.forest_plain.specs.Deltas.{IsInMesh};
 ghost use Rattle.forest_plain.specs.Rounds.{IsFine, IsFirstFault, IsRefined, IsRound, IsRoundRefusal, IsRowsRefusal, Stands};
 
 use crate::closing::close;

@@ -17,18 +17,23 @@ Has names n = contains names n ≡ true
 abbrev pub Within : Names → Names → Type 0
 Within fewer more = (n : Name) → Has fewer n → Has more n
 
--- the list of a set's names, in their order
+-- the list has the names of the set, each once, in their order
 pub record IsListOf (names : Names) (list : List Name) : Type 0 where
   pub in_order : IsStrictlySortedBy name_cmp list
   pub all : from_list list ≡ names
 
--- the bisected elements: names of the mesh, none of which has a child above level 24, each with its parent
+-- a forest, by its members, the bisected elements: names of the mesh of level at most 23, with the parent of each
 pub record IsForest (mesh : Shape) (members : Names) : Type 0 where
   pub rooted : (n : Name) → Has members n → n.0 < size mesh
   pub shallow : (n : Name) → Has members n → level mesh n ≤ 23
   pub closed : (root : ℕ) (b : Bool) (w : List Bool) → Has members (root, b ∷ w) → Has members (root, w)
 
--- a leaf: no member, and a macro element or a member's child
+-- a name of the mesh, of a level that an element can have
+pub record IsInMesh (mesh : Shape) (n : Name) : Type 0 where
+  pub rooted : n.0 < size mesh
+  pub low : level mesh n ≤ 24
+
+-- a leaf: a macro element or a member's child that is no member
 pub record IsLeaf (mesh : Shape) (members : Names) (n : Name) : Type 0 where
   pub rooted : n.0 < size mesh
   pub unsplit : contains members n ≡ false

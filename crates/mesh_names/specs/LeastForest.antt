@@ -55,12 +55,12 @@ partner_at mesh x l n = cond (eqb (level mesh n) l) (option_map (λ (m : Name ×
 abbrev pub parent_at : Shape → ℕ → Name → Option Name
 parent_at mesh l n = cond (eqb (level mesh n) l) (option_map (λ (w : List Bool). (n.0, w)) (parent_of n.1)) None
 
--- level by level, from the level before l down: the partners of its names, then the parents of its names
+-- going through the levels below l, from the greatest down: at each first the partners of its names are added, and then the parents of its names
 unfoldable pub closed_below : Shape → Across → ℕ → Names → Names
 closed_below mesh x zero names = names
 closed_below mesh x (suc l) names = closed_below mesh x l (grown_by (parent_at mesh l) (grown_by (partner_at mesh x l) names))
 
--- the least forest, level by level
+-- the least forest that holds the old one and the needs, got level by level
 abbrev pub least_forest : Shape → Across → Names → Names → Names
 least_forest mesh x old needs = closed_below mesh x 24 (union old needs)
 

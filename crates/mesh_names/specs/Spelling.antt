@@ -38,6 +38,7 @@ pub record Spells (text : List ℕ) (n : Name) : Type 0 where
   pub rooted : n.0 < 65535
   pub shallow : depth n ≤ 24
 
+-- the byte is the point between root and letters
 abbrev pub is_point : ℕ → Bool
 is_point c = c == 46
 

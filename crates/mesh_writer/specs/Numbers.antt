@@ -11,11 +11,6 @@ use Rattle.compat_check.specs.Meshes.{Mesh, shape_of, across_in}
 use Rattle.mesh_writer.specs.Numbering.{is_among}
 use Rattle.mesh_writer.specs.declared.numbering.Numbers.{Numbers}
 
--- a name of the mesh, of a level that an element can have
-pub record IsInMesh (mesh : Shape) (n : Name) : Type 0 where
-  pub rooted : n.0 < size mesh
-  pub low : level mesh n ≤ 24
-
 -- the keys of this many macro vertices
 abbrev pub macro_keys : ℕ → List VertexKey
 macro_keys zero = []

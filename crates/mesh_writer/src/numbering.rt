@@ -1,9 +1,10 @@
 //! Numbers for the vertices of a mesh.
 ghost use Rattle.std.specs.Prelude.{◌≡◌, map, length, All, IfOk, OnOk, IsSome, [], ◌∷◌};
 ghost use Rattle.mesh_names.specs.Patches.{vertex_of};
+ghost use Rattle.mesh_names.specs.Forests.{IsInMesh};
 ghost use Rattle.compat_check.specs.Meshes.{shape_of};
 ghost use Rattle.mesh_writer.specs.Numbering.{corners_of, macro_vertices, vertices, with_new};
-ghost use Rattle.mesh_writer.specs.Numbers.{Adds, AreNumbers, IsInMesh, IsKeyOf, macro_keys, told, written_in};
+ghost use Rattle.mesh_writer.specs.Numbers.{Adds, AreNumbers, IsKeyOf, macro_keys, told, written_in};
 
 use crate::refusal::WriterRefusal;
 use compat_check::mesh::MacroMesh;

@@ -1,8 +1,9 @@
 //! The text of a mesh.
 ghost use Rattle.std.specs.Prelude.{◌≡◌, ◌++◌, [], ◌∷◌, map, length, All, IfOk, OnOk};
 ghost use Rattle.std.specs.Fmt.{decimal};
+ghost use Rattle.mesh_names.specs.Forests.{IsInMesh};
 ghost use Rattle.compat_check.specs.Meshes.{shape_of};
-ghost use Rattle.mesh_writer.specs.Numbers.{AreNumbers, IsInMesh, IsWritten, written_in};
+ghost use Rattle.mesh_writer.specs.Numbers.{AreNumbers, IsWritten, written_in};
 ghost use Rattle.mesh_writer.specs.MeshText.{heading, leaf_line, lines_text, mesh_text, triple_line};
 
 use crate::numbering::Numbers;

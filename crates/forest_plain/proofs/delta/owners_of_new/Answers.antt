@@ -2,7 +2,8 @@ use Rattle.std.proofs.Common.{sym, ap, ◌∙◌, subst, List}
 use Rattle.std.specs.Prelude.{All}
 use Rattle.mesh_names.specs.Names.{Name}
 use Rattle.compat_check.specs.Meshes.{across_in, shape_of}
-use Rattle.forest_plain.specs.Deltas.{IsInMesh, owns_new}
+use Rattle.mesh_names.specs.Forests.{IsInMesh}
+use Rattle.forest_plain.specs.Deltas.{owns_new}
 use Rattle.forest_plain.proofs.Filtering.{filter-kept, filter-skipped}
 use Rattle.forest_plain.proofs.RowOrder.{all-push, all_at}
 use Rattle.forest_plain.proofs.delta.owners_of_new.Goals as goal
