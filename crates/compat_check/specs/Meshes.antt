@@ -39,6 +39,7 @@ pub record IsChecked (mesh : Mesh) : Type 0 where
   pub graded : IsGraded mesh.shape
   pub tells : Tells mesh.shape (across_in mesh)
   pub low : (r : ℕ) → r < size mesh.shape → grade_of mesh.shape r ≤ 24
+  pub some : 0 < size mesh.shape
   pub few : size mesh.shape ≤ 65535
   pub few_vertices : length mesh.vertices ≤ 65535
   pub corners : (r k : ℕ) → r < size mesh.shape → k < 3 → corner_of (triple_of mesh.shape r) k < length mesh.vertices

@@ -1,2 +1,13 @@
 pub mod Cuts
 pub mod WordLemmas
+pub mod TokenLemmas
+pub mod LineLemmas
+pub mod SectionLemmas
+pub mod NumberLemmas
+pub mod StepLemmas
+pub mod ListLemmas
+pub mod CountLemmas
+pub mod RangeLemmas
+pub mod LookupLemmas
+pub mod AssemblyLemmas
+pub mod ReaderLemmas

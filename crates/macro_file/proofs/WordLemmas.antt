@@ -1,5 +1,5 @@
 -- The words of a text, from the front.
-use Rattle.std.proofs.Common.{◌==◌, ◌≡◌, ℕ, suc, List, [], ◌∷◌, ◌++◌, Bool, true, false, not, cond, length, take, drop, ◌+◌, ◌<◌, ◌≤◌, filter, ◌∙◌, inl, inr, ⊎_elim, refl, sym, ap, subst, arith}
+use Rattle.std.proofs.Common.{◌==◌, ◌≡◌, ℕ, List, [], ◌∷◌, true, false, not, length, take, drop, ◌≤◌, filter, ◌∙◌, ⊎_elim, refl, sym, ap, subst, arith}
 use Rattle.std.specs.List.{position_or_len, slice_split, onto_first}
 use Rattle.std.proofs.lemmas.Bool.Decides.{nat_tests}
 use Rattle.std.proofs.lemmas.Bool.{cases_Bool, not_from_true, not_from_false}

@@ -44,5 +44,5 @@ abbrev pub same_words : List ℕ → List ℕ → Bool
 same_words a b = pointwise str_eq_ignore_ascii_case (words a) (words b)
 
 -- the key that a text is
-abbrev pub keyword_of : List ℕ → Option Keyword
+unfoldable pub keyword_of : List ℕ → Option Keyword
 keyword_of text = find (λ k. same_words text (spelling k)) keywords

@@ -3,7 +3,10 @@ pub mod Steps
 pub mod Lines
 pub mod Keywords
 pub mod Sections
+pub mod Walks
 pub mod Numbers
+pub mod Capped
 pub mod Meaning
+pub mod Places
 pub mod Text
 pub mod Examples

@@ -1,5 +1,5 @@
 -- The lines of a file, and the words of a line.
-use Rattle.std.specs.Prelude.{ℕ, Bool, true, false, List, [], ◌∷◌, map, cond, ◌==◌, ◌&&◌, ◌||◌, filter, Option, Some, None}
+use Rattle.std.specs.Prelude.{ℕ, Bool, true, false, List, [], ◌∷◌, cond, ◌==◌, ◌&&◌, ◌||◌, filter, Option, Some, None}
 use Rattle.std.specs.List.{onto_first, slice_split}
 
 -- whether a newline comes next

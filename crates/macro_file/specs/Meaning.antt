@@ -7,6 +7,7 @@ use Rattle.macro_file.specs.declared.refusal.Key.{Key}
 use Rattle.macro_file.specs.declared.refusal.Key.TheVariants.{VertexCount as vertex_count, ElementCount as element_count, Coordinates as coordinates, Triples as triples}
 use Rattle.macro_file.specs.declared.refusal.MacroRefusal.{MacroRefusal}
 use Rattle.macro_file.specs.declared.refusal.MacroRefusal.TheVariants.{KeyMissing, CountDiffers}
+use Rattle.macro_file.specs.declared.counts.Counts.{Counts}
 use Rattle.macro_file.specs.Steps.{then, each}
 use Rattle.macro_file.specs.Keywords.{same}
 use Rattle.macro_file.specs.Sections.{Section, stands, sections}
@@ -64,11 +65,6 @@ single_in (Some s) = then (numbers 1 s) (λ zs. Ok (number_at zs 0))
 abbrev pub single : Keyword → List Section → Result ℤ MacroRefusal
 single k ss = single_in (find (λ (s : Section). same s.keyword k) ss)
 
--- how many vertices and elements there are
-pub record Counts : Type 0 where
-  pub vertices : ℕ
-  pub elements : ℕ
-
 -- step 3: the numbers of the first four keys
 abbrev pub counts : List Section → Result Counts MacroRefusal
 counts ss = then (single Dim ss) (λ _. then (single DimOfWorld ss) (λ _. then (single VertexCount ss) (λ v. then (single ElementCount ss) (λ e. Ok (record { vertices = nat_abs v; elements = nat_abs e })))))
@@ -124,6 +120,10 @@ made n ls = record {
   neighbours_given = is_some (listed Neighbours ls);
 }
 
--- what the bytes of a macro file mean
+-- what the sections of a file mean: steps 2 to 4
+abbrev pub sections_mean : List Section → Result Macro MacroRefusal
+sections_mean all = then (complete all) (λ ss. then (counts ss) (λ n. then (lists n ss) (λ ls. Ok (made n ls))))
+
+-- what the bytes of a macro file mean: step 1, and the others
 abbrev pub meaning : List ℕ → Result Macro MacroRefusal
-meaning bytes = then (sections bytes) (λ all. then (complete all) (λ ss. then (counts ss) (λ n. then (lists n ss) (λ ls. Ok (made n ls)))))
+meaning bytes = then (sections bytes) sections_mean

@@ -1,8 +1,8 @@
 -- The number that a word gives to the section of a key, or why it gives none.
-use Rattle.std.specs.Prelude.{ℕ, ℤ, pos, negsuc, neg_ℤ, List, length, cond, ◌==◌, ◌&&◌, nat_le, ◌^◌, int_lt, Option, Some, None, Result, Ok, Err}
-use Rattle.decimals.specs.Decimal.{is_minus, unsigned, after_digits, number, with_sign, fine_units}
-use Rattle.decimals.specs.declared.read.DecimalRefusal.{DecimalRefusal}
-use Rattle.decimals.specs.declared.read.DecimalRefusal.TheVariants.{NotANumber as not_a_number, CoordRange as out_of_range}
+use Rattle.std.specs.Prelude.{ℕ, ℤ, pos, neg_ℤ, List, length, cond, ◌==◌, ◌&&◌, nat_le, ◌^◌, int_lt, Option, Some, None, Result, Ok, Err}
+use Rattle.mesh_io.specs.Decimals.{is_minus, unsigned, after_digits, number, with_sign, fine_units}
+use Rattle.mesh_io.specs.declared.decimal.DecimalRefusal.{DecimalRefusal}
+use Rattle.mesh_io.specs.declared.decimal.DecimalRefusal.TheVariants.{NotANumber as not_a_number, CoordRange as out_of_range}
 use Rattle.macro_file.specs.declared.keyword.Keyword.{Keyword}
 use Rattle.macro_file.specs.declared.keyword.Keyword.TheVariants.{Dim, DimOfWorld, VertexCount, ElementCount, Coordinates, Triples, Labels, Neighbours, VertexValues, ElementValues}
 use Rattle.macro_file.specs.declared.refusal.MacroRefusal.{MacroRefusal}

@@ -1,5 +1,5 @@
 -- The sections of a file: a key, and the words up to the next key.
-use Rattle.std.specs.Prelude.{ℕ, Bool, List, [], ◌∷◌, ◌++◌, map, ◌+◌, cond, find, Option, Some, None, Result, Ok, Err}
+use Rattle.std.specs.Prelude.{ℕ, Bool, List, [], ◌∷◌, ◌++◌, map, ◌+◌, cond, Option, Some, None, Result, Ok, Err}
 use Rattle.std.specs.List.{list_any}
 use Rattle.macro_file.specs.declared.keyword.Keyword.{Keyword}
 use Rattle.macro_file.specs.declared.refusal.MacroRefusal.{MacroRefusal}

@@ -50,6 +50,7 @@ pub fn spelling(keyword: Keyword) -> &'static str
 }
 
 /// The key that the text is.
+#[tactic(auto, unfolding(crate::specs::Keywords::keyword_of))]
 pub fn keyword_of(text: &[u8]) -> Option<Keyword>
     ensures { result ≡ keyword_of text.now }
 {

@@ -6,11 +6,26 @@
 //! first fault by line; `put_macro` writes a macro text as bytes that are read again as the same text.
 #![tactic(auto)]
 
+mod assembly;
+mod counts;
 mod keyword;
-mod words;
 pub mod laws;
+mod lines;
+mod lists;
+mod lookup;
+mod memory;
+mod numbers;
+mod reader;
 mod refusal;
+mod section;
+mod sections;
 mod text;
+mod tokens;
+mod words;
 
+pub use reader::read_macro;
 pub use refusal::{Key, MacroRefusal};
 pub use text::{MacroElem, MacroText, MacroVertex};
+
+#[cfg(test)]
+mod tests;

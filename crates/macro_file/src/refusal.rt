@@ -14,6 +14,17 @@ pub enum Key {
     Triples,
 }
 
+impl fmt::Display for Key {
+    fn fmt<W: fmt::Write>(&self, f: &mut fmt::Formatter<W>) -> fmt::Result {
+        f.write_str(match self {
+            Key::VertexCount => "number of vertices",
+            Key::ElementCount => "number of elements",
+            Key::Coordinates => "vertex coordinates",
+            Key::Triples => "element vertices",
+        })
+    }
+}
+
 /// Why bytes are no macro text. Lines are counted from 1.
 #[derive(Debug, Clone, Copy, PartialEq, Eq, Drop, Error)]
 pub enum MacroRefusal {
@@ -24,7 +35,7 @@ pub enum MacroRefusal {
     #[error("line {line}: key twice")]
     KeyTwice { line: u32 },
     /// No line has this key.
-    #[error("key missing: {key:?}")]
+    #[error("key missing: {key}")]
     KeyMissing { key: Key },
     /// A word is no number of its list.
     #[error("line {line}: bad number")]

@@ -1,5 +1,5 @@
-ghost use Rattle.std.specs.Prelude.{◌≤◌, All, nat_abs, pos, negsuc, ◌≤ℤ◌, vec_len};
-ghost use Rattle.macro_file.specs.Limits.{AtMost};
+ghost use Rattle.std.specs.Prelude.{◌≤◌, ◌^◌, All, pos, neg_ℤ, vec_len};
+ghost use Rattle.macro_file.specs.Limits.{AtMost, Between};
 
 /// A vertex of a macro text: its coordinates in fine units, of which 40,960,000,000,000 are 1, and its
 /// value.
@@ -8,7 +8,7 @@ pub struct MacroVertex {
     pub x: i64,
     pub y: i64,
     pub value: i64,
-    ghost in_range: { AtMost 4096000000000000000 x × AtMost 4096000000000000000 y × AtMost 2147483648 value },
+    ghost in_range: { AtMost 4096000000000000000 x × AtMost 4096000000000000000 y × AtMost (2 ^ 31) value },
 }
 
 /// An element of a macro text. Edge i and neighbour i lie opposite corner i; a neighbour is an element's
@@ -20,8 +20,8 @@ pub struct MacroElem {
     pub neighbours: [i32; 3],
     pub value: i64,
     ghost corners_in_range: { All (λ c. c ≤ 65535) corners },
-    ghost neighbours_in_range: { All (λ n. (negsuc 0 ≤ℤ n) × (n ≤ℤ pos 65535)) neighbours },
-    ghost value_in_range: { AtMost 36028797018963968 value },
+    ghost neighbours_in_range: { All (Between (neg_ℤ (pos 1)) (pos 65535)) neighbours },
+    ghost value_in_range: { AtMost (2 ^ 55) value },
 }
 
 /// What a macro file says, before anything of it is checked but its numbers' ranges. Where labels or

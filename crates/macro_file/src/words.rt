@@ -11,8 +11,8 @@ pub fn is_blank(byte: u8) -> bool
     byte == b' ' || byte == b'\t'
 }
 
-// How many blanks stand at the front.
-fn blank_count(text: &[u8]) -> usize
+/// How many blanks stand at the front.
+pub fn blank_count(text: &[u8]) -> usize
     ensures value { result ≡ position_or_len (λ b. not (is_blank_byte b)) text.now }
     ensures within { result ≤ length text.now }
 {

@@ -9,7 +9,12 @@ pub mod Grades
 pub mod Squares
 pub mod Conforming
 pub mod Sets
+pub mod Booleans
+pub mod Inserting
+pub mod Leaving
+pub mod Marking
 pub mod Closing
 pub mod Needs
 pub mod Chains
 pub mod Reaching
+pub mod SpelledNames

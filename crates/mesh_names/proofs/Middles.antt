@@ -4,7 +4,7 @@ use native.Mathlib.Decide.{dec_lt}
 use Rattle.mesh_names.specs.Triangles.{Vertex, Corner, Mid, same, before, middle}
 
 -- One of two vertices comes before the other, and never both do, unless they are one
-same_self : (a : Vertex) → same a a ≡ true
+pub same_self : (a : Vertex) → same a a ≡ true
 same_self (Corner i) = eq-eqb i i refl
 same_self (Mid a b) = λ i. same_self a i && same_self b i
 
@@ -12,7 +12,7 @@ and_both : (a b : Bool) → (a && b) ≡ true → (a ≡ true) × (b ≡ true)
 and_both true b e = (refl, e)
 and_both false b e = absurd (true≢false (sym e))
 
-same-is : (a b : Vertex) → same a b ≡ true → a ≡ b
+pub same-is : (a b : Vertex) → same a b ≡ true → a ≡ b
 same-is (Corner i) (Corner j) e = ap Corner (eqb-true i j e)
 same-is (Corner i) (Mid c d) e = absurd (true≢false (sym e))
 same-is (Mid a b) (Corner j) e = absurd (true≢false (sym e))

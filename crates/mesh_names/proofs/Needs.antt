@@ -4,7 +4,7 @@ use Rattle.std.specs.FinSet.{from_list, contains-empty}
 use Rattle.mesh_names.specs.Names.{Name, name_cmp}
 use Rattle.mesh_names.specs.Triangles.{Shape, size, level}
 use Rattle.mesh_names.specs.Forests.{Has}
-use Rattle.mesh_names.specs.LeastForest.{Work, IsNeeded, names_below, needs_of, Reaches, NeedsAre, NeedsCanBeHeld}
+use Rattle.mesh_names.specs.LeastForest.{Work, IsAsked, names_below, needs_of, Reaches, NeedsAre, NeedsCanBeHeld}
 use Rattle.mesh_names.proofs.Sets.{In, has-in, in-has, in-append, in-first, in-second, union-either, union-left, union-right}
 
 abbrev IsBelow : ℕ → ℕ → List Bool → Name → Type 0
@@ -45,31 +45,31 @@ in-below (suc k) r w (b ∷ u) h =
     side f t false v h = in-first (r, v ++ false ∷ w) (names_below k r (false ∷ w)) (names_below k r (true ∷ w)) (f v h)
     side f t true v h = in-second (r, v ++ true ∷ w) (names_below k r (false ∷ w)) (names_below k r (true ∷ w)) (t v h)
 
-need-is : (work : Work) (n : Name) → Has (needs_of work) n → IsNeeded work n
+need-is : (work : Work) (n : Name) → Has (needs_of work) n → IsAsked work n
 need-is [] n h = true≢false (sym h ∙ contains-empty name_cmp n)
 need-is (a ∷ work) n h = ⊎_elim
     (λ k. inl (below-in a.1 a.0.0 a.0.1 n (has-in n (names_below a.1 a.0.0 a.0.1) k)))
     (λ k. inr (need-is work n k))
     (union-either (from_list (names_below a.1 a.0.0 a.0.1)) (needs_of work) n h)
 
-is-need : (work : Work) (n : Name) → IsNeeded work n → Has (needs_of work) n
+is-need : (work : Work) (n : Name) → IsAsked work n → Has (needs_of work) n
 is-need [] n h = absurd h
 is-need (a ∷ work) n h = ⊎_elim
     (λ (k : (u : List Bool) × (length u < a.1) × (n ≡ (a.0.0, u ++ a.0.1))).
     union-left (from_list (names_below a.1 a.0.0 a.0.1)) (needs_of work) n (in-has n (names_below a.1 a.0.0 a.0.1) (subst (λ (y : Name). In y (names_below a.1 a.0.0 a.0.1)) (sym k.2) (in-below a.1 a.0.0 a.0.1 k.0 k.1))))
-    (λ (k : IsNeeded work n). union-right (from_list (names_below a.1 a.0.0 a.0.1)) (needs_of work) n (is-need work n k))
+    (λ (k : IsAsked work n). union-right (from_list (names_below a.1 a.0.0 a.0.1)) (needs_of work) n (is-need work n k))
     h
 
 pub needs_are : NeedsAre
 needs_are work n = (need-is work n, is-need work n)
 
-need-low : (mesh : Shape) (work : Work) → Reaches mesh work → (n : Name) → IsNeeded work n → (n.0 < size mesh) × (level mesh n ≤ 23)
+need-low : (mesh : Shape) (work : Work) → Reaches mesh work → (n : Name) → IsAsked work n → (n.0 < size mesh) × (level mesh n ≤ 23)
 need-low mesh [] reaches n h = absurd h
 need-low mesh (a ∷ work) reaches n h = ⊎_elim
     (λ (k : (u : List Bool) × (length u < a.1) × (n ≡ (a.0.0, u ++ a.0.1))).
     let low : level mesh (a.0.0, k.0 ++ a.0.1) ≤ 23 = omega (arith, reaches.1, k.1, length-append k.0 a.0.1) in
     subst (λ (y : Name). (y.0 < size mesh) × (level mesh y ≤ 23)) (sym k.2) (reaches.0, low))
-    (λ (k : IsNeeded work n). need-low mesh work reaches.2 n k)
+    (λ (k : IsAsked work n). need-low mesh work reaches.2 n k)
     h
 
 pub needs_can_be_held : NeedsCanBeHeld

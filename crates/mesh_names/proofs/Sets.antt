@@ -1,5 +1,5 @@
 -- Members of sets of names.
-use Rattle.std.proofs.Common.{◌≡◌, ◌⊎◌, Bool, true, false, ◌||◌, true≢false, refl, sym, ap, ◌∙◌, subst, List, [], ◌∷◌, ◌++◌, inl, inr, ⊎_elim, filter_map}
+use Rattle.std.proofs.Common.{◌≡◌, ◌⊎◌, ℕ, zero, suc, ◌<◌, length, slice_index_or, arith, Bool, true, false, ◌||◌, true≢false, refl, sym, ap, ◌∙◌, subst, List, [], ◌∷◌, ◌++◌, inl, inr, ⊎_elim, filter_map}
 use Rattle.std.specs.Prelude.{Option, Some, None}
 use Rattle.std.specs.Ordering.{eq_by_cmp, is_eq}
 use Rattle.std.specs.Cmp.{Equal-is, tied_itself}
@@ -37,6 +37,12 @@ both_ways false false f g = refl
 abbrev pub In : Name → List Name → Type 0
 In q [] = ⊥
 In q (k ∷ ks) = (q ≡ k) ⊎ In q ks
+
+-- what stands at a place of a list is in it
+pub item-in : (ks : List Name) (i : ℕ) (d : Name) → i < length ks → In (slice_index_or ks i d) ks
+item-in [] i d h = absurd (omega (arith, h))
+item-in (k ∷ ks) zero d h = inl refl
+item-in (k ∷ ks) (suc i) d h = inr (item-in ks i d (omega (arith, h)))
 
 pub tied-same : (q k : Name) → eq_by_cmp name_cmp q k ≡ true → q ≡ k
 tied-same q k e = name_cmp-same q k ((Equal-is (name_cmp q k)).0 e)

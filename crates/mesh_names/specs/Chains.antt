@@ -22,24 +22,27 @@ abbrev pub at_parent : (Name → List Name) → ℕ → List Bool → List Name
 at_parent g r [] = []
 at_parent g r (b ∷ w) = g (r, w)
 
+-- what g gives for the parent of the partner, if there is one
 abbrev pub at_partner_parent : (Name → List Name) → Option (Name × Bool) → List Name
 at_partner_parent g None = []
 at_partner_parent g (Some m) = at_parent g m.0.0 m.0.1
 
--- the chain of a name of level k or below, as a list in which a name may stand more than once
+-- the chain of a name whose level is at most k, as a list in which a name may stand more than once
 unfoldable pub chain_list : Across → ℕ → Name → List Name
 chain_list x zero n = n ∷ []
 chain_list x (suc k) n = n ∷ (at_parent (chain_list x k) n.0 n.1 ++ at_partner_parent (chain_list x k) (partner x n.0 n.1))
 
+-- the chain of a name, as a set
 abbrev pub chain_of : Shape → Across → Name → Names
 chain_of mesh x n = from_list (chain_list x (level mesh n) n)
 
--- the law that a name has a chain, all of whose other names are of smaller levels
+-- the name has a chain, all of whose other names are of smaller levels
 pub record ChainStands (mesh : Shape) (x : Across) (n : Name) : Type 0 where
   pub chain : IsChain x n (chain_of mesh x n)
   pub rooted : (m : Name) → Has (chain_of mesh x n) m → m.0 < size mesh
   pub lower : (m : Name) → Has (chain_of mesh x n) m → (m ≡ n) ⊎ (level mesh m < level mesh n)
 
+-- the law that each name of the mesh has such a chain
 abbrev pub ChainsStand : Type 0
 ChainsStand = (mesh : Shape) (x : Across) → Tells mesh x → (n : Name) → n.0 < size mesh → ChainStands mesh x n
 

@@ -1,6 +1,7 @@
 -- Forests: finite sets of names that hold the parent of each member, their leaves, and conformity.
 use Rattle.std.specs.Prelude.{◌≡◌, ℕ, ◌<◌, ◌≤◌, Bool, true, false, List, ◌∷◌}
-use Rattle.std.specs.FinSet.{FinSet, contains}
+use Rattle.std.specs.FinSet.{FinSet, contains, from_list}
+use Rattle.std.specs.List.Sorted.{IsStrictlySortedBy}
 use Rattle.mesh_names.specs.Names.{Name, name_cmp}
 use Rattle.mesh_names.specs.Triangles.{Shape, Triangle, size, level, triangle, middle, IsCorner}
 
@@ -16,13 +17,23 @@ Has names n = contains names n ≡ true
 abbrev pub Within : Names → Names → Type 0
 Within fewer more = (n : Name) → Has fewer n → Has more n
 
--- the bisected elements: names of the mesh, none of which has a child above level 24, each with its parent
+-- the list has the names of the set, each once, in their order
+pub record IsListOf (names : Names) (list : List Name) : Type 0 where
+  pub in_order : IsStrictlySortedBy name_cmp list
+  pub all : from_list list ≡ names
+
+-- a forest, by its members, the bisected elements: names of the mesh of level at most 23, with the parent of each
 pub record IsForest (mesh : Shape) (members : Names) : Type 0 where
   pub rooted : (n : Name) → Has members n → n.0 < size mesh
   pub shallow : (n : Name) → Has members n → level mesh n ≤ 23
   pub closed : (root : ℕ) (b : Bool) (w : List Bool) → Has members (root, b ∷ w) → Has members (root, w)
 
--- a leaf: no member, and a macro element or a member's child
+-- a name of the mesh, of a level that an element can have
+pub record IsInMesh (mesh : Shape) (n : Name) : Type 0 where
+  pub rooted : n.0 < size mesh
+  pub low : level mesh n ≤ 24
+
+-- a leaf: a macro element or a member's child that is no member
 pub record IsLeaf (mesh : Shape) (members : Names) (n : Name) : Type 0 where
   pub rooted : n.0 < size mesh
   pub unsplit : contains members n ≡ false

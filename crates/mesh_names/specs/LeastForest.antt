@@ -10,16 +10,17 @@ use Rattle.mesh_names.specs.Partners.{Across, Tells, partner}
 abbrev pub Work : Type 0
 Work = List (Name × ℕ)
 
--- n lies below a leaf of the work, by fewer letters than the leaf is to be bisected
-abbrev pub IsNeeded : Work → Name → Type 0
-IsNeeded [] n = ⊥
-IsNeeded (a ∷ work) n = ((u : List Bool) × (length u < a.1) × (n ≡ (a.0.0, u ++ a.0.1))) ⊎ IsNeeded work n
+-- n lies at or below a leaf of the work, by fewer letters than the leaf is to be bisected
+abbrev pub IsAsked : Work → Name → Type 0
+IsAsked [] n = ⊥
+IsAsked (a ∷ work) n = ((u : List Bool) × (length u < a.1) × (n ≡ (a.0.0, u ++ a.0.1))) ⊎ IsAsked work n
 
 -- the names at and below (r, w) with fewer than k letters more
 unfoldable pub names_below : ℕ → ℕ → List Bool → List Name
 names_below zero r w = []
 names_below (suc k) r w = (r, w) ∷ (names_below k r (false ∷ w) ++ names_below k r (true ∷ w))
 
+-- all names at and below the leaves of the work that are asked for
 abbrev pub needs_of : Work → Names
 needs_of [] = empty
 needs_of (a ∷ work) = union (from_list (names_below a.1 a.0.0 a.0.1)) (needs_of work)
@@ -34,6 +35,7 @@ pub record CanHold (mesh : Shape) (names : Names) : Type 0 where
   pub rooted : (n : Name) → Has names n → n.0 < size mesh
   pub shallow : (n : Name) → Has names n → level mesh n ≤ 23
 
+-- the least conforming forest that holds the old one and the needs
 pub record IsLeast (mesh : Shape) (old needs new : Names) : Type 0 where
   pub forest : IsForest mesh new
   pub conforms : Conforms mesh new
@@ -53,17 +55,18 @@ partner_at mesh x l n = cond (eqb (level mesh n) l) (option_map (λ (m : Name ×
 abbrev pub parent_at : Shape → ℕ → Name → Option Name
 parent_at mesh l n = cond (eqb (level mesh n) l) (option_map (λ (w : List Bool). (n.0, w)) (parent_of n.1)) None
 
--- level by level, from the level before l down: the partners of its names, then the parents of its names
+-- going through the levels below l, from the greatest down: at each first the partners of its names are added, and then the parents of its names
 unfoldable pub closed_below : Shape → Across → ℕ → Names → Names
 closed_below mesh x zero names = names
 closed_below mesh x (suc l) names = closed_below mesh x l (grown_by (parent_at mesh l) (grown_by (partner_at mesh x l) names))
 
+-- the least forest that holds the old one and the needs, got level by level
 abbrev pub least_forest : Shape → Across → Names → Names → Names
 least_forest mesh x old needs = closed_below mesh x 24 (union old needs)
 
 -- the law that the set of needs has the needed names
 abbrev pub NeedsAre : Type 0
-NeedsAre = (work : Work) (n : Name) → (Has (needs_of work) n ↔ IsNeeded work n)
+NeedsAre = (work : Work) (n : Name) → (Has (needs_of work) n ↔ IsAsked work n)
 
 -- the law that needs within level 24 can be held
 abbrev pub NeedsCanBeHeld : Type 0

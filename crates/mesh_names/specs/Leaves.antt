@@ -1,5 +1,5 @@
 -- The leaves of a forest, as a set.
-use Rattle.std.specs.Prelude.{◌≡◌, ℕ, zero, suc, true, false, List, [], ◌∷◌, ◌++◌, ◌↔◌}
+use Rattle.std.specs.Prelude.{ℕ, zero, suc, true, false, List, [], ◌∷◌, ◌++◌, ◌↔◌}
 use Rattle.std.specs.FinSet.{difference, from_list, items}
 use Rattle.mesh_names.specs.Names.{Name}
 use Rattle.mesh_names.specs.Triangles.{Shape, size}
@@ -18,10 +18,6 @@ children (n ∷ ns) = (n.0, false ∷ n.1) ∷ (n.0, true ∷ n.1) ∷ children 
 -- the macro elements and the members' children that are not members
 abbrev pub leaves : Shape → Names → Names
 leaves mesh members = difference (from_list (tops (size mesh) ++ children (items members))) members
-
--- the leaves in the order of names
-abbrev pub leaf_list : Shape → Names → List Name
-leaf_list mesh members = items (leaves mesh members)
 
 -- the law that this set has the leaves of a forest, and no others
 abbrev pub LeavesAre : Type 0

@@ -13,3 +13,4 @@ pub mod Patches
 pub mod Marks
 pub mod Chains
 pub mod Reaching
+pub mod Spelling

@@ -1,8 +1,10 @@
 -- Effective marks and needs: what the rows of a round ask for.
-use Rattle.std.specs.Prelude.{◌≡◌, ℕ, ◌<◌, ℤ, pos, negsuc, Bool, true, false, cond, ◌&&◌, List, [], ◌∷◌, ◌++◌, length, Option, Some, None, unwrap_or}
+use Rattle.std.specs.Prelude.{◌≡◌, ℕ, ◌<◌, ◌≤◌, ℤ, pos, negsuc, Bool, true, false, cond, ◌&&◌, List, [], ◌∷◌, ◌++◌, length, map, Option, Some, None, unwrap_or}
 use Rattle.mesh_names.specs.Names.{Name, name_eq}
 use Rattle.mesh_names.specs.Triangles.{Shape}
-use Rattle.mesh_names.specs.Forests.{Names, Has, IsLeaf}
+use Rattle.mesh_names.specs.Forests.{Names, Has, IsForest, IsListOf, IsLeaf}
+use Rattle.mesh_names.specs.LeastForest.{Work, needs_of}
+use Rattle.mesh_names.specs.Leaves.{leaves}
 use Rattle.mesh_names.specs.declared.rows.MarkRow.{MarkRow}
 use Rattle.mesh_names.specs.declared.rows.What.{What}
 use Rattle.mesh_names.specs.declared.rows.What.TheVariants.{Mark, Elem as element_value, Vert as vertex_value}
@@ -24,6 +26,20 @@ names_leaf (Corner m k) n = false
 -- the row marks this leaf
 abbrev pub marks_leaf : MarkRow → Name → Bool
 marks_leaf row n = is_mark row.what && names_leaf row.place n
+
+-- a mark may name every leaf or one element
+abbrev pub takes_mark : Place → Bool
+takes_mark EveryLeaf = true
+takes_mark (Elem m) = true
+takes_mark (Corner m k) = false
+
+-- a row that a round takes: a mark from 0 to 24
+pub record IsWellFormed (row : MarkRow) : Type 0 where
+  pub mark : is_mark row.what ≡ true
+  pub place : takes_mark row.place ≡ true
+  pub times : ℕ
+  pub number : row.number ≡ pos times
+  pub small : times ≤ 24
 
 -- the later of two, where there is one
 abbrev pub later : Option ℤ → Option ℤ → Option ℤ
@@ -56,3 +72,11 @@ pub record IsNeeded (mesh : Shape) (old : Names) (rows : List MarkRow) (n : Name
 pub record AreNeeds (mesh : Shape) (old : Names) (rows : List MarkRow) (needs : Names) : Type 0 where
   pub needed : (n : Name) → Has needs n → IsNeeded mesh old rows n
   pub all : (n : Name) → IsNeeded mesh old rows n → Has needs n
+
+-- each leaf, and how often it is to be bisected
+abbrev pub work_of : List MarkRow → List Name → Work
+work_of rows list = map (λ (t : Name). (t, bisections (effective_mark rows t))) list
+
+-- the law that the needs of this work are what the rows ask for
+abbrev pub MarksGiveNeeds : Type 0
+MarksGiveNeeds = (mesh : Shape) (old : Names) (rows : List MarkRow) (list : List Name) → IsForest mesh old → IsListOf (leaves mesh old) list → AreNeeds mesh old rows (needs_of (work_of rows list))

@@ -10,6 +10,7 @@ use Rattle.std.specs.declared.cmp.Ordering.{Ordering}
 use Rattle.std.specs.declared.cmp.Ordering.TheVariants.{Less, Equal, Greater}
 use Rattle.mesh_names.specs.Names.{Name, name_cmp}
 
+-- the order is total
 pub name_cmp_total : IsTotalOrder name_cmp
 name_cmp_total = then_total (on_total (λ (n : Name). n.0) nat_cmp_total) (on_total (λ (n : Name). reverse n.1) (lists_total bool_cmp_total))
 
@@ -24,6 +25,7 @@ both_tie Less s e = absurd (cc)
 both_tie Equal s e = (refl, e)
 both_tie Greater s e = absurd (cc)
 
+-- names that tie are equal
 pub name_cmp-same : IsAntisymmetric name_cmp
 name_cmp-same m n e =
     let t = both_tie (nat_cmp m.0 n.0) (slice_cmp bool_cmp (reverse m.1) (reverse n.1)) e in

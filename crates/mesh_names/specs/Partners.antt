@@ -3,7 +3,7 @@ use Rattle.std.specs.Prelude.{◌≡◌, ◌<◌, ℕ, Bool, true, false, cond, 
 use Rattle.mesh_names.specs.Names.{Name}
 use Rattle.mesh_names.specs.Triangles.{Vertex, Triangle, Shape, size, level, triangle, top_of, midpoint}
 
--- the edges of a triangle; edge 2 is the refinement edge
+-- the edges of a triangle, each opposite the local vertex of its number; edge 2 is the refinement edge
 pub data Edge : Type 0 where
   Edge0 : Edge
   Edge1 : Edge
@@ -26,6 +26,7 @@ abbrev pub side_edge : Bool → Edge
 side_edge true = Edge0
 side_edge false = Edge1
 
+-- an edge, the other way round where told so
 abbrev pub turned_by : Bool → Vertex × Vertex → Vertex × Vertex
 turned_by t p = (cond t p.1 p.0, cond t p.0 p.1)
 
@@ -52,6 +53,7 @@ partner x r (true ∷ true ∷ w) = Some ((r, false ∷ false ∷ w), true)
 partner x r (true ∷ false ∷ w) = half_partner true (partner x r w)
 partner x r (false ∷ true ∷ w) = half_partner false (partner x r w)
 
+-- no two corners are equal
 abbrev pub Distinct : Triangle → Type 0
 Distinct t = (t.0 ≡ t.1 → ⊥) × (t.1 ≡ t.2 → ⊥) × (t.0 ≡ t.2 → ⊥)
 
@@ -59,7 +61,7 @@ Distinct t = (t.0 ≡ t.1 → ⊥) × (t.1 ≡ t.2 → ⊥) × (t.0 ≡ t.2 → 
 abbrev pub edge_middle : Shape → ℕ → Edge → Vertex
 edge_middle mesh r e = midpoint (triangle mesh (r, edge_word e))
 
--- the grades fit, and `across` tells all that two macro elements share
+-- `across` tells all that two macro elements share, and names of macro elements and their children with one refinement edge have one level
 pub record Tells (mesh : Shape) (across : Across) : Type 0 where
   pub distinct : (r : ℕ) → r < size mesh → Distinct (top_of mesh r)
   pub same : (r s : ℕ) (e f : Edge) (t : Bool) → across r e ≡ Some (s, f, t) → edge_at f (top_of mesh s) ≡ turned_by t (edge_at e (top_of mesh r))
@@ -81,16 +83,17 @@ abbrev pub PartnerIsOnly : Type 0
 PartnerIsOnly = (mesh : Shape) (across : Across) → Tells mesh across → (r s : ℕ) (v w : List Bool) → r < size mesh → s < size mesh → midpoint (triangle mesh (r, v)) ≡ midpoint (triangle mesh (s, w)) →
     ((r ≡ s) × (v ≡ w)) ⊎ ((t : Bool) × (partner across r v ≡ Some ((s, w), t)))
 
--- the law that a partner is another name of the mesh and of the same level, and that a name is the partner of its partner
+-- m is another name of the mesh and of the same level as n, and has n as its partner
 pub record IsPartner (mesh : Shape) (across : Across) (n m : Name) : Type 0 where
   pub rooted : m.0 < size mesh
   pub other : m ≡ n → ⊥
   pub level : level mesh m ≡ level mesh n
   pub back : (t : Bool) × (partner across m.0 m.1 ≡ Some (n, t))
 
+-- the law that a partner is another name of the mesh and of the same level, and that a name is the partner of its partner
 abbrev pub PartnersPair : Type 0
 PartnersPair = (mesh : Shape) (across : Across) → Tells mesh across → (n m : Name) (t : Bool) → n.0 < size mesh → partner across n.0 n.1 ≡ Some (m, t) → IsPartner mesh across n m
 
--- q is p, or has its refinement edge
+-- q is p, or is its partner
 abbrev pub InPatch : Across → Name → Name → Type 0
 InPatch across p q = (q ≡ p) ⊎ ((t : Bool) × (partner across p.0 p.1 ≡ Some (q, t)))

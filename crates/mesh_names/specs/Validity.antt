@@ -9,6 +9,7 @@ ends_of t Edge0 = (corner_of t 1, corner_of t 2)
 ends_of t Edge1 = (corner_of t 2, corner_of t 0)
 ends_of t Edge2 = (corner_of t 0, corner_of t 1)
 
+-- the two pairs are one, as unordered pairs
 abbrev pub IsSamePair : ℕ × ℕ → ℕ × ℕ → Type 0
 IsSamePair p q = ((p.0 ≡ q.0) × (p.1 ≡ q.1)) ⊎ ((p.0 ≡ q.1) × (p.1 ≡ q.0))
 
@@ -16,6 +17,7 @@ IsSamePair p q = ((p.0 ≡ q.0) × (p.1 ≡ q.1)) ⊎ ((p.0 ≡ q.1) × (p.1 ≡
 abbrev pub Shares : Shape → ℕ → Edge → ℕ → Edge → Type 0
 Shares mesh r e s f = IsSamePair (ends_of (triple_of mesh r) e) (ends_of (triple_of mesh s) f)
 
+-- v is one of the triple's vertices
 abbrev pub HasCorner : Triple → ℕ → Type 0
 HasCorner t v = (v ≡ corner_of t 0) ⊎ (v ≡ corner_of t 1) ⊎ (v ≡ corner_of t 2)
 
@@ -29,6 +31,7 @@ pub record IsValid (mesh : Shape) : Type 0 where
   pub no_twins : (r s : ℕ) → r < size mesh → s < size mesh → (r ≡ s → ⊥) → IsTwin (triple_of mesh r) (triple_of mesh s) → ⊥
   pub no_third : (r s q : ℕ) (e f g : Edge) → r < size mesh → s < size mesh → q < size mesh → (r ≡ s → ⊥) → (r ≡ q → ⊥) → Shares mesh r e s f → Shares mesh r e q g → s ≡ q
 
+-- whether this is the refinement edge
 abbrev pub is_refined : Edge → Bool
 is_refined Edge0 = false
 is_refined Edge1 = false
@@ -62,9 +65,11 @@ first_edge None (Some t) c = Some (Edge1, t)
 first_edge None None (Some t) = Some (Edge2, t)
 first_edge None None None = None
 
+-- which edge of the triple has these ends, and whether they are the other way round there
 abbrev pub edge_in : ℕ × ℕ → Triple → Option (Edge × Bool)
 edge_in p t = first_edge (match_pair p (ends_of t Edge0)) (match_pair p (ends_of t Edge1)) (match_pair p (ends_of t Edge2))
 
+-- what was found in element s, or else the rest
 abbrev pub found_in : ℕ → Option (Edge × Bool) → Option (ℕ × Edge × Bool) → Option (ℕ × Edge × Bool)
 found_in s (Some a) rest = Some (s, a.0, a.1)
 found_in s None rest = rest

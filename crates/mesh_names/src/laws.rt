@@ -6,6 +6,8 @@ ghost use Rattle.mesh_names.specs.Squares.{SquaresFit};
 ghost use Rattle.mesh_names.specs.Conformity.{ConformsByPartners};
 ghost use Rattle.mesh_names.specs.Reaching.{LeastByChains};
 ghost use Rattle.mesh_names.specs.LeastForest.{LeastByLevels, LeastIsOne, NeedsAre, NeedsCanBeHeld};
+ghost use Rattle.mesh_names.specs.Leaves.{LeavesAre};
+ghost use Rattle.mesh_names.specs.Marks.{MarksGiveNeeds};
 ghost use Rattle.mesh_names.specs.Chains.{ChainWithin, ChainsStand};
 
 /// A valid and graded mesh tells what lies across each edge.
@@ -66,6 +68,16 @@ pub fn needs_are()
 /// Needs within level 24 can be held.
 pub fn needs_can_be_held()
     ensures { NeedsCanBeHeld }
+{}
+
+/// The set of leaves has the leaves of a forest, and no others.
+pub fn leaves_are()
+    ensures { LeavesAre }
+{}
+
+/// Effective marks, from the last row that names a leaf, give the needs.
+pub fn marks_give_needs()
+    ensures { MarksGiveNeeds }
 {}
 
 /// A name has a chain, whose other names are of smaller levels.

@@ -8,3 +8,4 @@ pub mod laws;
 pub mod name;
 pub mod patch;
 pub mod rows;
+pub mod spelling;

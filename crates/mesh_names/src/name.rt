@@ -1,5 +1,5 @@
 //! Names of elements.
-ghost use Rattle.std.specs.Prelude.{◌≡◌, ◌<◌, [], ◌∷◌, MatchOption, option_map};
+ghost use Rattle.std.specs.Prelude.{◌≡◌, ◌<◌, ◌≤◌, [], ◌∷◌, MatchOption, option_map};
 ghost use Rattle.std.proofs.Common.{rules};
 ghost use Rattle.std.specs.Cmp.{partial_order_from_own_ties};
 ghost use Rattle.std.specs.Cmp.Rules.{comparing};
@@ -59,7 +59,8 @@ impl ElemName {
 
     /// How many bisections lie between the macro element and this element, at most 24.
     pub fn depth(self) -> u8
-        ensures { result ≡ depth self }
+        ensures depth { result ≡ depth self }
+        ensures small { result ≤ 24 }
     {
         self.level
     }

@@ -1,4 +1,4 @@
-use Rattle.std.proofs.Common.{not, sym, ◌∙◌, ap, arith}
+use Rattle.std.proofs.Common.{not, sym, ◌∙◌, arith}
 use Rattle.std.proofs.lemmas.Bool.{not_from_true, not_from_false}
 use Rattle.macro_file.specs.Lines.{is_blank}
 use Rattle.macro_file.proofs.Cuts.{first_is, none_is}

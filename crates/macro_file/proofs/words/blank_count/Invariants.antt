@@ -1,4 +1,4 @@
-use Rattle.std.proofs.Common.{◌≡◌, ℕ, ◌<◌, get_or, true, false}
+use Rattle.std.proofs.Common.{◌≡◌, ℕ, ◌<◌, get_or, true}
 use Rattle.macro_file.specs.Lines.{is_blank}
 use Rattle.macro_file.proofs.words.blank_count.Given as goal
 

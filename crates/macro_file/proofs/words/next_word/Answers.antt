@@ -1,6 +1,6 @@
-use Rattle.std.proofs.Common.{◌≡◌, ◌∷◌, ◌∙◌, ◌-◌, ◌≤◌, sym, ap, take, drop, length, true, false, arith}
+use Rattle.std.proofs.Common.{◌∷◌, ◌∙◌, ◌-◌, sym, ap, take, drop, length}
 use Rattle.std.proofs.lemmas.List.{take_rest}
-use Rattle.std.proofs.lemmas.Bool.{eqb-true, eqb-false}
+use Rattle.std.proofs.lemmas.Bool.{eqb-true}
 use Rattle.macro_file.specs.Lines.{words}
 use Rattle.macro_file.proofs.WordLemmas.{words-first, words-none, some_left}
 use Rattle.macro_file.proofs.words.next_word.Goals as goal

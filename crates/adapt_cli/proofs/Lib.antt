@@ -1,0 +1,5 @@
+pub mod RoundOrder
+pub mod Loading
+pub mod Outcomes
+pub mod Parts
+pub mod Endings

@@ -1,0 +1,11 @@
+#![tactic(auto)]
+//! The program `adapt` as one call.
+
+pub mod ending;
+pub mod fault;
+pub mod load;
+pub mod macro_lines;
+pub mod outcome;
+pub mod program;
+pub mod rounds;
+pub mod words;

@@ -1,0 +1,10 @@
+pub mod Holding
+pub mod LeafSets
+pub mod MarkRows
+pub mod NeededNames
+pub mod RowOrder
+pub mod Worklist
+pub mod Counting
+pub mod Filtering
+pub mod LevelOrder
+pub mod Refining

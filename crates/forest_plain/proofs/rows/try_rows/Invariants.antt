@@ -1,0 +1,8 @@
+use Rattle.std.proofs.Common.{take}
+use Rattle.std.specs.Prelude.{All}
+use Rattle.compat_check.specs.Meshes.{shape_of}
+use Rattle.forest_plain.specs.Rounds.{IsFine}
+use Rattle.forest_plain.proofs.rows.try_rows.Given as goal
+
+abbrev pub invariant-loop-row : goal.invariant-loop-row
+invariant-loop-row l = All (IsFine (shape_of l.mesh) l.members) (take l.row-index l.rows)

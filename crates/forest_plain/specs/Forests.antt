@@ -1,0 +1,23 @@
+-- A plain forest, as contracts see it.
+use Rattle.std.specs.Prelude.{ℕ}
+use Rattle.mesh_names.specs.Forests.{Names}
+use Rattle.mesh_names.specs.Triangles.{Shape}
+use Rattle.mesh_names.specs.Partners.{Across}
+use Rattle.compat_check.specs.Meshes.{shape_of, across_in}
+use Rattle.forest_plain.specs.declared.forest.PlainForest.{PlainForest}
+
+-- the bisected elements
+abbrev pub members_of : PlainForest → Names
+members_of forest = forest.members
+
+-- how many patches it may hold
+abbrev pub pool_of : PlainForest → ℕ
+pool_of forest = forest.pool
+
+-- the triples and grades of the macro mesh
+abbrev pub mesh_of : PlainForest → Shape
+mesh_of forest = shape_of forest.mesh.now
+
+-- what lies across its edges
+abbrev pub sides_of : PlainForest → Across
+sides_of forest = across_in forest.mesh.now

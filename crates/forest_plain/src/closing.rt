@@ -1,0 +1,56 @@
+//! The least conforming forest that holds given names.
+ghost use Rattle.std.specs.Prelude.{◌≡◌, ◌<◌, ◌≤◌, ◌++◌, OnOk};
+ghost use Rattle.std.specs.FinSet.{from_list};
+ghost use Rattle.mesh_names.specs.Triangles.{size, level};
+ghost use Rattle.mesh_names.specs.Forests.{IsForest};
+ghost use Rattle.mesh_names.specs.Conformity.{HoldsPartners};
+ghost use Rattle.mesh_names.specs.LeastForest.{CanHold, least_forest};
+ghost use Rattle.compat_check.specs.Meshes.{across_in, shape_of};
+ghost use Rattle.forest_plain.specs.Closing.{names_above};
+
+use crate::name_set::NameSet;
+use compat_check::mesh::MacroMesh;
+use mesh_names::name::ElemName;
+use std::alloc::AllocError;
+
+/// Adds the needed names to a conforming forest, and all that a conforming forest has to hold
+/// with them: each new name brings its parent and its partner.
+pub fn close(
+    mesh: &MacroMesh,
+    members: &mut NameSet,
+    needed: Vec<ElemName>,
+) -> Result<(), AllocError>
+    requires forest { IsForest (shape_of mesh.now) members.old }
+    requires partners { HoldsPartners (across_in mesh.now) members.old }
+    requires can { CanHold (shape_of mesh.now) (from_list needed.items) }
+    ensures { OnOk result (members.new ≡ least_forest (shape_of mesh.now) (across_in mesh.now) members.old (from_list needed.items)) }
+{
+    let _count = mesh.element_count();
+    let mut pending = needed;
+    while let Some(name) = pending.pop() {
+        let added = members.insert(name)?;
+        if added {
+            push_above(mesh, name, &mut pending)?;
+        }
+    }
+    Ok(())
+}
+
+// Appends the parent of a name, and its partner.
+fn push_above(
+    mesh: &MacroMesh,
+    name: ElemName,
+    pending: &mut Vec<ElemName>,
+) -> Result<(), AllocError>
+    requires root { name.0 < size (shape_of mesh.now) }
+    requires level { level (shape_of mesh.now) name ≤ 24 }
+    ensures { OnOk result (pending.new.items ≡ pending.old.items ++ names_above (across_in mesh.now) name) }
+{
+    if let Some(parent) = name.parent() {
+        pending.push(parent)?;
+    }
+    if let Some(partner) = mesh.partner(name) {
+        pending.push(partner)?;
+    }
+    Ok(())
+}

@@ -1,0 +1,151 @@
+//! The plain forest.
+ghost use Rattle.std.specs.Prelude.{◌≡◌, ◌<◌, ◌≤◌, ◌↔◌, All, IfErr, IfOk, IsTrue, OnErr, OnOk};
+ghost use Rattle.std.specs.FinSet.{empty};
+ghost use Rattle.mesh_names.specs.Forests.{IsInMesh, IsLeaf, IsListOf};
+ghost use Rattle.mesh_names.specs.Leaves.{leaves};
+ghost use Rattle.mesh_names.specs.Marks.{IsWellFormed};
+ghost use Rattle.mesh_names.specs.Patches.{patch_count};
+ghost use Rattle.compat_check.specs.Meshes.{across_in, shape_of};
+ghost use Rattle.forest_plain.specs.Rounds.{IsFine, IsFirstFault, IsRefined, IsRound, IsRoundRefusal, IsRowsRefusal, Stands};
+
+use crate::closing::close;
+use crate::delta::{born_patches, count_patches};
+use crate::leaves::{is_leaf, leaf_list};
+use crate::marks::Marks;
+use crate::name_set::NameSet;
+use crate::needs::needed_names;
+use crate::refusal::RoundRefusal;
+use crate::rows::{greatest_level, try_rows};
+use compat_check::mesh::MacroMesh;
+use mesh_names::name::ElemName;
+use mesh_names::patch::RoundDelta;
+use mesh_names::rows::{MarkRow, RoundMarks};
+use std::alloc::{AllocError, Global};
+
+/// A conforming forest over a macro mesh that it borrows, as a set of names.
+#[derive(Drop)]
+pub struct PlainForest<'m> {
+    alloc: Global,
+    mesh: &'m MacroMesh,
+    pool: u32,
+    members: NameSet,
+    ghost stands: { Stands (shape_of mesh.now) (across_in mesh.now) pool members },
+}
+
+impl<'m> PlainForest<'m> {
+    ghost use Rattle.forest_plain.specs.Forests.{members_of, mesh_of, pool_of, sides_of};
+
+    /// The forest in which nothing is bisected, with room for `pool` patches. Takes no memory.
+    pub fn new(alloc: Global, mesh: &'m MacroMesh, pool: u32) -> PlainForest<'m>
+        requires { (1 ≤ pool) × (pool ≤ 1048576) }
+        ensures members { members_of result ≡ empty }
+        ensures pool { pool_of result ≡ pool }
+        ensures mesh { mesh_of result ≡ shape_of mesh.entry.now }
+        ensures sides { sides_of result ≡ across_in mesh.entry.now }
+    {
+        PlainForest {
+            alloc,
+            mesh,
+            pool,
+            members: NameSet::new(alloc),
+        }
+    }
+
+    /// Whether the name is a leaf; no name with a root out of range is one. Takes no memory.
+    pub fn is_leaf(&self, name: ElemName) -> bool
+        ensures { IsTrue result ↔ IsLeaf (mesh_of self.now) (members_of self.now) name }
+    {
+        is_leaf(self.mesh, &self.members, name)
+    }
+
+    /// The leaves in the order of names.
+    pub fn leaves(&self) -> Result<Vec<ElemName>, RoundRefusal>
+        ensures ok { IfOk result (λ v. IsListOf (leaves (mesh_of self.now) (members_of self.now)) v.items) }
+        ensures mesh { IfOk result (λ v. All (IsInMesh (mesh_of self.now)) v.items) }
+        ensures memory { IfErr result (λ r. r ≡ RoundRefusal.Memory) }
+    {
+        let _checked = self.mesh.element_count();
+        let found = leaf_list(self.alloc, self.mesh, &self.members)?;
+        Ok(found)
+    }
+
+    /// The number of patches. Takes no memory.
+    pub fn patches(&self) -> u32
+        ensures { result ≡ patch_count (sides_of self.now) (members_of self.now) }
+    {
+        count_patches(self.mesh, &self.members) as u32
+    }
+
+    /// Bisects each marked leaf as often as its effective mark says, and all that a conforming
+    /// forest needs with it (Mitchell): the new forest is the least one. A leaf's mark is the
+    /// number of the last row that names it or every leaf. After a refusal the forest is as it
+    /// was.
+    pub fn round(&mut self, marks: &RoundMarks) -> Result<RoundDelta, RoundRefusal>
+        requires { All IsWellFormed marks.now.rows.items }
+        ensures ok { IfOk result (IsRound (mesh_of self.old) (sides_of self.old) (members_of self.old) marks.now.rows.items (members_of self.new)) }
+        ensures room { OnOk result (patch_count (sides_of self.old) (members_of self.new) ≤ pool_of self.old) }
+        ensures refused { IfErr result (IsRoundRefusal (mesh_of self.old) (sides_of self.old) (pool_of self.old) (members_of self.old) marks.now.rows.items) }
+        ensures unchanged { OnErr result (members_of self.new ≡ members_of self.old) }
+        ensures same { (mesh_of self.new ≡ mesh_of self.old) × (sides_of self.new ≡ sides_of self.old) × (pool_of self.new ≡ pool_of self.old) }
+    {
+        let _checked = self.mesh.element_count();
+        let refined = self.refined(&marks.rows)?;
+        let needed = count_patches(self.mesh, &refined);
+        if needed > self.pool as usize {
+            return Err(RoundRefusal::PoolFull {
+                needed: needed.min(4_294_967_295) as u32,
+                kept: 0,
+                pool: self.pool,
+            });
+        }
+        let names = refined.to_vec(self.alloc)?;
+        let born = born_patches(self.alloc, self.mesh, &self.members, &names)?;
+        self.members = refined;
+        Ok(RoundDelta {
+            born,
+            died: Vec::new(self.alloc),
+        })
+    }
+
+    // The refined forest, where all rows can be done.
+    fn refined(&self, rows: &[MarkRow]) -> Result<NameSet, RoundRefusal>
+        requires { All IsWellFormed rows.now }
+        ensures fine { OnOk result (All (IsFine (mesh_of self.now) (members_of self.now)) rows.now) }
+        ensures refined { IfOk result (IsRefined (mesh_of self.now) (members_of self.now) rows.now) }
+        ensures refused { IfErr result (IsRowsRefusal (mesh_of self.now) (members_of self.now) rows.now) }
+    {
+        let leaves = leaf_list(self.alloc, self.mesh, &self.members)?;
+        if let Err(refusal) = self.try_all(&leaves, rows) {
+            return Err(refusal);
+        }
+        let closed = self.closed(&leaves, rows)?;
+        Ok(closed)
+    }
+
+    // Tries the rows, where the list has the leaves.
+    fn try_all(&self, list: &[ElemName], rows: &[MarkRow]) -> Result<(), RoundRefusal>
+        requires leaves { IsListOf (leaves (mesh_of self.now) (members_of self.now)) list.now }
+        requires formed { All IsWellFormed rows.now }
+        ensures ok { OnOk result (All (IsFine (mesh_of self.now) (members_of self.now)) rows.now) }
+        ensures refused { IfErr result (IsFirstFault (mesh_of self.now) (members_of self.now) rows.now) }
+    {
+        let _checked = self.mesh.element_count();
+        let deepest = greatest_level(self.mesh, list);
+        try_rows(self.mesh, &self.members, deepest, rows)
+    }
+
+    // The least forest, where the list has the leaves and the rows can be done.
+    fn closed(&self, list: &[ElemName], rows: &[MarkRow]) -> Result<NameSet, AllocError>
+        requires leaves { IsListOf (leaves (mesh_of self.now) (members_of self.now)) list.now }
+        requires fine { All (IsFine (mesh_of self.now) (members_of self.now)) rows.now }
+        requires formed { All IsWellFormed rows.now }
+        ensures { IfOk result (IsRefined (mesh_of self.now) (members_of self.now) rows.now) }
+    {
+        let _checked = self.mesh.element_count();
+        let marks = Marks::of_rows(self.alloc, rows)?;
+        let needed = needed_names(self.alloc, list, &marks)?;
+        let mut refined = self.members.copy()?;
+        close(self.mesh, &mut refined, needed)?;
+        Ok(refined)
+    }
+}

@@ -1,0 +1,14 @@
+#![tactic(auto)]
+//! Rounds on a forest that is held as a plain set of names: the definition's own program, with
+//! which faster forests are compared. One round costs at most n log n in the names that it
+//! holds and adds.
+
+pub mod closing;
+pub mod delta;
+pub mod forest;
+pub mod leaves;
+pub mod marks;
+pub mod name_set;
+pub mod needs;
+pub mod refusal;
+pub mod rows;

@@ -1,0 +1,71 @@
+//! A finite set of names.
+ghost use Rattle.std.specs.Prelude.{◌≡◌, not, IfOk, OnOk, OnErr};
+ghost use Rattle.std.specs.FinSet as set;
+ghost use Rattle.mesh_names.specs.Forests.{IsListOf};
+
+use mesh_names::name::ElemName;
+use std::alloc::{AllocError, Global};
+use std::collections::BTreeSet;
+use std::marker::Model;
+
+/// A finite set of names, in their order.
+#[derive(Drop)]
+pub struct NameSet {
+    pub(crate) names: BTreeSet<ElemName>,
+}
+
+impl Model for NameSet {
+    ghost use Rattle.std.specs.FinSet as set;
+    ghost use Rattle.std.specs.Coded.{coded_ℕ, coded_bool, coded_list, coded×};
+    ghost use Rattle.mesh_names.specs.Names.{name_cmp};
+
+    ghost Value = { set.FinSet name_cmp };
+
+    ghost coded = { set.code (coded× coded_ℕ (coded_list coded_bool)) };
+
+    ghost view = { λ a. set.from_list a.names.keys };
+}
+
+impl NameSet {
+    /// The empty set. Takes no memory.
+    pub fn new(alloc: Global) -> NameSet
+        ensures { result ≡ set.empty }
+    {
+        NameSet {
+            names: BTreeSet::new(alloc),
+        }
+    }
+
+    /// Whether the name is in the set.
+    pub fn contains(&self, name: ElemName) -> bool
+        ensures { result ≡ set.contains self.now name }
+    {
+        self.names.contains(&name)
+    }
+
+    /// Adds a name, and says whether it is new.
+    pub fn insert(&mut self, name: ElemName) -> Result<bool, AllocError>
+        ensures added { IfOk result (λ added. added ≡ not (set.contains self.old name)) }
+        ensures held { OnOk result (self.new ≡ set.insert self.old name) }
+        ensures err { OnErr result (self.new ≡ self.old) }
+    {
+        let added = self.names.insert(name)?;
+        Ok(added)
+    }
+
+    /// A set of the same names.
+    pub fn copy(&self) -> Result<NameSet, AllocError>
+        ensures { IfOk result (λ s. s ≡ self.now) }
+    {
+        Ok(NameSet {
+            names: self.names.clone()?,
+        })
+    }
+
+    /// The names in their order.
+    pub fn to_vec(&self, alloc: Global) -> Result<Vec<ElemName>, AllocError>
+        ensures { IfOk result (λ v. IsListOf self.now v.items) }
+    {
+        self.names.iter().copied().collect(alloc)
+    }
+}

@@ -1,0 +1,28 @@
+//! Why a round is refused.
+ghost use Rattle.std.specs.Prelude.{◌≡◌};
+
+use std::alloc::AllocError;
+
+/// Why a round left the forest as it was.
+#[derive(Clone, Copy, Debug, Drop)]
+pub enum RoundRefusal {
+    /// The row names an element that is no leaf.
+    NotALeaf { row: u32 },
+    /// The row asks for bisections down to this level, above 24.
+    LevelTooDeep { row: u32, level: u32 },
+    /// The refined forest has `needed` patches (4,294,967,295 where there are more), `kept` are
+    /// kept for readers, and the pool has room for `pool`.
+    PoolFull { needed: u32, kept: u32, pool: u32 },
+    /// Want of memory.
+    Memory,
+}
+
+impl From<AllocError> for RoundRefusal {
+    ghost use Rattle.forest_plain.specs.declared.refusal.RoundRefusal.TheVariants.{Memory};
+
+    ghost from_gives = { λ _ r. r ≡ Memory };
+
+    fn from(_error: AllocError) -> RoundRefusal {
+        RoundRefusal::Memory
+    }
+}

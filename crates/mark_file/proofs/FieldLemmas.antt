@@ -1,0 +1,175 @@
+-- What the fields of a row give.
+use Rattle.std.proofs.Common.{◌≡◌, ℕ, zero, suc, ◌+◌, ◌-◌, ◌*◌, ◌<◌, ◌≤◌, Bool, true, false, cond, eqb, leb, ◌&&◌, List, [], ◌∷◌, length, take, drop, reverse, get_or, Option, Some, None, Ok, ℤ, pos, negsuc, sym, refl, ap, ◌∙◌, subst, arith}
+use Rattle.std.specs.Char.{digit_value}
+use Rattle.std.specs.List.{prefix_len, suffix_len}
+use Rattle.std.specs.Option.{option_and_then}
+use Rattle.std.specs.Result.{OkIff}
+use Rattle.std.specs.Str.{all_ascii_digits, IsAscii, IsUtf8}
+use Rattle.std.proofs.lemmas.List.{length-reverse}
+use Rattle.std.proofs.lemmas.List.Sums.{prefix_len-le-length}
+use Rattle.std.specs.Str.Parse.{AllDigits, IsNumeral, digits_value, signed_digits_value, without_leading_sign}
+use Rattle.std.specs.Prelude.{FitsSigned}
+use Rattle.std.proofs.lemmas.Bool.{eqb-true, leb-true, le-leb}
+use Rattle.std.proofs.lemmas.Fmt.{IsAscii-from_digits}
+use Rattle.std.proofs.lemmas.Int.Digits.{digits_value_more}
+use Rattle.std.proofs.lemmas.Str.{digit_value_digit, IsUtf8-from_ascii}
+use Rattle.std.proofs.lemmas.Str.Parse.{IsNumeralModel, numerals_by_value, tells_all_ascii_digits}
+use Rattle.mark_file.specs.Fields.{Field, is_blank, trimmed, without_end, is_round, round_in, is_whole, is_mark_number, mark_in}
+use Rattle.csv.specs.Records.{field_at}
+use mir.Syntax.{w64}
+use Rattle.std.specs.Prelude.{◌<ℤ◌, ◌≤ℤ◌}
+use Rattle.std.proofs.lemmas.Int.{ints}
+
+-- std's own words for digits and their number
+own : IsNumeralModel (λ ds. all_ascii_digits ds ≡ true) (digits_value 10)
+own = numerals_by_value (λ ds. all_ascii_digits ds ≡ true) tells_all_ascii_digits
+
+-- both tests pass, where their conjunction does
+pub both : (a b : Bool) → (a && b) ≡ true → (a ≡ true) × (b ≡ true)
+both true b e = (refl, e)
+both false b e = absurd (cc)
+
+-- what a round's field is
+pub record IsRound (field : Field) : Type 0 where
+  pub digits : AllDigits 10 field
+  pub some : 1 ≤ length field
+  pub few : length field ≤ 5
+  pub low : 1 ≤ digits_value 10 field
+  pub high : digits_value 10 field ≤ 65535
+
+pub round_facts : (field : Field) → is_round field ≡ true → IsRound field
+round_facts field e =
+    let h = both _ _ e in
+    let l = both _ _ h.0 in
+    let f = both _ _ l.0 in
+    let s = both _ _ f.0 in
+    record {
+      digits = own.to field s.0;
+      some = leb-true 1 (length field) s.1;
+      few = leb-true (length field) 5 f.1;
+      low = leb-true 1 (digits_value 10 field) l.1;
+      high = leb-true (digits_value 10 field) 65535 h.1;
+    }
+
+pub round_none : (field : Field) → ¬ (IsRound field) → round_in field ≡ None
+unfolding round_in
+round_none field h = by (is_round field) refl where
+  by : (b : Bool) → is_round field ≡ b → cond b (Some (digits_value 10 field)) None ≡ None
+  by false e = refl
+  by true e = absurd (h (round_facts field e))
+
+pub round_some : (field : Field) → IsRound field → round_in field ≡ Some (digits_value 10 field)
+unfolding round_in
+round_some field h =
+    ap (λ b. cond b (Some (digits_value 10 field)) None)
+    (λ i. own.from field h.digits i && le-leb 1 (length field) h.some i && le-leb (length field) 5 h.few i && le-leb 1 (digits_value 10 field) h.low i && le-leb (digits_value 10 field) 65535 h.high i)
+
+-- the leading test on a greater number
+gt-leb : (n m : ℕ) → m < n → leb n m ≡ false
+gt-leb n m h = by (leb n m) refl where
+  by : (b : Bool) → leb n m ≡ b → b ≡ false
+  by false e = refl
+  by true e = let f : n ≤ m = leb-true n m e in absurd (omega arith)
+
+-- one more digit
+pub digit_more : (ds : List ℕ) (i n more : ℕ) → i < length ds → 48 ≤ get_or ds i 0 → get_or ds i 0 ≤ 57 → n ≡ digits_value 10 (take i ds) → more ≡ get_or ds i 0 - 48 → n * 10 + more ≡ digits_value 10 (take (i + 1) ds)
+digit_more ds i n more inside low high e digit =
+    let step : digits_value 10 (take (i + 1) ds) ≡ digits_value 10 (take i ds) * 10 + digit_value (get_or ds i 0) = digits_value_more 10 ds i inside in
+    let value : digit_value (get_or ds i 0) + 48 ≡ get_or ds i 0 = digit_value_digit (get_or ds i 0) (low, high) in
+    omega (arith, step, value, e, digit)
+
+-- what a number of a mark is
+whole_facts : (field : Field) → is_whole field ≡ true → IsNumeral 10 (without_leading_sign field)
+whole_facts field e =
+    let h = both _ _ e in
+    (leb-true 1 (length (without_leading_sign field)) h.0, own.to (without_leading_sign field) h.1)
+
+whole_are : (field : Field) → IsNumeral 10 (without_leading_sign field) → is_whole field ≡ true
+whole_are field h = λ i. le-leb 1 (length (without_leading_sign field)) h.0 i && own.from (without_leading_sign field) h.1 i
+
+mark_fits : (z : ℤ) → is_mark_number z ≡ true → FitsSigned w64 z
+mark_fits (pos n) e = let b : n ≤ 24 = leb-true n 24 (both (leb 0 n) (leb n 24) e).1 in omega (arith, b)
+mark_fits (negsuc n) e = absurd (cc)
+
+pub mark_whole : (field : Field) (z : ℤ) → IsNumeral 10 (without_leading_sign field) → z ≡ signed_digits_value 10 field → mark_in field ≡ cond (is_mark_number z) (Some z) None
+unfolding mark_in
+mark_whole field z h e =
+    ap (λ b. option_and_then (λ n. cond (is_mark_number n) (Some n) None) (cond b (Some (signed_digits_value 10 field)) None)) (whole_are field h)
+    ∙ ap (λ v. cond (is_mark_number v) (Some v) None) (sym e)
+
+-- a field that is no whole number of 64 bits is no mark's number
+pub mark_none : (field : Field) → ¬ (IsNumeral 10 (without_leading_sign field) × FitsSigned w64 (signed_digits_value 10 field)) → mark_in field ≡ None
+unfolding mark_in
+mark_none field h = by (is_whole field) (is_mark_number (signed_digits_value 10 field)) refl refl where
+  by : (b m : Bool) → is_whole field ≡ b → is_mark_number (signed_digits_value 10 field) ≡ m
+      → option_and_then (λ n. cond (is_mark_number n) (Some n) None) (cond b (Some (signed_digits_value 10 field)) None) ≡ None
+  by false m e f = refl
+  by true false e f = ap (λ b. cond b (Some (signed_digits_value 10 field)) None) f
+  by true true e f = absurd (h (whole_facts field e, mark_fits (signed_digits_value 10 field) f))
+
+front_ascii : (c : ℕ) (cs : List ℕ) → c < 128 → IsAscii cs → IsAscii (c ∷ cs)
+front_ascii c cs low rest zero = low
+front_ascii c cs low rest (suc i) = rest i
+
+signed_ascii : (c : ℕ) (cs : List ℕ) → AllDigits 10 (without_leading_sign (c ∷ cs)) → IsAscii (c ∷ cs)
+signed_ascii c cs = by (eqb c 45) (eqb c 43) refl refl where
+  by : (m p : Bool) → eqb c 45 ≡ m → eqb c 43 ≡ p → AllDigits 10 (cond m cs (drop (cond p 1 0) (c ∷ cs))) → IsAscii (c ∷ cs)
+  by true p e f h = let same : c ≡ 45 = eqb-true c 45 e in front_ascii c cs (omega arith) (IsAscii-from_digits cs h)
+  by false true e f h = let same : c ≡ 43 = eqb-true c 43 f in front_ascii c cs (omega arith) (IsAscii-from_digits cs h)
+  by false false e f h = IsAscii-from_digits (c ∷ cs) h
+
+-- a whole number is text
+numeral_text : (field : Field) → IsNumeral 10 (without_leading_sign field) → IsUtf8 field
+numeral_text [] h = IsUtf8-from_ascii [] (λ i. omega arith)
+numeral_text (c ∷ cs) h = IsUtf8-from_ascii (c ∷ cs) (signed_ascii c cs h.1)
+
+pub mark_no_text : (field : Field) → ¬ (IsUtf8 field) → mark_in field ≡ None
+mark_no_text field h = mark_none field (λ f. h (numeral_text field f.0))
+
+-- blanks are a part of their field
+pub front_fits : (field : Field) → prefix_len is_blank field ≤ length field
+front_fits field = prefix_len-le-length is_blank field
+
+pub end_fits : (field : Field) → suffix_len is_blank field ≤ length field
+end_fits field = subst (λ n. suffix_len is_blank field ≤ n) (length-reverse field) (prefix_len-le-length is_blank (reverse field))
+
+-- a field, cut at its blanks
+pub trimmed-cut : (field rest : Field) (front end : ℕ) → front ≡ prefix_len is_blank field → rest ≡ drop front field → end ≡ suffix_len is_blank rest → take (length rest - end) rest ≡ trimmed field
+unfolding trimmed
+trimmed-cut field rest front end f r e = (λ i. take (length rest - e i) rest) ∙ ap without_end (r ∙ ap (λ k. drop k field) f)
+
+mark_low : (z : ℤ) → z <ℤ pos 0 → is_mark_number z ≡ false
+mark_low (pos n) h = absurd (omega (arith, ints))
+mark_low (negsuc n) h = refl
+
+mark_high : (z : ℤ) → pos 24 <ℤ z → is_mark_number z ≡ false
+mark_high (pos n) h = let far : 24 < n = omega (arith, ints) in (λ i. le-leb 0 n (omega arith) i && gt-leb n 24 far i)
+mark_high (negsuc n) h = absurd (omega (arith, ints))
+
+mark_within : (z : ℤ) → pos 0 ≤ℤ z → z ≤ℤ pos 24 → is_mark_number z ≡ true
+mark_within (pos n) l h = let near : n ≤ 24 = omega (arith, ints) in λ i. le-leb 0 n (omega arith) i && le-leb n 24 near i
+mark_within (negsuc n) l h = absurd (omega (arith, ints))
+
+-- the three answers at a number
+pub mark_below : (field : Field) (z : ℤ) → OkIff {E = ℕ} (Ok z) (IsNumeral 10 (without_leading_sign field) × FitsSigned w64 (signed_digits_value 10 field)) (signed_digits_value 10 field) → z <ℤ pos 0 → mark_in field ≡ None
+mark_below field z h low = mark_whole field z h.0.0 h.1 ∙ ap (λ b. cond b (Some z) None) (mark_low z low)
+
+pub mark_above : (field : Field) (z : ℤ) → OkIff {E = ℕ} (Ok z) (IsNumeral 10 (without_leading_sign field) × FitsSigned w64 (signed_digits_value 10 field)) (signed_digits_value 10 field) → pos 24 <ℤ z → mark_in field ≡ None
+mark_above field z h high = mark_whole field z h.0.0 h.1 ∙ ap (λ b. cond b (Some z) None) (mark_high z high)
+
+pub mark_inside : (field : Field) (z : ℤ) → OkIff {E = ℕ} (Ok z) (IsNumeral 10 (without_leading_sign field) × FitsSigned w64 (signed_digits_value 10 field)) (signed_digits_value 10 field) → pos 0 ≤ℤ z → z ≤ℤ pos 24 → mark_in field ≡ Some z
+mark_inside field z h low high = mark_whole field z h.0.0 h.1 ∙ ap (λ b. cond b (Some z) None) (mark_within z low high)
+
+-- a field that a record has
+pub field_there : (fields : List (List ℕ)) (k : ℕ) (f : List ℕ) → Some f ≡ field_at fields k → get_or fields k [] ≡ f
+unfolding field_at
+field_there [] k f e = absurd (cc)
+field_there (g ∷ gs) zero f e = cc
+field_there (g ∷ gs) (suc k) f e = field_there gs k f e
+
+-- one that it does not have reads as no bytes
+pub field_missing : (fields : List (List ℕ)) (k : ℕ) → ◌≡◌ {A = Option (List ℕ)} None (field_at fields k) → trimmed (get_or fields k []) ≡ []
+unfolding field_at trimmed
+field_missing [] k e = refl
+field_missing (g ∷ gs) zero e = absurd (cc)
+field_missing (g ∷ gs) (suc k) e = field_missing gs k e

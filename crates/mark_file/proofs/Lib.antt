@@ -1,0 +1,5 @@
+pub mod FieldLemmas
+pub mod UnreadLemmas
+pub mod AcceptedLemmas
+pub mod RoundLemmas
+pub mod ReadLemmas

@@ -1,0 +1,62 @@
+-- What the fields of a row say.
+use Rattle.std.specs.Prelude.{ℕ, ◌-◌, ◌==◌, ◌&&◌, ◌||◌, Bool, List, length, take, drop, nat_le, if◌then◌else◌, Option, Some, None, ℤ, pos, int_le, codes, bytes_eq}
+use Rattle.std.specs.List.{prefix_len, suffix_len}
+use Rattle.std.specs.Option.{option_map, option_and_then}
+use Rattle.std.specs.Str.{all_ascii_digits}
+use Rattle.std.specs.Str.Parse.{digits_value, signed_digits_value, without_leading_sign}
+use Rattle.mesh_names.specs.Spelling.{name_spelled}
+use Rattle.mesh_names.specs.declared.rows.What.{What}
+use Rattle.mesh_names.specs.declared.rows.What.TheVariants.{Mark}
+use Rattle.mesh_names.specs.declared.rows.Place.{Place}
+use Rattle.mesh_names.specs.declared.rows.Place.TheVariants.{EveryLeaf, Elem}
+
+-- the bytes of a field
+abbrev pub Field : Type 0
+Field = List ℕ
+
+-- a space or a tab
+abbrev pub is_blank : ℕ → Bool
+is_blank c = (c == 32) || (c == 9)
+
+-- a field without the blanks at its front, and one without those at its end
+abbrev pub without_front : Field → Field
+without_front field = drop (prefix_len is_blank field) field
+
+abbrev pub without_end : Field → Field
+without_end field = take (length field - suffix_len is_blank field) field
+
+-- a field without the blanks at both ends
+unfoldable pub trimmed : Field → Field
+trimmed field = without_end (without_front field)
+
+-- one to five digits that give a number from 1 to 65,535
+abbrev pub is_round : Field → Bool
+is_round field = all_ascii_digits field && nat_le 1 (length field) && nat_le (length field) 5 && nat_le 1 (digits_value 10 field) && nat_le (digits_value 10 field) 65535
+
+-- the round that a field gives
+unfoldable pub round_in : Field → Option ℕ
+round_in field = if is_round field then Some (digits_value 10 field) else None
+
+-- what a field says that the row sets
+unfoldable pub what_in : Field → Option What
+what_in field = if bytes_eq field (codes "mark") then Some Mark else None
+
+-- the place that a field gives: every leaf, or the element whose spelling it is
+unfoldable pub place_in : Field → Option Place
+place_in field = if bytes_eq field (codes "*") then Some EveryLeaf else option_map Elem (name_spelled field)
+
+-- an optional sign and one or more digits
+abbrev pub is_whole : Field → Bool
+is_whole field = nat_le 1 (length (without_leading_sign field)) && all_ascii_digits (without_leading_sign field)
+
+-- the whole number that a field gives, however long it is
+abbrev pub whole_in : Field → Option ℤ
+whole_in field = if is_whole field then Some (signed_digits_value 10 field) else None
+
+-- the numbers of a mark go from 0 to 24
+abbrev pub is_mark_number : ℤ → Bool
+is_mark_number n = int_le (pos 0) n && int_le n (pos 24)
+
+-- the number of a mark that a field gives
+unfoldable pub mark_in : Field → Option ℤ
+mark_in field = option_and_then (λ n. if is_mark_number n then Some n else None) (whole_in field)

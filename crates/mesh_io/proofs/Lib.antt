@@ -1,0 +1,10 @@
+pub mod DigitLists
+pub mod Finding
+pub mod Measures
+pub mod Numerals
+pub mod Padded
+pub mod Planned
+pub mod Powers
+pub mod ReadingBack
+pub mod TrimmedZeros
+pub mod Writing

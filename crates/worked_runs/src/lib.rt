@@ -1,0 +1,10 @@
+#![tactic(auto)]
+//! Whole runs of the program on small files, with what they write. The expected texts were worked
+//! out by hand from the definitions.
+
+#[cfg(test)]
+mod files;
+#[cfg(test)]
+mod run;
+#[cfg(test)]
+mod tests;

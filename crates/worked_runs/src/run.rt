@@ -1,0 +1,66 @@
+//! One run of the program on files in memory.
+ghost use Rattle.std.specs.Prelude.{◌≤◌};
+
+use adapt_cli::program::adapt;
+use mesh_io::{MemShelf, MemSink, NoGate};
+use std::alloc::{AllocError, Global};
+use std::thread::Threads;
+
+/// What a run wrote, and its status.
+#[derive(Drop)]
+pub struct Ran {
+    pub status: u8,
+    pub out: MemSink,
+    pub err: MemSink,
+}
+
+/// A sink with ample room that takes at most this many bytes a call, and fails at these calls.
+pub fn sink(alloc: Global, most: usize, faults: Vec<u64>) -> Result<MemSink, AllocError>
+    requires { 1 ≤ most }
+{
+    MemSink::new(alloc, 1 << 20, most, faults).map_err(|_| AllocError)
+}
+
+/// The words, as the program takes them.
+pub fn words(alloc: Global, line: &str) -> Result<Vec<String>, AllocError> {
+    let mut words = Vec::new(alloc);
+    for word in line.split(' ') {
+        words.push(word.to_string(alloc)?)?;
+    }
+    Ok(words)
+}
+
+/// A shelf of these files, without faults.
+pub fn shelf(alloc: Global, files: &[(&str, &str)]) -> Result<MemShelf, AllocError> {
+    let mut held = Vec::new(alloc);
+    for (name, text) in files {
+        held.push((name.to_string(alloc)?, text.as_bytes().to_vec(alloc)?))?;
+    }
+    Ok(MemShelf::new(held, Vec::new(alloc)))
+}
+
+/// Runs the program on these words and files.
+pub fn run_words<R: Threads + Sync>(
+    rt: &R,
+    alloc: Global,
+    line: &str,
+    files: &[(&str, &str)],
+) -> Result<Ran, AllocError> {
+    let words = words(alloc, line)?;
+    let mut shelf = shelf(alloc, files)?;
+    let mut out = sink(alloc, 1 << 20, Vec::new(alloc))?;
+    let mut err = sink(alloc, 1 << 20, Vec::new(alloc))?;
+    let status = adapt(rt, alloc, &words, &mut shelf, &mut out, &mut err, &NoGate);
+    Ok(Ran { status, out, err })
+}
+
+/// Runs the program on a macro file and the rows of a marks file.
+pub fn run<R: Threads + Sync>(
+    rt: &R,
+    alloc: Global,
+    macro_text: &str,
+    rows: &str,
+) -> Result<Ran, AllocError> {
+    let marks = format!(in alloc; "round,what,where,number\n{rows}")?;
+    run_words(rt, alloc, "run q m", &[("q", macro_text), ("m", &marks)])
+}

@@ -1,0 +1,149 @@
+//! The runs.
+use crate::files::{FOUR_TRIANGLES, SQUARE, TRIANGLE, TURNED_SQUARE};
+use crate::run::{run, run_words, shelf, sink, words};
+use adapt_cli::program::adapt;
+use mesh_io::NoGate;
+use std::test::Fail;
+
+// The text of a mesh with these numbers of vertices and leaves.
+macro_rules! mesh {
+    ($vertices:literal, $leaves:literal, $lines:literal) => {
+        concat!(
+            "DIM: 2\nDIM_OF_WORLD: 2\n\nnumber of vertices: ",
+            $vertices,
+            "\nnumber of elements: ",
+            $leaves,
+            "\n\nelement vertices:\n",
+            $lines
+        )
+    };
+}
+
+#[test]
+fn rounds_write_the_least_conforming_mesh(rt: HostRuntime) -> Result<(), Fail> {
+    let cases = [
+        (SQUARE, "", mesh!("4", "2", "2 0 1\n0 2 3\n")),
+        (SQUARE, "1,mark,0,1\n", mesh!("5", "4", "1 2 4\n0 1 4\n3 0 4\n2 3 4\n")),
+        (SQUARE, "1,mark,0,2\n", mesh!("7", "6", "4 1 5\n2 4 5\n4 0 6\n1 4 6\n3 0 4\n2 3 4\n")),
+        (SQUARE, "1,mark,0,1\n1,mark,0,0\n", mesh!("4", "2", "2 0 1\n0 2 3\n")),
+        (SQUARE, "1,mark,*,1\n1,mark,0,0\n", mesh!("5", "4", "1 2 4\n0 1 4\n3 0 4\n2 3 4\n")),
+        (TURNED_SQUARE, "1,mark,0,1\n", mesh!("6", "5", "1 2 4\n0 1 4\n5 0 4\n2 5 4\n3 0 5\n")),
+        (TRIANGLE, "1,mark,0,1\n", mesh!("4", "2", "2 0 3\n1 2 3\n")),
+        (FOUR_TRIANGLES, "1,mark,0,1\n", mesh!("6", "5", "4 0 5\n1 4 5\n1 2 4\n2 3 4\n3 0 4\n")),
+    ];
+    for (macro_text, rows, want) in cases {
+        let ran = run(&rt, rt.alloc(), macro_text, rows)?;
+        assert!(rt; ran.out.bytes() == want.as_bytes(), "{rows}");
+        assert_eq!(rt; ran.status, 0, "{rows}");
+        assert_eq!(rt; ran.err.bytes().len(), 0, "{rows}");
+    }
+    Ok(())
+}
+
+#[test]
+fn a_second_round_goes_on_from_the_first(rt: HostRuntime) -> Result<(), Fail> {
+    let ran = run(&rt, rt.alloc(), SQUARE, "1,mark,0,1\n2,mark,0.0,2\n")?;
+    assert_eq!(rt; ran.status, 0);
+    let head = b"DIM: 2\nDIM_OF_WORLD: 2\n\nnumber of vertices: 10\nnumber of elements: 11\n\n";
+    assert!(rt; ran.out.bytes().starts_with(head));
+    Ok(())
+}
+
+#[test]
+fn refusals_are_named_and_out_stays_empty(rt: HostRuntime) -> Result<(), Fail> {
+    let cases = [
+        ("1,mark,0.0,1\n", 4, "adapt: marks: row 2: not a leaf\n"),
+        ("1,mark,2,1\n", 4, "adapt: marks: row 2: not a leaf\n"),
+        ("1,mark,0,1\n2,mark,0.0,24\n", 4, "adapt: marks: row 3: level 25 is above 24\n"),
+        ("1,mark,0,25\n", 4, "adapt: marks: row 2: bad number\n"),
+        ("1,mark,0,-1\n", 4, "adapt: marks: row 2: bad number\n"),
+        ("1,elem,0,1\n", 4, "adapt: marks: row 2: bad what\n"),
+        ("2,mark,0,1\n1,mark,0,1\n", 4, "adapt: marks: row 3: rounds fall\n"),
+        ("0,mark,0,1\n", 4, "adapt: marks: row 2: bad round\n"),
+        ("1,mark,00,1\n", 4, "adapt: marks: row 2: bad where\n"),
+        ("1,mark,0\n", 4, "adapt: marks: row 2: bad fields\n"),
+    ];
+    for (rows, status, want) in cases {
+        let ran = run(&rt, rt.alloc(), SQUARE, rows)?;
+        assert!(rt; ran.err.bytes() == want.as_bytes(), "{rows}");
+        assert_eq!(rt; ran.status, status, "{rows}");
+        assert_eq!(rt; ran.out.bytes().len(), 0, "{rows}");
+    }
+    Ok(())
+}
+
+#[test]
+fn a_round_beyond_the_pool_tells_both_numbers(rt: HostRuntime) -> Result<(), Fail> {
+    let ran = run(&rt, rt.alloc(), SQUARE, "1,mark,0,17\n")?;
+    let want = "adapt: round 1: 66803 patches needed, pool 65536\n";
+    assert!(rt; ran.err.bytes() == want.as_bytes());
+    assert_eq!(rt; ran.status, 5);
+    assert_eq!(rt; ran.out.bytes().len(), 0);
+    Ok(())
+}
+
+#[test]
+fn files_are_refused_by_line_and_by_element(rt: HostRuntime) -> Result<(), Fail> {
+    let head = "number of vertices: 5\nnumber of elements: 3\nvertex coordinates: 0 0 1 0 1 1 0 1 3 1\nelement vertices: 2 0 1 ";
+    let cases = [
+        ("", "adapt: macro: key missing: number of vertices\n"),
+        (&SQUARE[..SQUARE.len() - 2], "adapt: macro: line 10: 5 numbers where 6 belong\n"),
+    ];
+    for (text, want) in cases {
+        let ran = run(&rt, rt.alloc(), text, "")?;
+        assert!(rt; ran.err.bytes() == want.as_bytes(), "{want}");
+        assert_eq!(rt; ran.status, 3, "{want}");
+    }
+    let elements = [
+        ("1 2 0 0 2 4", "adapt: macro: elements 0 and 1: twin elements\n"),
+        ("0 2 3 0 2 4", "adapt: macro: element 2 edge 2: edge of three\n"),
+        ("0 2 3 0 2 5", "adapt: macro: element 2: vertex out of range\n"),
+        ("0 2 3 0 2 2", "adapt: macro: element 2: repeated vertex\n"),
+    ];
+    for (triples, want) in elements {
+        let text = format!(in rt.alloc(); "{head}{triples}\n")?;
+        let ran = run(&rt, rt.alloc(), &text, "")?;
+        assert!(rt; ran.err.bytes() == want.as_bytes(), "{want}");
+        assert_eq!(rt; ran.status, 3, "{want}");
+    }
+    Ok(())
+}
+
+#[test]
+fn words_and_missing_files_are_told(rt: HostRuntime) -> Result<(), Fail> {
+    let usage = "usage: adapt run MACRO MARKS\n";
+    let cases = [
+        ("run q", 2, usage),
+        ("run q m x", 2, usage),
+        ("run -q m", 2, usage),
+        ("run q -", 2, usage),
+        ("go q m", 2, usage),
+        ("run x m", 6, "adapt: read fault: x\n"),
+        ("run q x", 6, "adapt: read fault: x\n"),
+        ("run q e", 4, "adapt: marks: row 1: bad header\n"),
+    ];
+    for (line, status, want) in cases {
+        let files = [("q", SQUARE), ("m", "round,what,where,number\n"), ("e", "")];
+        let ran = run_words(&rt, rt.alloc(), line, &files)?;
+        assert!(rt; ran.err.bytes() == want.as_bytes(), "{line}");
+        assert_eq!(rt; ran.status, status, "{line}");
+        assert_eq!(rt; ran.out.bytes().len(), 0, "{line}");
+    }
+    Ok(())
+}
+
+#[test]
+fn an_out_that_fails_keeps_what_it_took(rt: HostRuntime) -> Result<(), Fail> {
+    let alloc = rt.alloc();
+    let words = words(alloc, "run q m")?;
+    let files = [("q", SQUARE), ("m", "round,what,where,number\n1,mark,0,1\n")];
+    let mut shelf = shelf(alloc, &files)?;
+    let mut out = sink(alloc, 100, vec![in alloc; 2]?)?;
+    let mut err = sink(alloc, 100, Vec::new(alloc))?;
+    let status = adapt(&rt, alloc, &words, &mut shelf, &mut out, &mut err, &NoGate);
+    assert_eq!(rt; status, 7);
+    let text = mesh!("5", "4", "1 2 4\n0 1 4\n3 0 4\n2 3 4\n");
+    assert!(rt; out.bytes() == &text.as_bytes()[..100]);
+    assert!(rt; err.bytes() == "adapt: write fault\n".as_bytes());
+    Ok(())
+}
