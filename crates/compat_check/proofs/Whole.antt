@@ -42,9 +42,9 @@ pub record Shown (vertices : List MacroVertex) (triples : List Triple) (grades :
 pub compatible_of : (vertices : List MacroVertex) (triples : List Triple) (grades : List ℕ) (sides : List (Option Side)) → Shown vertices triples grades sides → IsCompatible (record { triples = triples; grades = grades })
 compatible_of vertices triples grades sides shown = compatible_is triples grades sides (told_of vertices triples sides grades shown.passes) shown.grades_are shown.low
 
-pub stored_of : (vertices : List MacroVertex) (triples : List Triple) (grades : List ℕ) (labels : List (List ℤ)) (values : List ℤ) (sides : List (Option Side)) → ValidTells → Shown vertices triples grades sides → length vertices ≤ 65535 → length triples ≤ 65535 → length labels ≡ length triples → length values ≡ length triples →
+pub stored_of : (vertices : List MacroVertex) (triples : List Triple) (grades : List ℕ) (labels : List (List ℤ)) (values : List ℤ) (sides : List (Option Side)) → ValidTells → Shown vertices triples grades sides → length vertices ≤ 65535 → 0 < length triples → length triples ≤ 65535 → length labels ≡ length triples → length values ≡ length triples →
     IsStored (record { vertices = vertices; shape = record { triples = triples; grades = grades }; labels = labels; values = values }) sides
-stored_of vertices triples grades labels values sides law shown few_vertices few each_label each_value =
+stored_of vertices triples grades labels values sides law shown few_vertices some few each_label each_value =
     let mesh : Shape = record { triples = triples; grades = grades } in
     let table = told_of vertices triples sides grades shown.passes in
     let compatible = compatible_of vertices triples grades sides shown in
@@ -54,6 +54,7 @@ stored_of vertices triples grades labels values sides law shown few_vertices few
         graded = compatible.graded;
         tells = law mesh table.valid compatible.graded;
         low = shown.low;
+        some = some;
         few = few;
         few_vertices = few_vertices;
         corners = λ r k hr hk. one_corner (triple_in triples r) (length vertices) k (corners_inside (length vertices) (triple_in triples r) (shown.passes.sound.inside r hr)) hk;

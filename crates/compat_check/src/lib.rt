@@ -6,16 +6,16 @@
 //! bisected before do. Every element name on it then has at most one partner.
 
 mod around;
+pub mod checking;
 mod earlier;
 mod edges;
 mod grading;
 pub mod mesh;
 mod parts;
-mod passes;
-mod refusal;
+pub mod refusal;
 mod triples;
 mod twins;
 
 pub use mesh::MacroMesh;
-pub use passes::check;
+pub use checking::check;
 pub use refusal::CheckRefusal;

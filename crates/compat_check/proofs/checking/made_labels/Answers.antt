@@ -3,7 +3,7 @@ use Rattle.std.specs.Prelude.{None, slice_index_or}
 use Rattle.compat_check.specs.Results.{label_by}
 use Rattle.compat_check.proofs.Lists.{length_pushed}
 use Rattle.compat_check.proofs.Labelling.{row_more}
-use Rattle.compat_check.proofs.passes.made_labels.Goals as goal
+use Rattle.compat_check.proofs.checking.made_labels.Goals as goal
 
 pub loop-element-preserved : goal.loop-element-preserved
 loop-element-preserved c = record {

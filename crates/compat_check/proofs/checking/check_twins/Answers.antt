@@ -1,7 +1,7 @@
 use Rattle.std.proofs.Common.{◌≡◌, ◌<◌, ◌∙◌, ℕ, List, ap, sym, subst, arith, length}
 use Rattle.std.specs.Prelude.{Option, None, slice_index_or}
 use Rattle.compat_check.specs.Twins.{IsTwinBefore}
-use Rattle.compat_check.proofs.passes.check_twins.Goals as goal
+use Rattle.compat_check.proofs.checking.check_twins.Goals as goal
 
 pub returns : goal.returns
 returns c = λ r s rs hs twin.

@@ -5,7 +5,7 @@ use Rattle.std.proofs.lemmas.Int.{to_z-of_z}
 use mir.Val.{SFits}
 use Rattle.compat_check.specs.Results.{label_by}
 use Rattle.compat_check.proofs.Labelling.{row_at}
-use Rattle.compat_check.proofs.passes.made_row.Goals as goal
+use Rattle.compat_check.proofs.checking.made_row.Goals as goal
 
 pub returns : goal.returns
 returns c = λ k hk.

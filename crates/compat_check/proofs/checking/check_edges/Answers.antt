@@ -2,7 +2,7 @@ use Rattle.std.proofs.Common.{◌≡◌, ◌∙◌, ℕ, List, ap, sym, subst, l
 use Rattle.std.specs.Prelude.{Option, None}
 use Rattle.compat_check.specs.Faults.{IsFirst}
 use Rattle.compat_check.specs.Paired.{AreSides, IsThirdAt}
-use Rattle.compat_check.proofs.passes.check_edges.Goals as goal
+use Rattle.compat_check.proofs.checking.check_edges.Goals as goal
 
 pub returns : goal.returns
 returns c =

@@ -10,7 +10,7 @@ use Rattle.compat_check.specs.Results.{AreMadeLabels}
 use Rattle.compat_check.specs.declared.mesh.Side.{Side}
 use Rattle.compat_check.proofs.Graded.{told_of, rules_in}
 use Rattle.compat_check.proofs.Whole.{Shown, either, compatible_of, stored_of, labels_made, length_of_map}
-use Rattle.compat_check.proofs.passes.check.Goals as goal
+use Rattle.compat_check.proofs.checking.check.Goals as goal
 
 -- the facts of the passes, of the lists that the mesh keeps
 passes_at : (vs vertices : List MacroVertex) (ts triples : List Triple) (sides : List (Option Side)) → vs ≡ vertices → ts ≡ triples → Passes vs ts sides → Passes vertices triples sides
@@ -53,7 +53,7 @@ invariant_of-result c =
     (λ made. (c.in_ok-labels.ensures.made made).each ∙ ap length c.deref-7.ensures.value) in
     let each_value : length c.in_ok-values.values.items ≡ length elements = length_of_map elements ℤ (λ e. e.value) c.in_ok-values.values.items (c.in_ok-values.ensures ∙ ap (map (λ (e : MacroElem). e.value)) c.deref-9.ensures.value) in
     stored_of c.args.text.vertices.items c.in_ok-triples.triples.items c.in_ok-grades.grades.items c.in_ok-labels.labels.items c.in_ok-values.values.items c.in_ok-sides.sides.items c.valid_tells.ensures shown
-    (omega (arith, c.args.text.some_vertices.1)) (omega (arith, each, c.args.text.some_elements.1)) (each_label ∙ sym each) (each_value ∙ sym each)
+    (omega (arith, c.args.text.some_vertices.1)) (omega (arith, each, c.args.text.some_elements.0)) (omega (arith, each, c.args.text.some_elements.1)) (each_label ∙ sym each) (each_value ∙ sym each)
 
 pub returns : goal.returns
 returns c =

@@ -1,6 +1,6 @@
 use Rattle.std.proofs.Common.{ℕ, ◌<◌}
 use Rattle.compat_check.specs.Results.{Differs}
-use Rattle.compat_check.proofs.passes.first_differing.Given as goal
+use Rattle.compat_check.proofs.checking.first_differing.Given as goal
 
 abbrev pub invariant-loop-place : goal.invariant-loop-place
 invariant-loop-place l = (q : ℕ) → q < l.place → Differs l.elements l.sides q → ⊥

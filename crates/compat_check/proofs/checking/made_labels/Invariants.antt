@@ -1,7 +1,7 @@
 use Rattle.std.proofs.Common.{◌≡◌, ℕ, ◌+◌, ◌*◌, ◌<◌, [], length}
 use Rattle.std.specs.Prelude.{pos, None, slice_index_or}
 use Rattle.compat_check.specs.Results.{label_by}
-use Rattle.compat_check.proofs.passes.made_labels.Given as goal
+use Rattle.compat_check.proofs.checking.made_labels.Given as goal
 
 abbrev pub invariant-loop-element : goal.invariant-loop-element
 invariant-loop-element l = record {
