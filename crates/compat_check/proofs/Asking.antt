@@ -1,7 +1,8 @@
 -- The rules of one place more.
 use Rattle.std.proofs.Common.{◌≡◌, ℕ, suc, ◌+◌, ◌/◌, ◌<◌, List, [], ◌∷◌, length, refl, sym, ap, ◌∙◌, subst, add-one}
 use Rattle.std.specs.Prelude.{ℤ, Option, Some, None, slice_index_or}
-use Rattle.compat_check.specs.Parts.{Rule, AreSettled}
+use Rattle.compat_check.specs.Parts.{Rule, AreSettled, Satisfies, Ties}
+use Rattle.compat_check.specs.Passes.{IsStuck}
 use Rattle.compat_check.specs.Grading.{rule_at, rise_at, rules_before}
 use Rattle.compat_check.specs.declared.mesh.Side.{Side}
 use Rattle.compat_check.specs.declared.parts.Parts.{Parts}
@@ -24,3 +25,20 @@ settled_some n m sides k s d old new nm e rise settled more =
     let next = more (rules_before sides k) (subst (λ (y : ℕ). AreSettled y (rules_before sides k) old) nm settled) in
     let back : AreSettled n ((k / 3, s.element, d) ∷ rules_before sides k) new = subst (λ (y : ℕ). AreSettled y ((k / 3, s.element, d) ∷ rules_before sides k) new) (sym nm) next in
     subst (λ (r : List Rule). AreSettled n r new) ((λ i. (k / 3, s.element, rise i) ∷ rules_before sides k) ∙ sym (rules_some sides k s e)) back
+
+ties_satisfy : (head : ℕ → ℕ) (height : ℕ → ℤ) (rules : List Rule) → Ties head height rules → Satisfies height rules
+ties_satisfy head height [] ties = tt
+ties_satisfy head height (rule ∷ rules) ties = (ties.1, ties_satisfy head height rules ties.2)
+
+-- no grades meet what the edge at a place asks, and all that was asked before
+pub stuck : (sides : List (Option Side)) (k : ℕ) (s : Side) → k < length sides → slice_index_or sides k None ≡ Some s → (n m : ℕ) (parts : Parts) (d : ℤ) → n ≡ m → d ≡ rise_at k s → AreSettled n (rules_before sides k) parts →
+    ((rules : List Rule) → AreSettled m rules parts → (g : ℕ → ℤ) → Satisfies g ((k / 3, s.element, d) ∷ rules) → ⊥) → IsStuck sides k
+stuck sides k s inside here n m parts d nm rise settled never = record {
+  inside = inside;
+  side = s;
+  here = here;
+  before = (settled.1.0, ties_satisfy settled.0 settled.1.0 (rules_before sides k) settled.1.2.met);
+  none = λ g sat.
+  let asked : Satisfies g ((k / 3, s.element, rise_at k s) ∷ rules_before sides k) = subst (λ (o : Option Side). Satisfies g (rule_at k o (rules_before sides k))) here sat in
+  never (rules_before sides k) (subst (λ (y : ℕ). AreSettled y (rules_before sides k) parts) nm settled) g (subst (λ (y : ℤ). Satisfies g ((k / 3, s.element, y) ∷ rules_before sides k)) (sym rise) asked);
+}

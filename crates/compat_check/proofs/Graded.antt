@@ -12,6 +12,7 @@ use Rattle.compat_check.specs.Parts.{Rule, Satisfies, Touches, IsPath, Hangs, In
 use Rattle.std.proofs.lemmas.List.{get_or_past}
 use Rattle.macro_file.specs.declared.text.MacroVertex.{MacroVertex}
 use Rattle.compat_check.specs.Paired.{AreSides, IsSide, Passes}
+use Rattle.compat_check.specs.Checks.{AreGradesOf}
 use Rattle.compat_check.specs.Grading.{AreFit, AreGrades, rise_at, rule_at, rules_before, weight}
 use Rattle.compat_check.specs.declared.mesh.Side.{Side}
 use Rattle.compat_check.proofs.Links.{same_some}
@@ -45,7 +46,7 @@ told_side (Some sd) s f t e =
     let same : (sd.element, edge_of sd.edge, sd.turned) ≡ (s, f, t) = same_some (sd.element, edge_of sd.edge, sd.turned) (s, f, t) (Some (s, f, t)) (sym e) refl in
     (sd, refl, ap (λ (y : ℕ × Edge × Bool). y.0) same, ap (λ (y : ℕ × Edge × Bool). y.1) same)
 
-weight_is : (k : ℕ) → k < 3 → weight k ≡ cond (is_refined (edge_of k)) 1 0
+pub weight_is : (k : ℕ) → k < 3 → weight k ≡ cond (is_refined (edge_of k)) 1 0
 weight_is zero h = refl
 weight_is (suc zero) h = refl
 weight_is (suc (suc zero)) h = refl
@@ -121,8 +122,8 @@ module _ (mesh : Shape) (sides : List (Option Side)) (table : Told mesh sides) w
 graded_by : (a b : ℕ) (w x : ℕ) → pos a ≡ pos b +ℤ (pos w -ℤ pos x) → a + x ≡ b + w
 graded_by a b w x e = omega (arith, ints, e)
 
-pub compatible_is : (triples : List Triple) (grades : List ℕ) (sides : List (Option Side)) → Told (record { triples = triples; grades = grades }) sides → AreGrades (length triples) (rules_before sides (length triples * 3)) grades → ((r : ℕ) → r < length triples → slice_index_or grades r 0 ≤ 24) → IsCompatible (record { triples = triples; grades = grades })
-compatible_is triples grades sides table are low =
+pub grades_of : (triples : List Triple) (grades : List ℕ) (sides : List (Option Side)) → Told (record { triples = triples; grades = grades }) sides → AreGrades (length triples) (rules_before sides (length triples * 3)) grades → AreGradesOf triples grades
+grades_of triples grades sides table are =
     let mesh : Shape = record { triples = triples; grades = grades } in
     let n = length triples in
     let W : Edge → ℕ = λ e. cond (is_refined e) 1 0 in
@@ -137,8 +138,10 @@ compatible_is triples grades sides table are low =
       least = λ r hr.
       let lowest = are.least r hr in
       (lowest.2.0, lowest.0, lowest.1, walk_of mesh sides table (n * 3) (omega arith) lowest.2.0 r lowest.0 lowest.2.1, lowest.3);
-      low = low;
     }
+
+pub compatible_is : (triples : List Triple) (grades : List ℕ) → AreGradesOf triples grades → ((r : ℕ) → r < length triples → slice_index_or grades r 0 ≤ 24) → IsCompatible (record { triples = triples; grades = grades })
+compatible_is triples grades are low = record { each = are.each; graded = are.graded; least = are.least; low = low }
 
 sides_fit : (triples : List Triple) (earlier : List (Option ℕ)) (sides : List (Option Side)) → AreSides triples earlier sides (length triples * 3) → AreFit (length triples) sides
 sides_fit triples earlier sides are k s is =

@@ -22,3 +22,5 @@ mod Lows
 mod Graded
 mod Labelling
 mod Whole
+mod Firsts
+mod Causes

@@ -76,3 +76,10 @@ pub twin_swap : (t u : Triple) → (IsRepeated t → ⊥) → (IsRepeated u → 
 twin_swap t u dt du h =
     let e = three_tie (corner_key t) (corner_key u) (key_from_twin t u dt du h) in
     twin_from_key u t (tie_three (corner_key u) (corner_key t) (sym e.0, sym e.1, sym e.2))
+
+-- two twins of a third are twins
+pub twin_join : (t u v : Triple) → (IsRepeated t → ⊥) → (IsRepeated u → ⊥) → (IsRepeated v → ⊥) → IsTwin t v → IsTwin u v → IsTwin t u
+twin_join t u v dt du dv h k =
+    let a = three_tie (corner_key t) (corner_key v) (key_from_twin t v dt dv h) in
+    let b = three_tie (corner_key u) (corner_key v) (key_from_twin u v du dv k) in
+    twin_from_key t u (tie_three (corner_key t) (corner_key u) (a.0 ∙ sym b.0, a.1 ∙ sym b.1, a.2 ∙ sym b.2))

@@ -44,15 +44,18 @@ some_is : {A : Type 0} (o : Option A) (a : A) → o ≡ Some a → IsSome o
 some_is o a e = subst (λ (y : Option _). IsSome y) (sym e) refl
 
 -- three places of one edge make a third
-pub no_three : (triples : List Triple) (earlier : List (Option ℕ)) → AreEarlier triples earlier → ThirdFree earlier → (a b c : ℕ) → a < b → b < c → c < length triples * 3 → Meets triples a c → Meets triples b c → ⊥
-no_three triples earlier known free a b c ab bc hc mac mbc =
+pub third_of : (triples : List Triple) (earlier : List (Option ℕ)) → AreEarlier triples earlier → (a b c : ℕ) → a < b → b < c → c < length triples * 3 → Meets triples a c → Meets triples b c → IsThirdAt earlier c
+third_of triples earlier known a b c ab bc hc mac mbc =
     let one = has_earlier triples earlier known b c bc hc mbc (slice_index_or earlier c None) refl in
     let j = one.0 in
     let maj : Meets triples a j = meets_trans triples a c j mac (meets_back triples j c one.4) in
     let two = has_earlier triples earlier known a j (omega (arith, one.2)) (omega (arith, one.3)) maj (slice_index_or earlier j None) refl in
-    free c (omega (arith, known.each)) (j, one.1, some_is (slice_index_or earlier j None) two.0 two.1)
+    (j, one.1, some_is (slice_index_or earlier j None) two.0 two.1)
 
-shares_meet : (triples : List Triple) (r s : ℕ) (e f : Edge) → IsSamePair (ends_of (triple_in triples r) e) (ends_of (triple_in triples s) f) → Meets triples (r * 3 + edge_number e) (s * 3 + edge_number f)
+pub no_three : (triples : List Triple) (earlier : List (Option ℕ)) → AreEarlier triples earlier → ThirdFree earlier → (a b c : ℕ) → a < b → b < c → c < length triples * 3 → Meets triples a c → Meets triples b c → ⊥
+no_three triples earlier known free a b c ab bc hc mac mbc = free c (omega (arith, known.each)) (third_of triples earlier known a b c ab bc hc mac mbc)
+
+pub shares_meet : (triples : List Triple) (r s : ℕ) (e f : Edge) → IsSamePair (ends_of (triple_in triples r) e) (ends_of (triple_in triples s) f) → Meets triples (r * 3 + edge_number e) (s * 3 + edge_number f)
 shares_meet triples r s e f h = subst (λ (y : (ℕ × ℕ) × (ℕ × ℕ)). IsSamePair y.0 y.1) (λ i. (sym (place_ends triples r e) i, sym (place_ends triples s f) i)) h
 
 pub place_inside : (n r : ℕ) (e : Edge) → r < n → r * 3 + edge_number e < n * 3

@@ -12,11 +12,12 @@ use Rattle.compat_check.specs.Sides.{IsStored, side_told, told_in}
 use Rattle.compat_check.specs.Faults.{AreSound, triple_in}
 use Rattle.compat_check.specs.Paired.{Passes}
 use Rattle.compat_check.specs.Grading.{AreGrades, rules_before}
-use Rattle.compat_check.specs.Results.{AreMadeLabels, label_by, made_label}
+use Rattle.compat_check.specs.Tables.{AreMadeLabels, label_by}
+use Rattle.compat_check.specs.Checks.{made_label}
 use Rattle.compat_check.specs.declared.mesh.Side.{Side}
 use Rattle.compat_check.proofs.Areas.{corners_inside}
 use Rattle.compat_check.proofs.Numbers.{number_back}
-use Rattle.compat_check.proofs.Graded.{compatible_is, told_of}
+use Rattle.compat_check.proofs.Graded.{compatible_is, grades_of, told_of}
 
 -- one of the two, whatever the test
 pub either : (P : Type 0) (b : Bool) → (b ≡ true → P) → (b ≡ false → P) → P
@@ -40,7 +41,7 @@ pub record Shown (vertices : List MacroVertex) (triples : List Triple) (grades :
   pub low : (r : ℕ) → r < length triples → slice_index_or grades r 0 ≤ 24
 
 pub compatible_of : (vertices : List MacroVertex) (triples : List Triple) (grades : List ℕ) (sides : List (Option Side)) → Shown vertices triples grades sides → IsCompatible (record { triples = triples; grades = grades })
-compatible_of vertices triples grades sides shown = compatible_is triples grades sides (told_of vertices triples sides grades shown.passes) shown.grades_are shown.low
+compatible_of vertices triples grades sides shown = compatible_is triples grades (grades_of triples grades sides (told_of vertices triples sides grades shown.passes) shown.grades_are) shown.low
 
 pub stored_of : (vertices : List MacroVertex) (triples : List Triple) (grades : List ℕ) (labels : List (List ℤ)) (values : List ℤ) (sides : List (Option Side)) → ValidTells → Shown vertices triples grades sides → length vertices ≤ 65535 → 0 < length triples → length triples ≤ 65535 → length labels ≡ length triples → length values ≡ length triples →
     IsStored (record { vertices = vertices; shape = record { triples = triples; grades = grades }; labels = labels; values = values }) sides

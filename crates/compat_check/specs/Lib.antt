@@ -9,5 +9,7 @@ pub mod Twins
 pub mod Paired
 pub mod Parts
 pub mod Grading
-pub mod Results
+pub mod Tables
 pub mod Partnership
+pub mod Checks
+pub mod Passes

@@ -1,10 +1,12 @@
 //! The check of a macro text.
-ghost use Rattle.std.specs.Prelude.{◌≡◌, ℕ, ◌<◌, ◌≤◌, ◌*◌, ◌+◌, ◌↔◌, IfOk, IsTrue, None, OnOk, length, map, pos, slice_index_or, true, false};
+ghost use Rattle.std.specs.Prelude.{◌≡◌, ℕ, ◌<◌, ◌≤◌, ◌*◌, ◌+◌, ◌↔◌, IfErr, IfOk, IsTrue, None, OnOk, length, map, pos, slice_index_or, true, false};
 ghost use Rattle.compat_check.specs.Faults.{AreSound, IsFirst, IsRepeated, triple_in};
 ghost use Rattle.compat_check.specs.Grading.{AreFit, AreGrades, rules_before};
 ghost use Rattle.compat_check.specs.Parts.{InRange};
+ghost use Rattle.compat_check.specs.Passes.{IsEdgeFault, IsElementFault, IsGradeFault, IsNeighbourFault, IsTwinFault, IsValidityFault};
 ghost use Rattle.compat_check.specs.Paired.{IsTable, Passes};
-ghost use Rattle.compat_check.specs.Results.{AreMadeLabels, Differs, IsMeshOf, label_by, number_by};
+ghost use Rattle.compat_check.specs.Checks.{IsCheckRefusal, IsMeshOf};
+ghost use Rattle.compat_check.specs.Tables.{AreMadeLabels, Differs, label_by, number_by};
 ghost use Rattle.compat_check.specs.Twins.{TwinFree};
 
 use std::alloc::{AllocError, Global};
@@ -87,7 +89,8 @@ fn made_labels(alloc: Global, sides: &[Option<Side>], count: u32) -> Result<Vec<
 fn check_elements(vertices: &[MacroVertex], triples: &[[u32; 3]]) -> Result<(), CheckRefusal>
     requires vertices { length vertices.now ≤ 65535 }
     requires triples { length triples.now ≤ 65535 }
-    ensures { OnOk result (AreSound vertices.now triples.now) }
+    ensures ok { OnOk result (AreSound vertices.now triples.now) }
+    ensures refused { IfErr result (IsElementFault vertices.now triples.now) }
 {
     if let Some(element) = first_outside(triples, vertices.len() as u32) {
         return Err(CheckRefusal::VertexRange {
@@ -110,7 +113,8 @@ fn check_elements(vertices: &[MacroVertex], triples: &[[u32; 3]]) -> Result<(), 
 fn check_twins(alloc: Global, triples: &[[u32; 3]]) -> Result<(), CheckRefusal>
     requires few { length triples.now ≤ 65535 }
     requires distinct { IsFirst (length triples.now) (λ r. IsRepeated (triple_in triples.now r)) None }
-    ensures { OnOk result (TwinFree triples.now) }
+    ensures ok { OnOk result (TwinFree triples.now) }
+    ensures refused { IfErr result (IsTwinFault triples.now) }
 {
     let earlier = earlier_twins(alloc, triples)?;
     for (second, before) in earlier.iter().enumerate() {
@@ -127,7 +131,9 @@ fn check_twins(alloc: Global, triples: &[[u32; 3]]) -> Result<(), CheckRefusal>
 // The table of sides, where no edge is in three elements.
 fn check_edges(alloc: Global, triples: &[[u32; 3]]) -> Result<Vec<Option<Side>>, CheckRefusal>
     requires few { length triples.now ≤ 65535 }
-    ensures { IfOk result (λ sides. IsTable triples.now sides.items) }
+    requires distinct { IsFirst (length triples.now) (λ r. IsRepeated (triple_in triples.now r)) None }
+    ensures ok { IfOk result (λ sides. IsTable triples.now sides.items) }
+    ensures refused { IfErr result (IsEdgeFault triples.now) }
 {
     let earlier = earlier_edges(alloc, triples)?;
     if let Some(place) = first_third(earlier.as_slice()) {
@@ -145,7 +151,8 @@ fn check_grades(alloc: Global, sides: &[Option<Side>], count: u32) -> Result<Vec
     requires sides { length sides.now ≡ count * 3 }
     requires fit { AreFit count sides.now }
     requires rules { InRange count (rules_before sides.now (length sides.now)) }
-    ensures { IfOk result (λ grades. AreGrades count (rules_before sides.now (length sides.now)) grades.items × ((r : ℕ) → r < count → slice_index_or grades.items r 0 ≤ 24)) }
+    ensures refused { IfErr result (IsGradeFault count sides.now) }
+    ensures ok { IfOk result (λ grades. AreGrades count (rules_before sides.now (length sides.now)) grades.items × ((r : ℕ) → r < count → slice_index_or grades.items r 0 ≤ 24)) }
 {
     let mut parts = Parts::new(alloc, count)?;
     if let Some(place) = ask_all(&mut parts, sides, count) {
@@ -202,7 +209,8 @@ fn first_differing(elements: &[MacroElem], sides: &[Option<Side>]) -> Option<usi
 fn check_neighbours(given: bool, elements: &[MacroElem], sides: &[Option<Side>]) -> Result<(), CheckRefusal>
     requires few { length elements.now ≤ 65535 }
     requires sides { length sides.now ≡ length elements.now * 3 }
-    ensures { OnOk result (given ≡ true → IsFirst (length sides.now) (Differs elements.now sides.now) None) }
+    ensures refused { IfErr result (IsNeighbourFault given elements.now sides.now) }
+    ensures ok { OnOk result (given ≡ true → IsFirst (length sides.now) (Differs elements.now sides.now) None) }
 {
     if !given {
         return Ok(());
@@ -233,7 +241,8 @@ fn labels(alloc: Global, given: bool, elements: &[MacroElem], sides: &[Option<Si
 fn check_valid(alloc: Global, vertices: &[MacroVertex], triples: &[[u32; 3]]) -> Result<Vec<Option<Side>>, CheckRefusal>
     requires vertices { length vertices.now ≤ 65535 }
     requires triples { length triples.now ≤ 65535 }
-    ensures { IfOk result (λ sides. Passes vertices.now triples.now sides.items) }
+    ensures refused { IfErr result (IsValidityFault vertices.now triples.now) }
+    ensures ok { IfOk result (λ sides. Passes vertices.now triples.now sides.items) }
 {
     check_elements(vertices, triples)?;
     check_twins(alloc, triples)?;
@@ -243,7 +252,8 @@ fn check_valid(alloc: Global, vertices: &[MacroVertex], triples: &[[u32; 3]]) ->
 /// The mesh of a macro text, with its grades, where the text has none of the faults of
 /// `CheckRefusal`. Takes n log n steps for n elements.
 pub fn check(alloc: Global, text: MacroText) -> Result<MacroMesh, CheckRefusal>
-    ensures { IfOk result (IsMeshOf text) }
+    ensures ok { IfOk result (IsMeshOf text) }
+    ensures refused { IfErr result (IsCheckRefusal text) }
 {
     let MacroText {
         vertices,

@@ -3,6 +3,7 @@
 ghost use Rattle.std.specs.Prelude.{◌≡◌, ℕ, ℤ, pos, negsuc, suc, ◌+◌, ◌*◌, ◌<◌, ◌≤◌, ◌≤ℤ◌, ◌-ℤ◌, IfOk, List, MatchOption, [], length, slice_index_or};
 ghost use Rattle.compat_check.specs.Faults.{IsFirst};
 ghost use Rattle.compat_check.specs.Parts.{AreParts, AreSettled, InRange, Leads, Rule, Satisfies, size};
+ghost use Rattle.compat_check.specs.Passes.{IsStuck};
 ghost use Rattle.compat_check.specs.Grading.{AreFit, AreGrades, AreLows, rise_at, rules_before, weight};
 
 use std::alloc::{AllocError, Global};
@@ -32,7 +33,7 @@ pub(crate) fn ask_all(parts: &mut Parts, sides: &[Option<Side>], count: u32) -> 
     requires sides { length sides.now ≡ count * 3 }
     requires fit { AreFit count sides.now }
     requires alone { AreSettled count [] parts.old }
-    ensures { MatchOption result (AreSettled count (rules_before sides.now (length sides.now)) parts.new) (λ place. (place < length sides.now) × ((g : ℕ → ℤ) → Satisfies g (rules_before sides.now (suc place)) → ⊥)) }
+    ensures { MatchOption result (AreSettled count (rules_before sides.now (length sides.now)) parts.new) (IsStuck sides.now) }
 {
     for place in 0..sides.len() {
         let Some(side) = sides[place] else {

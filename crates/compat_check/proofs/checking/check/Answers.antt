@@ -1,12 +1,18 @@
 use Rattle.std.proofs.Common.{◌≡◌, ◌*◌, ◌<◌, ◌≤◌, ◌∙◌, ℕ, List, [], ap, sym, subst, arith, length, map, refl}
-use Rattle.std.specs.Prelude.{ℤ, Option, slice_index_or, true, false}
+use Rattle.std.specs.Prelude.{ℤ, None, Option, slice_index_or, true, false}
+use Rattle.std.proofs.lemmas.Result.{err_from_is_err_and}
+use Rattle.macro_file.specs.declared.text.MacroText.{MacroText}
+use Rattle.compat_check.specs.Faults.{IsFirst}
+use Rattle.compat_check.specs.Checks.{triples_of}
+use Rattle.compat_check.specs.Passes.{IsGradeFault, IsNeighbourFault, IsValidityFault}
+use Rattle.compat_check.proofs.Causes.{faultless, grade_cause, neighbour_cause, validity_cause}
 use Rattle.macro_file.specs.declared.text.MacroElem.{MacroElem}
 use Rattle.macro_file.specs.declared.text.MacroVertex.{MacroVertex}
 use Rattle.mesh_names.specs.Triangles.{Triple}
 use Rattle.compat_check.specs.Paired.{Passes}
 use Rattle.compat_check.specs.Parts.{InRange}
 use Rattle.compat_check.specs.Grading.{AreGrades, rules_before}
-use Rattle.compat_check.specs.Results.{AreMadeLabels}
+use Rattle.compat_check.specs.Tables.{AreMadeLabels, Differs}
 use Rattle.compat_check.specs.declared.mesh.Side.{Side}
 use Rattle.compat_check.proofs.Graded.{told_of, rules_in}
 use Rattle.compat_check.proofs.Whole.{Shown, either, compatible_of, stored_of, labels_made, length_of_map}
@@ -37,15 +43,15 @@ made_at n m sides ss labels e s h = subst (λ (y : ℕ × List (Option Side)). A
 
 pub check_grades-requires-clause-rules : goal.check_grades-requires-clause-rules
 check_grades-requires-clause-rules c =
-    let passes = passes_at c.deref-2.result.now c.args.text.vertices.items c.deref-3.result.now c.in_ok-triples.triples.items c.in_ok-sides.sides.items c.deref-2.ensures.value c.deref-3.ensures.value c.in_ok-sides.ensures in
+    let passes = passes_at c.deref-2.result.now c.args.text.vertices.items c.deref-3.result.now c.in_ok-triples.triples.items c.in_ok-sides.sides.items c.deref-2.ensures.value c.deref-3.ensures.value c.in_ok-sides.ensures.ok in
     let count : c.len.result ≡ length c.in_ok-triples.triples.items = omega (arith, c.len.ensures) in
     rules_at c.args.text.vertices.items c.in_ok-triples.triples.items c.in_ok-sides.sides.items c.deref-6.result.now c.len.result passes c.deref-6.ensures.value count
 
 pub invariant_of-result : goal.invariant_of-result
 invariant_of-result c =
-    let passes = passes_at c.deref-2.result.now c.args.text.vertices.items c.deref-3.result.now c.in_ok-triples.triples.items c.in_ok-sides.sides.items c.deref-2.ensures.value c.deref-3.ensures.value c.in_ok-sides.ensures in
+    let passes = passes_at c.deref-2.result.now c.args.text.vertices.items c.deref-3.result.now c.in_ok-triples.triples.items c.in_ok-sides.sides.items c.deref-2.ensures.value c.deref-3.ensures.value c.in_ok-sides.ensures.ok in
     let count : c.len.result ≡ length c.in_ok-triples.triples.items = omega (arith, c.len.ensures) in
-    let shown = shown_at c.args.text.vertices.items c.in_ok-triples.triples.items c.in_ok-sides.sides.items c.deref-6.result.now c.in_ok-grades.grades.items c.len.result passes c.deref-6.ensures.value count c.in_ok-grades.ensures.0 c.in_ok-grades.ensures.1 in
+    let shown = shown_at c.args.text.vertices.items c.in_ok-triples.triples.items c.in_ok-sides.sides.items c.deref-6.result.now c.in_ok-grades.grades.items c.len.result passes c.deref-6.ensures.value count c.in_ok-grades.ensures.ok.0 c.in_ok-grades.ensures.ok.1 in
     let elements = c.args.text.elements.items in
     let each : length c.in_ok-triples.triples.items ≡ length elements = length_of_map elements (List ℕ) (λ e. e.corners) c.in_ok-triples.triples.items (c.in_ok-triples.ensures ∙ ap (map (λ (e : MacroElem). e.corners)) c.deref.ensures.value) in
     let each_label : length c.in_ok-labels.labels.items ≡ length elements = either (length c.in_ok-labels.labels.items ≡ length elements) c.args.text.labels_given
@@ -55,11 +61,11 @@ invariant_of-result c =
     stored_of c.args.text.vertices.items c.in_ok-triples.triples.items c.in_ok-grades.grades.items c.in_ok-labels.labels.items c.in_ok-values.values.items c.in_ok-sides.sides.items c.valid_tells.ensures shown
     (omega (arith, c.args.text.some_vertices.1)) (omega (arith, each, c.args.text.some_elements.0)) (omega (arith, each, c.args.text.some_elements.1)) (each_label ∙ sym each) (each_value ∙ sym each)
 
-pub returns : goal.returns
-returns c =
-    let passes = passes_at c.deref-2.result.now c.args.text.vertices.items c.deref-3.result.now c.in_ok-triples.triples.items c.in_ok-sides.sides.items c.deref-2.ensures.value c.deref-3.ensures.value c.in_ok-sides.ensures in
+pub returns-clause-ok : goal.returns-clause-ok
+returns-clause-ok c =
+    let passes = passes_at c.deref-2.result.now c.args.text.vertices.items c.deref-3.result.now c.in_ok-triples.triples.items c.in_ok-sides.sides.items c.deref-2.ensures.value c.deref-3.ensures.value c.in_ok-sides.ensures.ok in
     let count : c.len.result ≡ length c.in_ok-triples.triples.items = omega (arith, c.len.ensures) in
-    let shown = shown_at c.args.text.vertices.items c.in_ok-triples.triples.items c.in_ok-sides.sides.items c.deref-6.result.now c.in_ok-grades.grades.items c.len.result passes c.deref-6.ensures.value count c.in_ok-grades.ensures.0 c.in_ok-grades.ensures.1 in
+    let shown = shown_at c.args.text.vertices.items c.in_ok-triples.triples.items c.in_ok-sides.sides.items c.deref-6.result.now c.in_ok-grades.grades.items c.len.result passes c.deref-6.ensures.value count c.in_ok-grades.ensures.ok.0 c.in_ok-grades.ensures.ok.1 in
     let elements = c.args.text.elements.items in
     let triples = c.in_ok-triples.ensures ∙ ap (map (λ (e : MacroElem). e.corners)) c.deref.ensures.value in
     let each : length c.in_ok-triples.triples.items ≡ length elements = length_of_map elements (List ℕ) (λ e. e.corners) c.in_ok-triples.triples.items triples in
@@ -75,3 +81,40 @@ returns c =
       valid = (told_of c.args.text.vertices.items c.in_ok-triples.triples.items c.in_ok-sides.sides.items c.in_ok-grades.grades.items passes).valid;
       compatible = compatible;
     }
+
+-- the facts of the passes, of the text itself
+text_triples : (elements es : List MacroElem) (ts : List Triple) → es ≡ elements → ts ≡ map (λ (e : MacroElem). e.corners) es → ts ≡ map (λ (e : MacroElem). e.corners) elements
+text_triples elements es ts e h = h ∙ ap (map (λ (e : MacroElem). e.corners)) e
+
+passes_of_text : (text : MacroText) (vs : List MacroVertex) (ts : List Triple) (sides : List (Option Side)) → vs ≡ text.vertices.items → ts ≡ triples_of text → Passes vs ts sides → Passes text.vertices.items (triples_of text) sides
+passes_of_text text vs ts sides v t h = passes_at vs text.vertices.items ts (triples_of text) sides v t h
+
+pub returns-in_err-sides-clause-refused : goal.returns-in_err-sides-clause-refused
+returns-in_err-sides-clause-refused c =
+    let p = err_from_is_err_and c.from_residual-in_err-sides.result c.from_residual-in_err-sides.ensures.1 in
+    let text = c.args.text in
+    let triples = c.deref-3.ensures.value ∙ text_triples text.elements.items c.deref.result.now c.in_ok-triples.triples.items c.deref.ensures.value c.in_ok-triples.ensures in
+    rw (p.1, p.2) (validity_cause text c.in_err-sides.field-0.0
+    (subst (λ (y : List MacroVertex × List Triple). IsValidityFault y.0 y.1 c.in_err-sides.field-0.0) (λ i. (c.deref-2.ensures.value i, triples i)) c.in_err-sides.ensures.refused))
+
+pub returns-in_err-check_neighbours-clause-refused : goal.returns-in_err-check_neighbours-clause-refused
+returns-in_err-check_neighbours-clause-refused c =
+    let p = err_from_is_err_and c.from_residual-in_err-check_neighbours.result c.from_residual-in_err-check_neighbours.ensures.1 in
+    let text = c.args.text in
+    let triples = c.deref-3.ensures.value ∙ text_triples text.elements.items c.deref.result.now c.in_ok-triples.triples.items c.deref.ensures.value c.in_ok-triples.ensures in
+    let passes = passes_of_text text c.deref-2.result.now c.deref-3.result.now c.in_ok-sides.sides.items c.deref-2.ensures.value triples c.in_ok-sides.ensures.ok in
+    rw (p.1, p.2) (neighbour_cause text c.in_ok-sides.sides.items passes c.in_err-check_neighbours.field-0.0
+    (subst (λ (y : List MacroElem × List (Option Side)). IsNeighbourFault text.neighbours_given y.0 y.1 c.in_err-check_neighbours.field-0.0) (λ i. (c.deref-4.ensures.value i, c.deref-5.ensures.value i)) c.in_err-check_neighbours.ensures.refused))
+
+pub returns-in_err-grades-clause-refused : goal.returns-in_err-grades-clause-refused
+returns-in_err-grades-clause-refused c =
+    let p = err_from_is_err_and c.from_residual-in_err-grades.result c.from_residual-in_err-grades.ensures.1 in
+    let text = c.args.text in
+    let triples = c.deref-3.ensures.value ∙ text_triples text.elements.items c.deref.result.now c.in_ok-triples.triples.items c.deref.ensures.value c.in_ok-triples.ensures in
+    let passes = passes_of_text text c.deref-2.result.now c.deref-3.result.now c.in_ok-sides.sides.items c.deref-2.ensures.value triples c.in_ok-sides.ensures.ok in
+    let none : text.neighbours_given ≡ true → IsFirst (length c.in_ok-sides.sides.items) (Differs text.elements.items c.in_ok-sides.sides.items) None =
+    subst (λ (y : List MacroElem × List (Option Side)). text.neighbours_given ≡ true → IsFirst (length y.1) (Differs y.0 y.1) None) (λ i. (c.deref-4.ensures.value i, c.deref-5.ensures.value i)) c.in_ok-check_neighbours.ensures.ok in
+    let counted : c.len.result ≡ length c.in_ok-triples.triples.items = omega (arith, c.len.ensures) in
+    let count = counted ∙ ap length (text_triples text.elements.items c.deref.result.now c.in_ok-triples.triples.items c.deref.ensures.value c.in_ok-triples.ensures) in
+    rw (p.1, p.2) (grade_cause text c.in_ok-sides.sides.items passes (faultless text c.in_ok-sides.sides.items passes none) c.in_err-grades.field-0.0
+    (subst (λ (y : ℕ × List (Option Side)). IsGradeFault y.0 y.1 c.in_err-grades.field-0.0) (λ i. (count i, c.deref-6.ensures.value i)) c.in_err-grades.ensures.refused))

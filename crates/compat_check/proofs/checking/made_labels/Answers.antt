@@ -1,6 +1,6 @@
 use Rattle.std.proofs.Common.{◌+◌, ◌*◌}
 use Rattle.std.specs.Prelude.{None, slice_index_or}
-use Rattle.compat_check.specs.Results.{label_by}
+use Rattle.compat_check.specs.Tables.{label_by}
 use Rattle.compat_check.proofs.Lists.{length_pushed}
 use Rattle.compat_check.proofs.Labelling.{row_more}
 use Rattle.compat_check.proofs.checking.made_labels.Goals as goal

@@ -1,6 +1,6 @@
 use Rattle.std.proofs.Common.{◌≡◌, ℕ, ◌+◌, ◌*◌, ◌<◌, [], length}
 use Rattle.std.specs.Prelude.{pos, None, slice_index_or}
-use Rattle.compat_check.specs.Results.{label_by}
+use Rattle.compat_check.specs.Tables.{label_by}
 use Rattle.compat_check.proofs.checking.made_labels.Given as goal
 
 abbrev pub invariant-loop-element : goal.invariant-loop-element

@@ -3,7 +3,7 @@ use Rattle.std.specs.Prelude.{ℤ, Option, None, slice_index_or}
 use Rattle.std.specs.Int.{w8}
 use Rattle.std.proofs.lemmas.Int.{to_z-of_z}
 use mir.Val.{SFits}
-use Rattle.compat_check.specs.Results.{label_by}
+use Rattle.compat_check.specs.Tables.{label_by}
 use Rattle.compat_check.proofs.Labelling.{row_at}
 use Rattle.compat_check.proofs.checking.made_row.Goals as goal
 
