@@ -23,6 +23,7 @@ use Rattle.compat_check.specs.declared.refusal.CheckRefusal.{CheckRefusal}
 use Rattle.compat_check.specs.declared.refusal.CheckRefusal.TheVariants.{VertexRange, RepeatedVertex, Flat, TwinElements, EdgeOfThree, NeighboursDiffer, Incompatible, GradeTooHigh, Memory}
 use Rattle.compat_check.proofs.Numbers.{number_back, place_is}
 use Rattle.compat_check.proofs.Firsts.{first_edge_of, edge_third}
+use Rattle.compat_check.proofs.OneGrading.{one_grade}
 use Rattle.compat_check.proofs.Graded.{Told, entry_at, grades_of, rise_is, told_of, weight_is}
 
 -- ---- the first five kinds
@@ -187,3 +188,23 @@ grade_cause text sides passes none (GradeTooHigh r g) h =
       told = h.told;
     })
 grade_cause text sides passes none Memory h = tt
+
+-- where a mesh is made no refusal has a cause
+pub no_cause : (text : MacroText) (sides : List (Option Side)) (grades : List ℕ) → Passes text.vertices.items (triples_of text) sides → IsFaultless text → AreGrades (count_of text) (rules_before sides (count_of text * 3)) grades → ((r : ℕ) → r < count_of text → slice_index_or grades r 0 ≤ 24) → (refusal : CheckRefusal) → IsCheckRefusal text refusal → refusal ≡ Memory
+no_cause text sides grades passes none are low (VertexRange r) h = absurd (passes.sound.inside r h.0 h.1)
+no_cause text sides grades passes none are low (RepeatedVertex r) h = absurd (passes.sound.distinct r h.1.0 h.1.1)
+no_cause text sides grades passes none are low (Flat r) h = absurd (passes.sound.thick r h.2.0 h.2.1)
+no_cause text sides grades passes none are low (TwinElements a b) h = let second = h.1.second in absurd (passes.twin_free second.1.0 b second.1.1 second.0 second.1.2)
+no_cause text sides grades passes none are low (EdgeOfThree r k) h = absurd (none.valid.two_at_most r k h.2.element h.2.edge h.2.holds)
+no_cause text sides grades passes none are low (NeighboursDiffer r k) h = absurd (none.neighbours h.1 r k h.2.element h.2.edge h.2.holds)
+no_cause text sides grades passes none are low (Incompatible r k) h =
+    let triples = triples_of text in
+    let table = told_of text.vertices.items triples sides [] passes in
+    let g : ℕ → ℤ = λ x. pos (slice_index_or grades x 0) in
+    absurd (h.1.holds.none g (fits_before triples sides table g (length triples * 3) are.meets r k (omega (arith, h.1.element, h.1.edge))))
+no_cause text sides grades passes none are low (GradeTooHigh r g) h =
+    let triples = triples_of text in
+    let own = grades_of triples grades sides (told_of text.vertices.items triples sides grades passes) are in
+    let first = h.1.first in
+    absurd (omega (arith, first.1, one_grade triples h.1.grades grades h.1.are own r first.0, low r first.0))
+no_cause text sides grades passes none are low Memory h = refl

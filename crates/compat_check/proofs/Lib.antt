@@ -23,4 +23,5 @@ mod Graded
 mod Labelling
 mod Whole
 mod Firsts
+mod OneGrading
 mod Causes

@@ -254,6 +254,7 @@ fn check_valid(alloc: Global, vertices: &[MacroVertex], triples: &[[u32; 3]]) ->
 pub fn check(alloc: Global, text: MacroText) -> Result<MacroMesh, CheckRefusal>
     ensures ok { IfOk result (IsMeshOf text) }
     ensures refused { IfErr result (IsCheckRefusal text) }
+    ensures faultless { OnOk result ((refusal : CheckRefusal) → IsCheckRefusal text refusal → refusal ≡ CheckRefusal.Memory) }
 {
     let MacroText {
         vertices,

@@ -5,7 +5,7 @@ use Rattle.macro_file.specs.declared.text.MacroText.{MacroText}
 use Rattle.compat_check.specs.Faults.{IsFirst}
 use Rattle.compat_check.specs.Checks.{triples_of}
 use Rattle.compat_check.specs.Passes.{IsGradeFault, IsNeighbourFault, IsValidityFault}
-use Rattle.compat_check.proofs.Causes.{faultless, grade_cause, neighbour_cause, validity_cause}
+use Rattle.compat_check.proofs.Causes.{faultless, grade_cause, neighbour_cause, no_cause, validity_cause}
 use Rattle.macro_file.specs.declared.text.MacroElem.{MacroElem}
 use Rattle.macro_file.specs.declared.text.MacroVertex.{MacroVertex}
 use Rattle.mesh_names.specs.Triangles.{Triple}
@@ -118,3 +118,16 @@ returns-in_err-grades-clause-refused c =
     let count = counted ∙ ap length (text_triples text.elements.items c.deref.result.now c.in_ok-triples.triples.items c.deref.ensures.value c.in_ok-triples.ensures) in
     rw (p.1, p.2) (grade_cause text c.in_ok-sides.sides.items passes (faultless text c.in_ok-sides.sides.items passes none) c.in_err-grades.field-0.0
     (subst (λ (y : ℕ × List (Option Side)). IsGradeFault y.0 y.1 c.in_err-grades.field-0.0) (λ i. (count i, c.deref-6.ensures.value i)) c.in_err-grades.ensures.refused))
+
+pub returns-clause-faultless : goal.returns-clause-faultless
+returns-clause-faultless c =
+    let text = c.args.text in
+    let sides = c.in_ok-sides.sides.items in
+    let own = text_triples text.elements.items c.deref.result.now c.in_ok-triples.triples.items c.deref.ensures.value c.in_ok-triples.ensures in
+    let triples = c.deref-3.ensures.value ∙ own in
+    let passes = passes_of_text text c.deref-2.result.now c.deref-3.result.now sides c.deref-2.ensures.value triples c.in_ok-sides.ensures.ok in
+    let none : text.neighbours_given ≡ true → IsFirst (length sides) (Differs text.elements.items sides) None =
+    subst (λ (y : List MacroElem × List (Option Side)). text.neighbours_given ≡ true → IsFirst (length y.1) (Differs y.0 y.1) None) (λ i. (c.deref-4.ensures.value i, c.deref-5.ensures.value i)) c.in_ok-check_neighbours.ensures.ok in
+    let counted : c.len.result ≡ length c.in_ok-triples.triples.items = omega (arith, c.len.ensures) in
+    let shown = shown_at text.vertices.items (triples_of text) sides c.deref-6.result.now c.in_ok-grades.grades.items c.len.result passes c.deref-6.ensures.value (counted ∙ ap length own) c.in_ok-grades.ensures.ok.0 c.in_ok-grades.ensures.ok.1 in
+    no_cause text sides c.in_ok-grades.grades.items passes (faultless text sides passes none) shown.grades_are shown.low
