@@ -37,7 +37,7 @@ module _ {A B : Type 0} (line : B → List ℕ) (view : A → B) (xs : List A) w
       let more : take (i + 1) (map view xs) ≡ take i (map view xs) ++ view x ∷ [] = take_more (map view xs) i (view x) (omega (arith, length-map xs view)) ∙ ap (λ y. take i (map view xs) ++ y ∷ []) item in
       n ∙ ap (λ t. t ++ (line (view x) ++ 10 ∷ [])) e ∙ append_assoc t0 (lines_text (map line (take i (map view xs)))) (line (view x) ++ 10 ∷ [])
       ∙ ap (λ ts. t0 ++ ts) (sym (ap (λ ys. lines_text (map line ys)) more ∙ ap lines_text (map-append line (take i (map view xs)) (view x ∷ [])) ∙ lines-append (map line (take i (map view xs))) (line (view x) ∷ [])
-        ∙ ap (λ ts. lines_text (map line (take i (map view xs))) ++ ts) (lines-one (line (view x)))))
+      ∙ ap (λ ts. lines_text (map line (take i (map view xs))) ++ ts) (lines-one (line (view x)))))
 
   -- a key and a line of each
   pub put_all : (key : List ℕ) (i : ℕ) (t0 t1 t2 : List ℕ) → length xs ≤ i → t1 ≡ t0 ++ (key ++ 10 ∷ []) → t2 ≡ t1 ++ lines_text (map line (take i (map view xs))) → t2 ≡ t0 ++ lines_text (key ∷ map line (map view xs))

@@ -4,12 +4,10 @@ ghost use Rattle.mesh_io.specs.Decimals.{written_units};
 ghost use Rattle.macro_file.specs.Text.{vertex_of, element_of, macro_of};
 ghost use Rattle.macro_file.specs.Written.{lines_text, numbers_line, point_line, list_lines, head_lines, label_lines, neighbour_lines, macro_bytes};
 
-use std::alloc::Global;
-
-use mesh_io::{put_decimal, put_whole};
-
 use crate::refusal::MacroRefusal;
 use crate::text::{MacroElem, MacroText, MacroVertex};
+use mesh_io::{put_decimal, put_whole};
+use std::alloc::Global;
 
 fn put_text(to: &mut Vec<u8>, text: &str) -> Result<(), MacroRefusal>
     ensures ok { OnOk result (to.new.items ≡ to.old.items ++ text.now) }

@@ -14,5 +14,5 @@ returns-clause-ok c =
     let e : to_z w64 c.args.elements ≡ pos c.args.elements = omega (arith, ints) in
     on_ok_weaker c.put_text-3.result
     (put_head _ _ _ _ _ _ c.args.vertices c.args.elements c.in_ok-put_text.ensures.ok (c.in_ok-put_number.ensures.ok ∙ ap (λ z. c.put_text.new.to.items ++ signed_decimal z) v)
-      c.in_ok-put_text-2.ensures.ok (c.in_ok-put_number-2.ensures.ok ∙ ap (λ z. c.put_text-2.new.to.items ++ signed_decimal z) e))
+    c.in_ok-put_text-2.ensures.ok (c.in_ok-put_number-2.ensures.ok ∙ ap (λ z. c.put_text-2.new.to.items ++ signed_decimal z) e))
     c.put_text-3.ensures.ok
