@@ -1,8 +1,8 @@
 //! `adapt`: adaptive triangle meshes by newest-vertex bisection.
 #![tactic(auto)]
 
-use adapt_cli::program::adapt;
 use adapt_cli::ending::{MEMORY, write_line};
+use adapt_cli::program::adapt;
 use adapt_cli::words::USAGE;
 use mesh_io::{FileShelf, NoGate, StreamSink};
 use std::env;

@@ -5,8 +5,8 @@ use Rattle.std.specs.FinMap.{get}
 use Rattle.mesh_io.specs.Shelves.{Files}
 use Rattle.adapt_cli.specs.Words.{Word, files_of_run, usage}
 use Rattle.adapt_cli.specs.FaultTexts.{memory_line, read_fault_line}
-use Rattle.adapt_cli.specs.Ending.{Call, Ends, IsNamed, IsUntouched, LineEnds, StopEnds, Tells, Written}
-use Rattle.adapt_cli.specs.Stops.{IsStop, name_of}
+use Rattle.adapt_cli.specs.Ending.{Call, Ends, IsNext, IsUntouched, LineEnds, StopEnds, Tells, Written}
+use Rattle.adapt_cli.specs.Stops.{IsNameOf, IsStop, IsTurn, name_of}
 use Rattle.adapt_cli.specs.declared.fault.InputFile.{InputFile}
 use Rattle.adapt_cli.specs.declared.fault.InputFile.TheVariants.{Macro, Marks}
 use Rattle.adapt_cli.specs.declared.fault.Stop.{Stop}
@@ -35,9 +35,9 @@ module _ (words : List Word) (files : Option Files) (steady : Bool) (before now 
       }))))
       ends
 
-  is_named : (names : Word × Word) (file : InputFile) (name : Word) → files_of_run words ≡ Some names → name ≡ name_of names file → (any : ℕ) → IsNamed (call any) name
-  is_named names Macro name e same any = (names, e, inl same)
-  is_named names Marks name e same any = (names, e, inr same)
+  is_next : (names : Word × Word) (file : InputFile) (name : Word) → files_of_run words ≡ Some names → IsTurn files names file → name ≡ name_of names file → (any : ℕ) → IsNext (call any) name
+  is_next names Macro name e turn same any = (names, e, inl same)
+  is_next names Marks name e turn same any = (names, e, inr (same, turn))
 
   pub ends_at_stop : (stop : Stop) → IsStop words files steady before now stop → (result : ℕ) → StopEnds words stop err result → Ends (call result)
   ends_at_stop (Refused fault) h result ends = told (string_bytes fault.line) fault.status result (λ any. inr (inr (inl (record { low = h.0; high = h.1; names = h.2; calm = h.3; outcome = h.4 })))) ends
@@ -47,9 +47,9 @@ module _ (words : List Word) (files : Option Files) (steady : Bool) (before now 
       told (read_fault_line ends.0) 6 result (λ any. inr (inr (inr (record {
         status_is = refl;
         name = ends.0;
-        is_named = is_named h.0 file ends.0 h.1 same any;
+        is_next = is_next h.0 file ends.0 h.1 h.3 same any;
         line_is = refl;
         rose = h.2;
-        missing = λ steadily. subst (λ (n : Word). IfSome files (λ told. get told n ≡ None)) (sym same) (h.3 steadily);
+        missing = λ steadily. subst (λ (n : Word). IfSome files (λ told. get told n ≡ None)) (sym same) (h.4 steadily);
       })))) ends.2
   ends_at_stop Usage h result ends = told usage 2 result (λ any. inr (inl (record { status_is = refl; line_is = refl; outside = h.0; calm = h.1 }))) ends

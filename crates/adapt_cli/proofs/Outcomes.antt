@@ -17,8 +17,8 @@ use Rattle.forest_plain.specs.declared.refusal.RoundRefusal.TheVariants.{NotALea
 use Rattle.adapt_cli.specs.Words.{Word, HasNames, files_of_run}
 use Rattle.adapt_cli.specs.FaultTexts.{Fault, round_fault}
 use Rattle.adapt_cli.specs.Rounds.{Leads, Refuses, LeadTo}
-use Rattle.adapt_cli.specs.Outcome.{AcceptsMacro, AcceptsMarks, RefusesMarks, RunsTo, Follows, FollowsMarks, IsOutcome, pool}
-use Rattle.adapt_cli.specs.Stops.{Gives, name_of, IsLoadStop, IsStop, IsTextOf, StopsBy}
+use Rattle.adapt_cli.specs.Outcome.{AcceptsMacro, AcceptsMarks, RefusesMarks, RunsTo, Follows, FollowsMarks, IsOutcome, MacroIsAccepted, pool}
+use Rattle.adapt_cli.specs.Stops.{Gives, name_of, IsLoadStop, IsStop, IsTurn, IsTextOf, StopsBy}
 use Rattle.adapt_cli.specs.declared.fault.InputFile.TheVariants.{Marks}
 use Rattle.adapt_cli.specs.declared.fault.InputFile.{InputFile}
 use Rattle.adapt_cli.specs.declared.fault.Stop.{Stop}
@@ -89,6 +89,13 @@ module _ (words : List Word) (macro_file marks_file : Word) (files files_now : O
       by None e h = tt
       by (Some told) e h = subst (λ (o : Option (Word × Word)). Follows o told end) (sym named) (follows told e h.0 h.1 h.2)
 
+  accepted : MacroIsAccepted files macro_file
+  accepted = by files gives.1
+    where
+      by : (o : Option Files) → IfSome o (λ told. (bytes : List ℕ) × (get told macro_file ≡ Some bytes) × AcceptsMacro bytes mesh) → MacroIsAccepted o macro_file
+      by None h = tt
+      by (Some told) h = (h.0, h.1, mesh, h.2)
+
   -- the marks file is not there, too long, or refused
   pub marks_stop : (steady steady_now : Bool) → (steady ≡ true → steady_now ≡ true) → (stop : Stop) → IsLoadStop RefusesMarks 4 Marks marks_file files_now steady_now first now stop → IsStop words files steady before now stop
   marks_stop steady steady_now stays (Refused fault) h = (
@@ -108,6 +115,7 @@ module _ (words : List Word) (macro_file marks_file : Word) (files files_now : O
     (macro_file, marks_file),
     named,
     ⊎_elim (λ a. inl (omega (arith, a, gives.0))) (λ b. inr (sym gives.0 ∙ b)) h.1,
+    subst (λ (f : InputFile). IsTurn files (macro_file, marks_file) f) (sym h.0) accepted,
     λ steadily. subst (λ (f : InputFile). IfSome files (λ told. get told (name_of (macro_file, marks_file) f) ≡ None)) (sym h.0) (subst (λ (o : Option Files). IfSome o (λ told. get told marks_file ≡ None)) same (h.2 (stays steadily))),
   )
   marks_stop steady steady_now stays Usage h = absurd h

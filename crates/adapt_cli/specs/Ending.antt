@@ -5,7 +5,7 @@ use Rattle.mesh_io.specs.Faults.{Rose}
 use Rattle.mesh_io.specs.Shelves.{Files}
 use Rattle.adapt_cli.specs.Words.{Word, HasNames, files_of_run, usage}
 use Rattle.adapt_cli.specs.FaultTexts.{memory_line, read_fault_line, write_fault_line}
-use Rattle.adapt_cli.specs.Outcome.{IsOutcome}
+use Rattle.adapt_cli.specs.Outcome.{IsOutcome, MacroIsAccepted}
 use Rattle.adapt_cli.specs.Stops.{IsNameOf}
 use Rattle.adapt_cli.specs.declared.fault.Stop.{Stop}
 use Rattle.adapt_cli.specs.declared.fault.Stop.TheVariants.{Refused, Memory, ReadFault, Usage}
@@ -43,9 +43,9 @@ pub record Call : Type 0 where
   pub err : Written
   pub status : ℕ
 
--- the name is one of the two
-abbrev pub IsNamed : Call → Word → Type 0
-IsNamed call name = (names : Word × Word) × (files_of_run call.words ≡ Some names) × ((name ≡ names.0) ⊎ (name ≡ names.1))
+-- the name is that of the macro file; or that of the marks file, once the macro file is accepted
+abbrev pub IsNext : Call → Word → Type 0
+IsNext call name = (names : Word × Word) × (files_of_run call.words ≡ Some names) × ((name ≡ names.0) ⊎ ((name ≡ names.1) × MacroIsAccepted call.files names.0))
 
 -- there was no memory
 pub record WantsMemory (call : Call) (status : ℕ) (line : List ℕ) : Type 0 where
@@ -73,7 +73,7 @@ pub record IsRefused (call : Call) (status : ℕ) (line : List ℕ) : Type 0 whe
 pub record IsUnread (call : Call) (status : ℕ) (line : List ℕ) : Type 0 where
   pub status_is : status ≡ 6
   pub name : Word
-  pub is_named : IsNamed call name
+  pub is_next : IsNext call name
   pub line_is : line ≡ read_fault_line name
   pub rose : Rose call.before call.now
   pub missing : call.steady ≡ true → IfSome call.files (λ files. get files name ≡ None)

@@ -1,6 +1,6 @@
 -- What the words and the files lead to: the text on out, or a status with its line on err. The first of these that holds:
 -- the words are outside; the macro file is refused; the marks file is refused; a round is refused; or else the text.
-use Rattle.std.specs.Prelude.{◌≡◌, ℕ, ◌<◌, ◌≤◌, ◌⊎◌, List, length, codes, Option, Some, None, Result, Ok, Err}
+use Rattle.std.specs.Prelude.{◌≡◌, ℕ, ◌<◌, ◌≤◌, ◌⊎◌, List, length, codes, Option, Some, None, IfSome, Result, Ok, Err}
 use Rattle.std.specs.FinMap.{get}
 use Rattle.std.specs.FinSet.{empty}
 use Rattle.mesh_io.specs.Shelves.{Files}
@@ -37,6 +37,10 @@ pub record AcceptsMacro (bytes : List ℕ) (mesh : Mesh) : Type 0 where
   pub text : MacroText
   pub read : meaning bytes ≡ Ok (macro_of text)
   pub checked : IsMeshOf text mesh
+
+-- where the shelf tells its files, the macro file is there and is accepted
+abbrev pub MacroIsAccepted : Option Files → Word → Type 0
+MacroIsAccepted files name = IfSome files (λ told. (bytes : List ℕ) × (get told name ≡ Some bytes) × (mesh : Mesh) × AcceptsMacro bytes mesh)
 
 -- the bytes are too long
 pub record IsTooLong (limit : ℕ) (what : List ℕ) (bytes line : List ℕ) : Type 0 where

@@ -8,7 +8,7 @@ use Rattle.mesh_io.specs.Shelves.{Files}
 use Rattle.forest_plain.specs.declared.refusal.RoundRefusal.{RoundRefusal}
 use Rattle.adapt_cli.specs.Words.{Word, HasNames, files_of_run}
 use Rattle.adapt_cli.specs.FaultTexts.{Fault, round_fault}
-use Rattle.adapt_cli.specs.Outcome.{IsOutcome}
+use Rattle.adapt_cli.specs.Outcome.{IsOutcome, MacroIsAccepted}
 use Rattle.adapt_cli.specs.declared.fault.InputFile.{InputFile}
 use Rattle.adapt_cli.specs.declared.fault.InputFile.TheVariants.{Macro, Marks}
 use Rattle.adapt_cli.specs.declared.fault.Stop.{Stop}
@@ -40,13 +40,18 @@ abbrev pub name_of : Word × Word → InputFile → Word
 name_of names Macro = names.0
 name_of names Marks = names.1
 
+-- it is the turn of a file to be loaded: of the marks file once the macro file is accepted
+abbrev pub IsTurn : Option Files → Word × Word → InputFile → Type 0
+IsTurn files names Macro = Unit {0}
+IsTurn files names Marks = MacroIsAccepted files names.0
+
 -- when each stop of a call comes: what the words and the files lead to, or why that cannot be told; `files`, `steady`, `before` and `now` are the shelf's
 abbrev pub IsStop : List Word → Option Files → Bool → ℕ → ℕ → Stop → Type 0
 IsStop words files steady before now (Refused fault) =
     (3 ≤ fault.status) × (fault.status ≤ 5) × HasNames words × (now ≡ before) × IfSome files (λ told. IsOutcome words told (Err (fault.status, string_bytes fault.line)))
 IsStop words files steady before now Memory = HasNames words × (now ≡ before)
 IsStop words files steady before now (ReadFault file) =
-    (names : Word × Word) × (files_of_run words ≡ Some names) × Rose before now × (steady ≡ true → IfSome files (λ told. get told (name_of names file) ≡ None))
+    (names : Word × Word) × (files_of_run words ≡ Some names) × Rose before now × IsTurn files names file × (steady ≡ true → IfSome files (λ told. get told (name_of names file) ≡ None))
 IsStop words files steady before now Usage = (files_of_run words ≡ None) × (now ≡ before)
 
 -- when each stop of a load comes; `refuses` tells the lines of this status

@@ -7,7 +7,7 @@ ghost use Rattle.adapt_cli.specs.Stops.{Gives, IsLoadStop, IsRefusedWith, Refuse
 
 use crate::fault::{Fault, InputFile, Stop, marks_line};
 use crate::macro_lines::{check_line, macro_line};
-use compat_check::checking::check;
+use compat_check::check;
 use compat_check::mesh::MacroMesh;
 use macro_file::read_macro;
 use mark_file::read::read_marks;

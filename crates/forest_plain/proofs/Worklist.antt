@@ -233,14 +233,14 @@ module _ (mesh : Shape) (x : Across) where
       pub popped_low : (name.0 < size mesh) × (level mesh name ≤ 24)
       popped_low = let l = last_is now rest name popped in (l.0, omega (arith, l.1))
 
-      pub step_known : (next : Names) → contains now name ≡ true → next ≡ insert now name → Worklist old needs next rest × (remaining old needs next rest < remaining old needs now pending)
+      step_known : (next : Names) → contains now name ≡ true → next ≡ insert now name → Worklist old needs next rest × (remaining old needs next rest < remaining old needs now pending)
       step_known next h k =
           let same : now ≡ next = within-both now (insert now name) (λ q i. has-insert now name q i) (λ q i. ⊎_elim (λ (p : q ≡ name). subst (λ (y : Name). Has now y) (sym p) h) (λ j. j) (insert-either now name q i)) ∙ sym k in (
             subst (λ (y : Names). Worklist old needs y rest) same (known now rest name popped h),
             subst (λ (y : Names). remaining old needs y rest < remaining old needs now pending) same (subst (λ (l : List Name). remaining old needs now rest < remaining old needs now l) (sym e) (known_less now rest name popped)),
           )
 
-      pub step_added : (next : Names) (above : List Name) → contains now name ≡ false → next ≡ insert now name → above ≡ rest ++ names_above x name → Worklist old needs next above × (remaining old needs next above < remaining old needs now pending)
+      step_added : (next : Names) (above : List Name) → contains now name ≡ false → next ≡ insert now name → above ≡ rest ++ names_above x name → Worklist old needs next above × (remaining old needs next above < remaining old needs now pending)
       step_added next above out k l = (
         subst (λ (y : Names). Worklist old needs y above) (sym k) (subst (λ (z : List Name). Worklist old needs (insert now name) z) (sym l) (added now rest name popped)),
         subst (λ (y : Names). remaining old needs y above < remaining old needs now pending) (sym k)
@@ -248,19 +248,16 @@ module _ (mesh : Shape) (x : Across) where
             (subst (λ (z : List Name). remaining old needs (insert now name) (rest ++ names_above x name) < remaining old needs now z) (sym e) (added_less now rest name popped out))),
       )
 
+      pub step : (next : Names) (left : List Name) → next ≡ insert now name → left ≡ rest ++ cond (contains now name) [] (names_above x name) → Worklist old needs next left × (remaining old needs next left < remaining old needs now pending)
+      step next left k l = by (contains now name) refl l
+        where
+          by : (b : Bool) → contains now name ≡ b → left ≡ rest ++ cond b [] (names_above x name) → Worklist old needs next left × (remaining old needs next left < remaining old needs now pending)
+          by true h m = subst (λ (z : List Name). Worklist old needs next z × (remaining old needs next z < remaining old needs now pending)) (sym (m ∙ append-nil rest)) (step_known next h k)
+          by false h m = step_added next left h k m
+
     pub finish : (now : Names) (pending rest : List Name) → Worklist old needs now pending → pending ≡ rest ++ [] → length rest ≡ 0 → now ≡ top
     finish now pending rest w e z = finished now (subst (λ (l : List Name). Worklist old needs now l) (e ∙ append-nil rest ∙ none rest z) w)
       where
         none : (l : List Name) → length l ≡ 0 → l ≡ []
         none [] z = refl
         none (q ∷ l) z = absurd (omega (arith, z))
-
-not-not : (b c : Bool) → b ≡ not c → b ≡ true → c ≡ false
-not-not b c p q = true-not c (sym p ∙ q)
-
-pub was_new : (b c : Bool) → b ≡ not c → b ≡ true → c ≡ false
-was_new b c p q = not-not b c p q
-
-pub was_known : (b c : Bool) → b ≡ not c → b ≡ false → c ≡ true
-was_known b true p q = refl
-was_known b false p q = absurd (both_sides b p q)

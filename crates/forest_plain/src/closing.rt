@@ -1,5 +1,6 @@
 //! The least conforming forest that holds given names.
-ghost use Rattle.std.specs.Prelude.{◌≡◌, ◌<◌, ◌≤◌, ◌++◌, OnOk};
+ghost use Rattle.std.specs.Prelude.{◌≡◌, ◌<◌, ◌≤◌, [], ◌++◌, cond, OnOk};
+ghost use Rattle.std.specs.FinSet as set;
 ghost use Rattle.std.specs.FinSet.{from_list};
 ghost use Rattle.mesh_names.specs.Triangles.{size, level};
 ghost use Rattle.mesh_names.specs.Forests.{IsForest};
@@ -28,10 +29,25 @@ pub fn close(
     let _count = mesh.element_count();
     let mut pending = needed;
     while let Some(name) = pending.pop() {
-        let added = members.insert(name)?;
-        if added {
-            push_above(mesh, name, &mut pending)?;
-        }
+        add(mesh, members, name, &mut pending)?;
+    }
+    Ok(())
+}
+
+// Adds a name, and appends its parent and its partner if it is new.
+fn add(
+    mesh: &MacroMesh,
+    members: &mut NameSet,
+    name: ElemName,
+    pending: &mut Vec<ElemName>,
+) -> Result<(), AllocError>
+    requires root { name.0 < size (shape_of mesh.now) }
+    requires level { level (shape_of mesh.now) name ≤ 24 }
+    ensures held { OnOk result (members.new ≡ set.insert members.old name) }
+    ensures above { OnOk result (pending.new.items ≡ pending.old.items ++ cond (set.contains members.old name) [] (names_above (across_in mesh.now) name)) }
+{
+    if members.insert(name)? {
+        push_above(mesh, name, pending)?;
     }
     Ok(())
 }

@@ -11,3 +11,4 @@ pub mod RangeLemmas
 pub mod LookupLemmas
 pub mod AssemblyLemmas
 pub mod ReaderLemmas
+pub mod WriterLemmas

@@ -9,4 +9,5 @@ pub mod Capped
 pub mod Meaning
 pub mod Places
 pub mod Text
+pub mod Written
 pub mod Examples

@@ -22,10 +22,12 @@ mod sections;
 mod text;
 mod tokens;
 mod words;
+mod writer;
 
 pub use reader::read_macro;
 pub use refusal::{Key, MacroRefusal};
 pub use text::{MacroElem, MacroText, MacroVertex};
+pub use writer::put_macro;
 
 #[cfg(test)]
 mod tests;

@@ -53,6 +53,30 @@ fn a_square_is_read(rt: HostRuntime) -> Result<(), Fail> {
     Ok(())
 }
 
+// Every list, in another order, with signs and exponents.
+#[test]
+fn all_lists_are_written(rt: HostRuntime) -> Result<(), Fail> {
+    let text = read(
+        rt.alloc(),
+        "element values: -7\nelement neighbours: -1 +0 65535\nelement boundaries: -128 0 127\nnumber of elements: 1\nelement vertices: 2 01 0\nvertex values: 5 -0 -2147483648\nvertex coordinates: 0.33333333333333331 1.0e+00 -1e5 -.5 0 1e-999999\nnumber of vertices: 3",
+    )?;
+    let written = put_macro(rt.alloc(), &text)?;
+    let want =
+        "DIM: 2\nDIM_OF_WORLD: 2\n\nnumber of vertices: 3\nnumber of elements: 1\n\nvertex coordinates:\n0.3333333333333251953125 1\n-100000 -0.5\n0 0\n\nelement vertices:\n2 1 0\n\nelement boundaries:\n-128 0 127\n\nelement neighbours:\n-1 0 65535\n\nvertex values:\n5\n0\n-2147483648\n\nelement values:\n-7\n";
+    assert_eq!(rt; written.as_slice(), want.as_bytes());
+    Ok(())
+}
+
+#[test]
+fn lists_that_were_not_given_are_left_out(rt: HostRuntime) -> Result<(), Fail> {
+    let text = read(rt.alloc(), SQUARE)?;
+    let written = put_macro(rt.alloc(), &text)?;
+    let want =
+        "DIM: 2\nDIM_OF_WORLD: 2\n\nnumber of vertices: 4\nnumber of elements: 2\n\nvertex coordinates:\n0 0\n1 0\n1 1\n0 1\n\nelement vertices:\n2 0 1\n0 2 3\n\nvertex values:\n0\n0\n0\n0\n\nelement values:\n0\n0\n";
+    assert_eq!(rt; written.as_slice(), want.as_bytes());
+    Ok(())
+}
+
 // The file is cut after its last `0 2`.
 #[test]
 fn a_short_list_is_refused_at_its_key(rt: HostRuntime) {

@@ -1,12 +1,10 @@
 -- What the fields of a row give.
-use Rattle.std.proofs.Common.{◌≡◌, ℕ, zero, suc, ◌+◌, ◌-◌, ◌*◌, ◌<◌, ◌≤◌, Bool, true, false, cond, eqb, leb, ◌&&◌, List, [], ◌∷◌, length, take, drop, reverse, get_or, Option, Some, None, Ok, ℤ, pos, negsuc, sym, refl, ap, ◌∙◌, subst, arith}
+use Rattle.std.proofs.Common.{◌≡◌, ℕ, zero, suc, ◌+◌, ◌-◌, ◌*◌, ◌<◌, ◌≤◌, Bool, true, false, cond, eqb, leb, ◌&&◌, List, [], ◌∷◌, length, take, drop, get_or, Option, Some, None, Ok, ℤ, pos, negsuc, sym, refl, ap, ◌∙◌, arith}
 use Rattle.std.specs.Char.{digit_value}
 use Rattle.std.specs.List.{prefix_len, suffix_len}
 use Rattle.std.specs.Option.{option_and_then}
 use Rattle.std.specs.Result.{OkIff}
 use Rattle.std.specs.Str.{all_ascii_digits, IsAscii, IsUtf8}
-use Rattle.std.proofs.lemmas.List.{length-reverse}
-use Rattle.std.proofs.lemmas.List.Sums.{prefix_len-le-length}
 use Rattle.std.specs.Str.Parse.{AllDigits, IsNumeral, digits_value, signed_digits_value, without_leading_sign}
 use Rattle.std.specs.Prelude.{FitsSigned}
 use Rattle.std.proofs.lemmas.Bool.{eqb-true, leb-true, le-leb}
@@ -125,13 +123,6 @@ numeral_text (c ∷ cs) h = IsUtf8-from_ascii (c ∷ cs) (signed_ascii c cs h.1)
 
 pub mark_no_text : (field : Field) → ¬ (IsUtf8 field) → mark_in field ≡ None
 mark_no_text field h = mark_none field (λ f. h (numeral_text field f.0))
-
--- blanks are a part of their field
-pub front_fits : (field : Field) → prefix_len is_blank field ≤ length field
-front_fits field = prefix_len-le-length is_blank field
-
-pub end_fits : (field : Field) → suffix_len is_blank field ≤ length field
-end_fits field = subst (λ n. suffix_len is_blank field ≤ n) (length-reverse field) (prefix_len-le-length is_blank (reverse field))
 
 -- a field, cut at its blanks
 pub trimmed-cut : (field rest : Field) (front end : ℕ) → front ≡ prefix_len is_blank field → rest ≡ drop front field → end ≡ suffix_len is_blank rest → take (length rest - end) rest ≡ trimmed field

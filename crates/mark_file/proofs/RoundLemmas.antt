@@ -131,32 +131,42 @@ round_was mid at f c e h =
     ∙ ap (λ rounds. get_or rounds c (round_read at)) e
     ∙ get_or-map-range_with_len f 1 (suc c) c (1 + c) (round_read at) (omega arith) refl
 
+-- the rounds that a row finds, of which its own is the last
+found_rounds : (old mid : List RoundMarks) (rows : List RoundRow) (count : ℕ) → length old ≤ count → 1 ≤ count → rounds_read old ≡ rounds_of rows
+    → rounds_read mid ≡ rounds_read old ++ map empty_round (range_with_len (length old + 1) (count - length old)) → rounds_read mid ≡ map (round_at rows) (range_with_len 1 (suc (count - 1)))
+found_rounds old mid rows count low some e fill =
+    let size : length old ≡ greatest_round rows = sym (length-rounds_read old) ∙ ap length e ∙ length-rounds_of rows in
+    let whole : count ≡ suc (count - 1) = omega (arith, some) in
+    fill
+    ∙ ap (λ rounds. rounds ++ map empty_round (range_with_len (length old + 1) (count - length old))) e
+    ∙ filled rows (length old) count size low
+    ∙ ap (λ n. map (round_at rows) (range_with_len 1 n)) whole
+
+-- its own round with the row
+own_round : (at put : RoundMarks) (rows : List RoundRow) (row : RoundRow) (k : ℕ) → row.round ≡ k → round_read at ≡ round_at rows k → put.number ≡ at.number → put.rows.items ≡ at.rows.items ++ (mark_row row ∷ [])
+    → round_read put ≡ round_at (rows ++ (row ∷ [])) k
+own_round at put rows row k last was same_number more =
+    (λ i. record { number = same_number i; rows = more i })
+    ∙ ap (λ (round : Round). record { number = round.number; rows = round.rows ++ (mark_row row ∷ []) }) was
+    ∙ sym (round_at-own rows row k last)
+
+all_rounds : (rows : List RoundRow) (row : RoundRow) (c : ℕ) → greatest_round rows ≤ row.round → suc c ≡ row.round → map (round_at (rows ++ (row ∷ []))) (range_with_len 1 (suc c)) ≡ rounds_of (rows ++ (row ∷ []))
+all_rounds rows row c low e = ap (λ n. map (round_at (rows ++ (row ∷ []))) (range_with_len 1 n)) (e ∙ sym (greatest_round-push rows row low))
+
 -- a row that was put into the last round joins the rounds of all rows
 pub row_joins : (old mid : List RoundMarks) (at put : RoundMarks) (rows : List RoundRow) (row : RoundRow)
     → rounds_read mid ≡ rounds_read old ++ map empty_round (range_with_len (length old + 1) (row.round - length old)) → length old ≤ row.round → 1 ≤ row.round
     → at ≡ get_or mid (row.round - 1) at → put.number ≡ at.number → put.rows.items ≡ at.rows.items ++ (mark_row row ∷ [])
     → rounds_read old ≡ rounds_of rows → rounds_read (set mid (row.round - 1) put) ≡ rounds_of (rows ++ (row ∷ []))
 row_joins old mid at put rows row fill low some was same_number more e =
-    let c = row.round - 1 in
-    let f : ℕ → Round = round_at rows in
-    let g : ℕ → Round = round_at (rows ++ (row ∷ [])) in
-    let whole : row.round ≡ suc (row.round - 1) = omega (arith, some) in
-    let count : length old ≡ greatest_round rows = sym (length-rounds_read old) ∙ ap length e ∙ length-rounds_of rows in
-    let mid_is : rounds_read mid ≡ map f (range_with_len 1 (suc c)) =
-    fill
-    ∙ ap (λ rounds. rounds ++ map empty_round (range_with_len (length old + 1) (row.round - length old))) e
-    ∙ filled rows (length old) row.round count low
-    ∙ ap (λ n. map f (range_with_len 1 n)) whole in
-    let last : row.round ≡ 1 + (row.round - 1) = omega (arith, some) in
-    let was_round : round_read at ≡ f (1 + c) = round_was mid at f c mid_is was in
-    let own : round_read put ≡ g (1 + c) =
-    (λ i. record { number = same_number i; rows = more i })
-    ∙ ap (λ (round : Round). record { number = round.number; rows = round.rows ++ (mark_row row ∷ []) }) was_round
-    ∙ sym (round_at-own rows row (1 + c) last) in
-    map-set round_read mid c put
-    ∙ ap (λ rounds. set rounds c (round_read put)) mid_is
-    ∙ last-set f g c (round_read put) (λ k h. sym (round_at-other rows row k (λ same. omega (arith, same, h, some)))) own
-    ∙ ap (λ n. map g (range_with_len 1 n)) (sym whole ∙ sym (greatest_round-push rows row (omega (arith, count, low))))
+    let found = found_rounds old mid rows row.round low some e fill in
+    let size : length old ≡ greatest_round rows = sym (length-rounds_read old) ∙ ap length e ∙ length-rounds_of rows in
+    let own = own_round at put rows row (1 + (row.round - 1)) (omega (arith, some)) (round_was mid at (round_at rows) (row.round - 1) found was) same_number more in
+    let others : (k : ℕ) → k < suc (row.round - 1) → round_at rows k ≡ round_at (rows ++ (row ∷ [])) k = λ k h. sym (round_at-other rows row k (λ same. omega (arith, same, h, some))) in
+    map-set round_read mid (row.round - 1) put
+    ∙ ap (λ rounds. set rounds (row.round - 1) (round_read put)) found
+    ∙ last-set (round_at rows) (round_at (rows ++ (row ∷ []))) (row.round - 1) (round_read put) others own
+    ∙ all_rounds rows row (row.round - 1) (omega (arith, size, low)) (omega (arith, some))
 
 -- how many rounds there are then
 pub length-filled : (old mid : List RoundMarks) (count : ℕ) → length old ≤ count → rounds_read mid ≡ rounds_read old ++ map empty_round (range_with_len (length old + 1) (count - length old)) → length mid ≡ count

@@ -18,10 +18,11 @@ Field = List ℕ
 abbrev pub is_blank : ℕ → Bool
 is_blank c = (c == 32) || (c == 9)
 
--- a field without the blanks at its front, and one without those at its end
+-- a field without the blanks at its front
 abbrev pub without_front : Field → Field
 without_front field = drop (prefix_len is_blank field) field
 
+-- a field without the blanks at its end
 abbrev pub without_end : Field → Field
 without_end field = take (length field - suffix_len is_blank field) field
 

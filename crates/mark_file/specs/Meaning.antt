@@ -31,6 +31,7 @@ pub record Round : Type 0 where
   pub number : ℕ
   pub rows : List MarkRow
 
+-- the greatest round that a row names, and 0 where there is no row
 abbrev pub greatest_round : List RoundRow → ℕ
 greatest_round rows = fold max 0 (map (λ r. r.round) rows)
 
@@ -63,6 +64,7 @@ marks_meaning bytes = rows_meaning (records default_config (strip_bom bytes))
 abbrev pub round_read : RoundMarks → Round
 round_read marks = record { number = marks.number; rows = marks.rows.items }
 
+-- the rounds as they were read
 abbrev pub rounds_read : List RoundMarks → List Round
 rounds_read rounds = map round_read rounds
 

@@ -19,8 +19,9 @@ pub(crate) fn open(alloc: Global, bytes: &[u8]) -> Reader<&[u8]>
         .from_reader(alloc, bytes)
 }
 
-// Reads the next record into `row`, and answers whether there was one. Over bytes a read fails
-// for want of memory alone, but `csv` does not promise this: so each failure is told as that.
+// Reads the next record into `row`, and answers whether there was one. Records may have any
+// length, and over bytes a read fails for want of memory alone, but `csv` does not promise the
+// latter: so each failure is told as that.
 pub(crate) fn next_row(
     reader: &mut Reader<&[u8]>,
     row: &mut ByteRecord,

@@ -8,7 +8,7 @@ use Rattle.mesh_names.specs.Triangles.{Shape, size, level}
 use Rattle.mesh_names.specs.Forests.{Names, Has, Within, IsForest}
 use Rattle.mesh_names.specs.Partners.{Across, Tells, IsPartner, partner}
 use Rattle.mesh_names.specs.Conformity.{HoldsPartners}
-use Rattle.mesh_names.specs.LeastForest.{CanHold, IsLeast, grown_by, partner_at, parent_at, closed_below, least_forest, LeastByLevels, LeastIsOne}
+use Rattle.mesh_names.specs.LeastForest.{CanHold, IsLeast, grown_by, partner_at, parent_at, closed_below, least_forest, LeastByLevels, LeastIsOne, LeastKeeps}
 use Rattle.mesh_names.proofs.Neighbours.{some_inj, none_some}
 use Rattle.mesh_names.proofs.Pairs.{partners_pair}
 use Rattle.mesh_names.proofs.Conforming.{conforms_by_partners}
@@ -203,3 +203,8 @@ least_is_one mesh x tells old needs a b =
     let new : Names = least_forest mesh x old needs in
     let is = least mesh x tells old needs a b in
     (new, is, λ other h. least-same mesh old needs other new h is)
+
+pub least_keeps : LeastKeeps
+least_keeps mesh old needs forest conforms within =
+    let itself : IsLeast mesh old needs old = record { forest = forest; conforms = conforms; holds_old = λ n h. h; holds_needs = within; least = λ other f c holds_old holds_needs. holds_old } in
+    (itself, λ new is. least-same mesh old needs new old is itself)

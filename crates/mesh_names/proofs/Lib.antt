@@ -18,3 +18,6 @@ pub mod Needs
 pub mod Chains
 pub mod Reaching
 pub mod SpelledNames
+pub mod Lists
+pub mod Deciding
+pub mod Worked

@@ -104,10 +104,7 @@ spells-is_spelling text n h =
 pub spelling_is_one : SpellingIsOne
 spelling_is_one text m n hm hn = sym (likely-spelling m hm.rooted) ∙ ap likely_name (sym hm.text_is ∙ hn.text_is) ∙ likely-spelling n hn.rooted
 
--- a value that is there where a test passes
-when : Bool → Name → Option Name
-when b n = cond b (Some n) None
-
+-- what a value that passed its test says
 some-is : (b : Bool) (m n : Name) → cond b (Some m) None ≡ Some n → (b ≡ true) × (m ≡ n)
 some-is true m n e = (refl, cc)
 some-is false m n e = absurd (cc)
@@ -258,14 +255,6 @@ letter_step word rest parent side room start v size inv parts digit =
     let count : start ≡ suc (length parent) = inv.0 ∙ ap length parts in
     let whole : length word ≡ length taken + length rest = ap length inv.1.1 ∙ length-append taken rest in
     (omega (arith, count), (taken ++ (side ∷ []), inv.1.1 ∙ ap (λ r. taken ++ r) parts ∙ sym (append_assoc taken (side ∷ []) parent), letter_put room start taken side v (omega (arith, count)) (omega (arith, whole, size, inv.0)) digit inv.1.2))
-
--- at the end the room has all letters
-pub letters_put : (word : List Bool) (rest : List Bool) (room : List ℕ) (start : ℕ) → HasTaken word rest room start → rest ≡ [] → room ≡ letters_text word
-letters_put word rest room start inv none =
-    let taken = inv.1.0 in
-    let whole : word ≡ taken = inv.1.1 ∙ ap (λ r. taken ++ r) none ∙ append-nil taken in
-    let first : start ≡ 0 = inv.0 ∙ ap length none in
-    ap (λ k. drop k room) (sym first) ∙ inv.1.2 ∙ ap letters_text (sym whole)
 
 -- one more digit
 pub root_more : (ds : List ℕ) (i root more : ℕ) → i < length ds → 48 ≤ get_or ds i 0 → get_or ds i 0 ≤ 57 → root ≡ digits_value 10 (take i ds) → more ≡ get_or ds i 0 - 48 → root * 10 + more ≡ digits_value 10 (take (i + 1) ds)

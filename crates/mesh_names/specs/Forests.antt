@@ -22,6 +22,10 @@ pub record IsListOf (names : Names) (list : List Name) : Type 0 where
   pub in_order : IsStrictlySortedBy name_cmp list
   pub all : from_list list ≡ names
 
+-- the law that a set has one list
+abbrev pub ListsAreOne : Type 0
+ListsAreOne = (names : Names) (a b : List Name) → IsListOf names a → IsListOf names b → a ≡ b
+
 -- a forest, by its members, the bisected elements: names of the mesh of level at most 23, with the parent of each
 pub record IsForest (mesh : Shape) (members : Names) : Type 0 where
   pub rooted : (n : Name) → Has members n → n.0 < size mesh

@@ -79,3 +79,7 @@ LeastByLevels = (mesh : Shape) (x : Across) → Tells mesh x → (old needs : Na
 -- the law that there is exactly one least forest
 abbrev pub LeastIsOne : Type 0
 LeastIsOne = (mesh : Shape) (x : Across) → Tells mesh x → (old needs : Names) → CanHold mesh old → CanHold mesh needs → (new : Names) × IsLeast mesh old needs new × ((other : Names) → IsLeast mesh old needs other → other ≡ new)
+
+-- the law that a conforming forest which holds what is needed is itself the least, and alone so
+abbrev pub LeastKeeps : Type 0
+LeastKeeps = (mesh : Shape) (old needs : Names) → IsForest mesh old → Conforms mesh old → Within needs old → IsLeast mesh old needs old × ((new : Names) → IsLeast mesh old needs new → new ≡ old)

@@ -14,3 +14,4 @@ pub mod Marks
 pub mod Chains
 pub mod Reaching
 pub mod Spelling
+pub mod Examples

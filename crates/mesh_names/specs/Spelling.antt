@@ -39,6 +39,7 @@ pub record Spells (text : List ℕ) (n : Name) : Type 0 where
   pub shallow : depth n ≤ 24
 
 -- the byte is the point between root and letters
+-- the byte is a point
 abbrev pub is_point : ℕ → Bool
 is_point c = c == 46
 

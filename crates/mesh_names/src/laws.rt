@@ -5,7 +5,9 @@ ghost use Rattle.mesh_names.specs.Validity.{GradesAreOne, ValidTells};
 ghost use Rattle.mesh_names.specs.Squares.{SquaresFit};
 ghost use Rattle.mesh_names.specs.Conformity.{ConformsByPartners};
 ghost use Rattle.mesh_names.specs.Reaching.{LeastByChains};
-ghost use Rattle.mesh_names.specs.LeastForest.{LeastByLevels, LeastIsOne, NeedsAre, NeedsCanBeHeld};
+ghost use Rattle.mesh_names.specs.LeastForest.{LeastByLevels, LeastIsOne, LeastKeeps, NeedsAre, NeedsCanBeHeld};
+ghost use Rattle.mesh_names.specs.Examples.{SquareMarkedTwice, SquareRefined, SquareSecondRound, TurnedSquareRefined};
+ghost use Rattle.mesh_names.specs.Forests.{ListsAreOne};
 ghost use Rattle.mesh_names.specs.Leaves.{LeavesAre};
 ghost use Rattle.mesh_names.specs.Marks.{MarksGiveNeeds};
 ghost use Rattle.mesh_names.specs.Chains.{ChainWithin, ChainsStand};
@@ -60,6 +62,16 @@ pub fn least_is_one()
     ensures { LeastIsOne }
 {}
 
+/// A conforming forest that holds what is needed is itself the least, and alone so.
+pub fn least_keeps()
+    ensures { LeastKeeps }
+{}
+
+/// A set of names has one list in order.
+pub fn lists_are_one()
+    ensures { ListsAreOne }
+{}
+
 /// The set of needs has the needed names.
 pub fn needs_are()
     ensures { NeedsAre }
@@ -93,4 +105,24 @@ pub fn chain_within()
 /// The least forest has the old names, and the patches of the chains of the needed ones.
 pub fn least_by_chains()
     ensures { LeastByChains }
+{}
+
+/// On the square one mark bisects both elements, into four leaves.
+pub fn square_refined()
+    ensures { SquareRefined }
+{}
+
+/// On the square the last row's mark by 2 bisects element 0, its partner and its children.
+pub fn square_marked_twice()
+    ensures { SquareMarkedTwice }
+{}
+
+/// A second round on the square reaches over to the other element.
+pub fn square_second_round()
+    ensures { SquareSecondRound }
+{}
+
+/// On the turned square, whose elements have grades 1 and 0, the partner is a child.
+pub fn turned_square_refined()
+    ensures { TurnedSquareRefined }
 {}

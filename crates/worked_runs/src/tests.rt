@@ -23,13 +23,37 @@ macro_rules! mesh {
 fn rounds_write_the_least_conforming_mesh(rt: HostRuntime) -> Result<(), Fail> {
     let cases = [
         (SQUARE, "", mesh!("4", "2", "2 0 1\n0 2 3\n")),
-        (SQUARE, "1,mark,0,1\n", mesh!("5", "4", "1 2 4\n0 1 4\n3 0 4\n2 3 4\n")),
-        (SQUARE, "1,mark,0,2\n", mesh!("7", "6", "4 1 5\n2 4 5\n4 0 6\n1 4 6\n3 0 4\n2 3 4\n")),
-        (SQUARE, "1,mark,0,1\n1,mark,0,0\n", mesh!("4", "2", "2 0 1\n0 2 3\n")),
-        (SQUARE, "1,mark,*,1\n1,mark,0,0\n", mesh!("5", "4", "1 2 4\n0 1 4\n3 0 4\n2 3 4\n")),
-        (TURNED_SQUARE, "1,mark,0,1\n", mesh!("6", "5", "1 2 4\n0 1 4\n5 0 4\n2 5 4\n3 0 5\n")),
+        (
+            SQUARE,
+            "1,mark,0,1\n",
+            mesh!("5", "4", "1 2 4\n0 1 4\n3 0 4\n2 3 4\n"),
+        ),
+        (
+            SQUARE,
+            "1,mark,0,2\n",
+            mesh!("7", "6", "4 1 5\n2 4 5\n4 0 6\n1 4 6\n3 0 4\n2 3 4\n"),
+        ),
+        (
+            SQUARE,
+            "1,mark,0,1\n1,mark,0,0\n",
+            mesh!("4", "2", "2 0 1\n0 2 3\n"),
+        ),
+        (
+            SQUARE,
+            "1,mark,*,1\n1,mark,0,0\n",
+            mesh!("5", "4", "1 2 4\n0 1 4\n3 0 4\n2 3 4\n"),
+        ),
+        (
+            TURNED_SQUARE,
+            "1,mark,0,1\n",
+            mesh!("6", "5", "1 2 4\n0 1 4\n5 0 4\n2 5 4\n3 0 5\n"),
+        ),
         (TRIANGLE, "1,mark,0,1\n", mesh!("4", "2", "2 0 3\n1 2 3\n")),
-        (FOUR_TRIANGLES, "1,mark,0,1\n", mesh!("6", "5", "4 0 5\n1 4 5\n1 2 4\n2 3 4\n3 0 4\n")),
+        (
+            FOUR_TRIANGLES,
+            "1,mark,0,1\n",
+            mesh!("6", "5", "4 0 5\n1 4 5\n1 2 4\n2 3 4\n3 0 4\n"),
+        ),
     ];
     for (macro_text, rows, want) in cases {
         let ran = run(&rt, rt.alloc(), macro_text, rows)?;
@@ -54,11 +78,19 @@ fn refusals_are_named_and_out_stays_empty(rt: HostRuntime) -> Result<(), Fail> {
     let cases = [
         ("1,mark,0.0,1\n", 4, "adapt: marks: row 2: not a leaf\n"),
         ("1,mark,2,1\n", 4, "adapt: marks: row 2: not a leaf\n"),
-        ("1,mark,0,1\n2,mark,0.0,24\n", 4, "adapt: marks: row 3: level 25 is above 24\n"),
+        (
+            "1,mark,0,1\n2,mark,0.0,24\n",
+            4,
+            "adapt: marks: row 3: level 25 is above 24\n",
+        ),
         ("1,mark,0,25\n", 4, "adapt: marks: row 2: bad number\n"),
         ("1,mark,0,-1\n", 4, "adapt: marks: row 2: bad number\n"),
         ("1,elem,0,1\n", 4, "adapt: marks: row 2: bad what\n"),
-        ("2,mark,0,1\n1,mark,0,1\n", 4, "adapt: marks: row 3: rounds fall\n"),
+        (
+            "2,mark,0,1\n1,mark,0,1\n",
+            4,
+            "adapt: marks: row 3: rounds fall\n",
+        ),
         ("0,mark,0,1\n", 4, "adapt: marks: row 2: bad round\n"),
         ("1,mark,00,1\n", 4, "adapt: marks: row 2: bad where\n"),
         ("1,mark,0\n", 4, "adapt: marks: row 2: bad fields\n"),
@@ -84,10 +116,14 @@ fn a_round_beyond_the_pool_tells_both_numbers(rt: HostRuntime) -> Result<(), Fai
 
 #[test]
 fn files_are_refused_by_line_and_by_element(rt: HostRuntime) -> Result<(), Fail> {
-    let head = "number of vertices: 5\nnumber of elements: 3\nvertex coordinates: 0 0 1 0 1 1 0 1 3 1\nelement vertices: 2 0 1 ";
+    let head =
+        "number of vertices: 5\nnumber of elements: 3\nvertex coordinates: 0 0 1 0 1 1 0 1 3 1\nelement vertices: 2 0 1 ";
     let cases = [
         ("", "adapt: macro: key missing: number of vertices\n"),
-        (&SQUARE[..SQUARE.len() - 2], "adapt: macro: line 10: 5 numbers where 6 belong\n"),
+        (
+            &SQUARE[..SQUARE.len() - 2],
+            "adapt: macro: line 10: 5 numbers where 6 belong\n",
+        ),
     ];
     for (text, want) in cases {
         let ran = run(&rt, rt.alloc(), text, "")?;
@@ -95,9 +131,18 @@ fn files_are_refused_by_line_and_by_element(rt: HostRuntime) -> Result<(), Fail>
         assert_eq!(rt; ran.status, 3, "{want}");
     }
     let elements = [
-        ("1 2 0 0 2 4", "adapt: macro: elements 0 and 1: twin elements\n"),
-        ("0 2 3 0 2 4", "adapt: macro: element 2 edge 2: edge of three\n"),
-        ("0 2 3 0 2 5", "adapt: macro: element 2: vertex out of range\n"),
+        (
+            "1 2 0 0 2 4",
+            "adapt: macro: elements 0 and 1: twin elements\n",
+        ),
+        (
+            "0 2 3 0 2 4",
+            "adapt: macro: element 2 edge 2: edge of three\n",
+        ),
+        (
+            "0 2 3 0 2 5",
+            "adapt: macro: element 2: vertex out of range\n",
+        ),
         ("0 2 3 0 2 2", "adapt: macro: element 2: repeated vertex\n"),
     ];
     for (triples, want) in elements {
@@ -136,7 +181,10 @@ fn words_and_missing_files_are_told(rt: HostRuntime) -> Result<(), Fail> {
 fn an_out_that_fails_keeps_what_it_took(rt: HostRuntime) -> Result<(), Fail> {
     let alloc = rt.alloc();
     let words = words(alloc, "run q m")?;
-    let files = [("q", SQUARE), ("m", "round,what,where,number\n1,mark,0,1\n")];
+    let files = [
+        ("q", SQUARE),
+        ("m", "round,what,where,number\n1,mark,0,1\n"),
+    ];
     let mut shelf = shelf(alloc, &files)?;
     let mut out = sink(alloc, 100, vec![in alloc; 2]?)?;
     let mut err = sink(alloc, 100, Vec::new(alloc))?;

@@ -1,0 +1,7 @@
+use Rattle.std.proofs.Common.{◌≡◌, ◌++◌, map, take}
+use Rattle.macro_file.specs.Text.{element_of}
+use Rattle.macro_file.specs.Written.{numbers_line, lines_text}
+use Rattle.macro_file.proofs.writer.put_boundaries.Given as goal
+
+abbrev pub invariant-loop-element : goal.invariant-loop-element
+invariant-loop-element l = l.to.items ≡ l.initial.to.items ++ lines_text (map (λ e. numbers_line e.labels) (take l.element-index (map element_of l.elements)))
