@@ -1,6 +1,6 @@
 -- What lies across the edges of a valid mesh, whether it has grades or not.
-use Rattle.std.proofs.Common.{◌≡◌, ℕ, ◌<◌, ◌⊎◌, Bool, true, false, cond, eqb, ◌&&◌, refl, sym, ap, ◌∙◌, subst, inl, inr, ⊎_elim, eqb-true}
-use Rattle.std.specs.Prelude.{Option, Some, None}
+use Rattle.std.proofs.Common.{◌≡◌, ℕ, ◌<◌, Bool, true, false, cond, eqb, ◌&&◌, refl, sym, ◌∙◌, subst, inl, inr, ⊎_elim, eqb-true}
+use Rattle.std.specs.Prelude.{Some, None}
 use Rattle.mesh_names.specs.Triangles.{Triple, Shape, size, triple_of, corner_of}
 use Rattle.mesh_names.specs.Partners.{Edge, Edge0, Edge1, Edge2}
 use Rattle.mesh_names.specs.Validity.{IsValid, Shares, IsSamePair, across_of, ends_of, match_pair}

@@ -1,12 +1,12 @@
 -- Each element alone.
-use Rattle.std.proofs.Common.{◌≡◌, ℕ, zero, suc, ◌+◌, ◌<◌, ◌≤◌, List, [], length, refl, sym, ap, ◌∙◌, subst, ⊎_elim, arith}
-use Rattle.std.specs.Prelude.{ℤ, pos, ◌+ℤ◌, ◌≤ℤ◌, slice_index_or}
+use Rattle.std.proofs.Common.{◌≡◌, ℕ, zero, suc, ◌<◌, [], length, refl, ⊎_elim, arith}
+use Rattle.std.specs.Prelude.{pos, ◌+ℤ◌, ◌≤ℤ◌}
 use Rattle.std.proofs.lemmas.Int.{ints}
 use Rattle.std.proofs.lemmas.Bool.{cases_eq}
-use Rattle.compat_check.specs.Parts.{count, parent_of, rise_of, rank_of, Leads, Settles, AreSettled}
+use Rattle.compat_check.specs.Parts.{count, parent_of, rank_of, AreSettled}
 use Rattle.compat_check.specs.declared.parts.Parts.{Parts}
 use Rattle.compat_check.proofs.Hanging.{hangs_self}
-use Rattle.compat_check.proofs.Linking.{tally, one_if, none_if}
+use Rattle.compat_check.proofs.Linking.{one_if, none_if}
 
 counts_itself : (n x : ℕ) → x < n → 0 < count (λ y. y) n x
 counts_itself zero x h = absurd (omega arith)

@@ -1,5 +1,5 @@
 -- A triangle is flat where two rectangles have one area.
-use Rattle.std.proofs.Common.{◌≡◌, ℕ, ◌<◌, ◌^◌, eqb, List, sym, ap, ◌∙◌, subst, refl, arith, eq-eqb, eqb-true, ◌≤◌, inl, inr, ⊎_elim, lit<}
+use Rattle.std.proofs.Common.{◌≡◌, ℕ, ◌<◌, eqb, List, sym, ap, ◌∙◌, arith, eq-eqb, eqb-true, ◌≤◌, inl, inr, ⊎_elim, lit<}
 use Rattle.std.specs.Prelude.{ℤ, pos, ◌-ℤ◌, ◌*ℤ◌, ◌↔◌, IsTrue, Some, slice_get}
 use Rattle.std.specs.Int.{w64, w128}
 use Rattle.std.proofs.lemmas.Int.{to_z-of_z, ints, fits_signed_mul, fits_signed_from_abs}

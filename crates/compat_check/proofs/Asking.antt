@@ -1,5 +1,5 @@
 -- The rules of one place more.
-use Rattle.std.proofs.Common.{◌≡◌, ℕ, suc, ◌+◌, ◌/◌, ◌<◌, List, [], ◌∷◌, length, refl, sym, ap, ◌∙◌, subst, add-one}
+use Rattle.std.proofs.Common.{◌≡◌, ℕ, ◌+◌, ◌/◌, ◌<◌, List, [], ◌∷◌, length, sym, ap, ◌∙◌, subst, add-one}
 use Rattle.std.specs.Prelude.{ℤ, Option, Some, None, slice_index_or}
 use Rattle.compat_check.specs.Parts.{Rule, AreSettled, Satisfies, Ties}
 use Rattle.compat_check.specs.Passes.{IsStuck}

@@ -1,23 +1,22 @@
 -- From the faults that the passes find to the causes of refusals.
-use Rattle.std.proofs.Common.{◌≡◌, ℕ, zero, suc, ◌+◌, ◌*◌, ◌/◌, ◌%◌, ◌<◌, ◌≤◌, ◌⊎◌, Bool, true, false, cond, List, [], ◌∷◌, length, refl, sym, ap, ◌∙◌, subst, inl, inr, ⊎_elim, arith}
+use Rattle.std.proofs.Common.{◌≡◌, ℕ, zero, suc, ◌+◌, ◌*◌, ◌/◌, ◌%◌, ◌<◌, ◌≤◌, ◌⊎◌, Bool, true, false, cond, List, [], length, refl, sym, ap, ◌∙◌, subst, inl, inr, ⊎_elim, arith}
 use Rattle.std.specs.Prelude.{ℤ, pos, ◌+ℤ◌, ◌-ℤ◌, Option, Some, None, slice_index_or}
-use Rattle.std.proofs.lemmas.Bool.{cases_lt, cases_eq}
+use Rattle.std.proofs.lemmas.Bool.{cases_lt}
 use Rattle.std.proofs.lemmas.Int.{ints}
 use Rattle.macro_file.specs.declared.text.MacroText.{MacroText}
 use Rattle.macro_file.specs.declared.text.MacroElem.{MacroElem}
-use Rattle.macro_file.specs.declared.text.MacroVertex.{MacroVertex}
-use Rattle.mesh_names.specs.Triangles.{Triple, Shape}
+use Rattle.mesh_names.specs.Triangles.{Triple}
 use Rattle.mesh_names.specs.Partners.{Edge}
-use Rattle.mesh_names.specs.Validity.{Shares, across_of, is_refined}
+use Rattle.mesh_names.specs.Validity.{across_of, is_refined}
 use Rattle.compat_check.specs.Meshes.{edge_of, edge_number}
 use Rattle.compat_check.specs.Sides.{side_told}
-use Rattle.compat_check.specs.Faults.{AreSound, IsFirst}
+use Rattle.compat_check.specs.Faults.{IsFirst}
 use Rattle.compat_check.specs.Paired.{Passes}
 use Rattle.compat_check.specs.Parts.{Satisfies}
-use Rattle.compat_check.specs.Grading.{AreGrades, rise_at, rule_at, rules_before, weight}
+use Rattle.compat_check.specs.Grading.{AreGrades, rule_at, rules_before, weight}
 use Rattle.compat_check.specs.Tables.{Differs, number_by}
-use Rattle.compat_check.specs.Checks.{AtNoEdge, Fits, FitsUpTo, IsCheckRefusal, IsEdgeBefore, IsEdgeOfThree, IsFaultless, IsFirstEdge, IsTooHigh, IsUngradable, IsValidText, NeighbourDiffers, bare, count_of, neighbour_number, triples_of}
-use Rattle.compat_check.specs.Passes.{IsElementFault, IsGradeFault, IsNeighbourFault, IsStuck, IsTooGreat, IsValidityFault}
+use Rattle.compat_check.specs.Checks.{Fits, FitsUpTo, IsCheckRefusal, IsEdgeBefore, IsFaultless, IsFirstEdge, IsUngradable, IsValidText, NeighbourDiffers, bare, count_of, neighbour_number, triples_of}
+use Rattle.compat_check.specs.Passes.{IsGradeFault, IsNeighbourFault, IsStuck, IsValidityFault}
 use Rattle.compat_check.specs.declared.mesh.Side.{Side}
 use Rattle.compat_check.specs.declared.refusal.CheckRefusal.{CheckRefusal}
 use Rattle.compat_check.specs.declared.refusal.CheckRefusal.TheVariants.{VertexRange, RepeatedVertex, Flat, TwinElements, EdgeOfThree, NeighboursDiffer, Incompatible, GradeTooHigh, Memory}

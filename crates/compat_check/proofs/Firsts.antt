@@ -1,22 +1,20 @@
 -- The first places of faults, by element and by edge.
-use Rattle.std.proofs.Common.{◌≡◌, ℕ, suc, ◌+◌, ◌*◌, ◌/◌, ◌%◌, ◌<◌, ◌≤◌, ◌⊎◌, List, [], ◌∷◌, length, refl, sym, ap, ◌∙◌, subst, inl, inr, ⊎_elim, arith}
-use Rattle.std.specs.Prelude.{ℤ, Option, Some, None, IsSome, slice_index_or}
-use Rattle.std.proofs.lemmas.Bool.{cases_lt, cases_eq}
-use Rattle.mesh_names.specs.Triangles.{Triple, Shape}
-use Rattle.mesh_names.specs.Partners.{Edge}
-use Rattle.mesh_names.specs.Validity.{IsTwin, IsSamePair, Shares, ends_of}
+use Rattle.std.proofs.Common.{◌≡◌, ℕ, ◌+◌, ◌*◌, ◌/◌, ◌%◌, ◌<◌, ◌≤◌, List, length, refl, sym, ap, ◌∙◌, subst, inl, inr, ⊎_elim, arith}
+use Rattle.std.specs.Prelude.{Option, Some, None, IsSome, slice_index_or}
+use Rattle.std.proofs.lemmas.Bool.{cases_lt}
+use Rattle.mesh_names.specs.Triangles.{Triple}
+use Rattle.mesh_names.specs.Validity.{IsSamePair, ends_of}
 use Rattle.compat_check.specs.Meshes.{edge_of, edge_number}
-use Rattle.compat_check.specs.Faults.{IsFirst, IsRepeated, triple_in}
+use Rattle.compat_check.specs.Faults.{IsFirst, triple_in}
 use Rattle.compat_check.specs.Twins.{AreTwins, IsTwinBefore}
 use Rattle.compat_check.specs.Places.{AreEarlier, IsEarlier, Meets, ends_at}
 use Rattle.compat_check.specs.Paired.{IsThirdAt}
-use Rattle.compat_check.specs.Checks.{AreFirstTwins, HasTwinBefore, IsEdgeBefore, IsEdgeOfThree, IsFirstEdge, bare}
-use Rattle.compat_check.proofs.Links.{same_some}
+use Rattle.compat_check.specs.Checks.{AreFirstTwins, HasTwinBefore, IsEdgeOfThree, IsFirstEdge}
 use Rattle.compat_check.proofs.TwinKeys.{twin_join}
-use Rattle.compat_check.proofs.Numbers.{edge_low, edge_back, number_back, element_at, number_at, place_ends, place_is}
+use Rattle.compat_check.proofs.Numbers.{edge_low, number_back}
 use Rattle.compat_check.proofs.Pairings.{same_pair_back}
 use Rattle.compat_check.proofs.Across.{one_edge}
-use Rattle.compat_check.proofs.Valid.{Unrepeated, ThirdFree, meets_trans, place_inside, shares_meet, third_of}
+use Rattle.compat_check.proofs.Valid.{Unrepeated, meets_trans, place_inside, shares_meet, third_of}
 
 -- a first place is a first edge
 pub first_edge_of : (n : ℕ) (Q : ℕ → Type 0) (P : ℕ → ℕ → Type 0) (i : ℕ) → IsFirst (n * 3) Q (Some i) → (Q i → P (i / 3) (i % 3)) → ((q j : ℕ) → q < n → j < 3 → P q j → Q (q * 3 + j)) → IsFirstEdge n P (i / 3) (i % 3)

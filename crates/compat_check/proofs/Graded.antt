@@ -1,14 +1,14 @@
 -- What the rules of a table say of a mesh.
-use Rattle.std.proofs.Common.{◌≡◌, ℕ, zero, suc, ◌+◌, ◌*◌, ◌/◌, ◌%◌, ◌<◌, ◌≤◌, ◌⊎◌, Bool, true, false, cond, eqb, List, [], ◌∷◌, length, refl, sym, ap, ◌∙◌, subst, inl, inr, ⊎_elim, arith}
+use Rattle.std.proofs.Common.{◌≡◌, ℕ, zero, suc, ◌+◌, ◌*◌, ◌/◌, ◌%◌, ◌<◌, ◌≤◌, Bool, cond, List, [], ◌∷◌, length, refl, sym, ap, ◌∙◌, subst, ⊎_elim, arith}
 use Rattle.std.specs.Prelude.{ℤ, pos, ◌+ℤ◌, ◌-ℤ◌, Option, Some, None, IfSome, slice_index_or}
-use Rattle.std.proofs.lemmas.Bool.{cases_lt, cases_eq}
+use Rattle.std.proofs.lemmas.Bool.{cases_lt}
 use Rattle.std.proofs.lemmas.Int.{ints}
-use Rattle.mesh_names.specs.Triangles.{Triple, Shape, size, grade_of, triple_of}
-use Rattle.mesh_names.specs.Partners.{Edge, Edge0, Edge1, Edge2, Tells}
-use Rattle.mesh_names.specs.Validity.{IsValid, IsGraded, IsCompatible, IsWalk, Shares, IsSamePair, across_of, ends_of, is_refined}
+use Rattle.mesh_names.specs.Triangles.{Triple, Shape, size, triple_of}
+use Rattle.mesh_names.specs.Partners.{Edge}
+use Rattle.mesh_names.specs.Validity.{IsValid, IsCompatible, IsWalk, Shares, across_of, ends_of, is_refined}
 use Rattle.compat_check.specs.Meshes.{edge_of, edge_number}
 use Rattle.compat_check.specs.Sides.{side_told, told_in}
-use Rattle.compat_check.specs.Parts.{Rule, Satisfies, Touches, IsPath, Hangs, InRange}
+use Rattle.compat_check.specs.Parts.{Rule, Satisfies, Touches, IsPath, InRange}
 use Rattle.std.proofs.lemmas.List.{get_or_past}
 use Rattle.macro_file.specs.declared.text.MacroVertex.{MacroVertex}
 use Rattle.compat_check.specs.Paired.{AreSides, IsSide, Passes}
@@ -16,7 +16,7 @@ use Rattle.compat_check.specs.Checks.{AreGradesOf}
 use Rattle.compat_check.specs.Grading.{AreFit, AreGrades, rise_at, rule_at, rules_before, weight}
 use Rattle.compat_check.specs.declared.mesh.Side.{Side}
 use Rattle.compat_check.proofs.Links.{same_some}
-use Rattle.compat_check.proofs.Numbers.{edge_low, edge_back, number_back, element_at, number_at, place_is}
+use Rattle.compat_check.proofs.Numbers.{edge_low, edge_back, element_at, number_at, place_is}
 use Rattle.compat_check.proofs.Pairings.{same_pair_back}
 use Rattle.compat_check.proofs.Across.{across_all, across_found, turns_same}
 use Rattle.compat_check.proofs.Valid.{place_inside, told_is, valid_is}

@@ -1,5 +1,5 @@
 -- Elements that hang together by rules.
-use Rattle.std.proofs.Common.{◌≡◌, ℕ, ◌⊎◌, List, [], ◌∷◌, refl, sym, subst, inl, inr, ⊎_elim}
+use Rattle.std.proofs.Common.{ℕ, List, [], ◌∷◌, refl, sym, subst, inl, inr, ⊎_elim}
 use Rattle.compat_check.specs.Parts.{Rule, Touches, IsPath, Hangs}
 
 pub touches_back : (rules : List Rule) (x y : ℕ) → Touches rules x y → Touches rules y x

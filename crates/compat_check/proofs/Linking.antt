@@ -1,9 +1,9 @@
 -- One head is put under another: what each element leads to then.
-use Rattle.std.proofs.Common.{◌≡◌, ℕ, zero, suc, ◌+◌, ◌<◌, ◌≤◌, ◌⊎◌, max, Bool, true, false, cond, eqb, List, [], ◌∷◌, length, set, get_or, refl, sym, ap, ◌∙◌, subst, inl, inr, ⊎_elim, arith, eq-eqb, get_or-set_same, get_or-set_other, length-set}
+use Rattle.std.proofs.Common.{◌≡◌, ℕ, zero, suc, ◌+◌, ◌<◌, ◌≤◌, max, cond, eqb, List, [], ◌∷◌, length, refl, sym, ap, ◌∙◌, subst, inl, inr, ⊎_elim, arith, eq-eqb, get_or-set_same, get_or-set_other, length-set}
 use Rattle.std.specs.Prelude.{ℤ, pos, negsuc, ◌+ℤ◌, ◌-ℤ◌, ◌≤ℤ◌, slice_index_or}
-use Rattle.std.proofs.lemmas.Bool.{cases_lt, cases_eq}
+use Rattle.std.proofs.lemmas.Bool.{cases_eq}
 use Rattle.std.proofs.lemmas.Int.{ints}
-use Rattle.compat_check.specs.Parts.{Rule, Satisfies, Ties, Touches, IsPath, Hangs, count, parent_of, rise_of, rank_of, Leads, Settles, Links}
+use Rattle.compat_check.specs.Parts.{Rule, Satisfies, Ties, Hangs, count, parent_of, rise_of, rank_of, Leads, Settles, Links}
 use Rattle.compat_check.specs.declared.parts.Parts.{Parts}
 use Rattle.compat_check.proofs.Numbers.{not_equal}
 use Rattle.compat_check.proofs.Hanging.{hangs_back, hangs_in, hangs_more, hangs_step, hangs_trans}

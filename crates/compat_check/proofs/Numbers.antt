@@ -1,11 +1,9 @@
 -- Places and edges.
-use Rattle.std.proofs.Common.{◌≡◌, ℕ, zero, suc, ◌+◌, ◌*◌, ◌/◌, ◌%◌, ◌<◌, ◌≤◌, ◌⊎◌, Bool, true, false, not, cond, eqb, ltb, List, [], length, refl, sym, ap, ◌∙◌, subst, inl, inr, ⊎_elim, arith, eq-eqb}
+use Rattle.std.proofs.Common.{◌≡◌, ℕ, zero, suc, ◌+◌, ◌*◌, ◌/◌, ◌%◌, ◌<◌, Bool, true, false, not, cond, eqb, List, [], refl, sym, ap, ◌∙◌, inl, inr, ⊎_elim, arith, eq-eqb}
 use Rattle.std.specs.Prelude.{slice_index_or}
-use Rattle.std.proofs.lemmas.Bool.{cases_lt, cases_eq}
 use Rattle.std.proofs.lemmas.Bool.Decides.{nat_tests}
-use borrow.Author.Tests.{lt-ltb}
-use Rattle.mesh_names.specs.Triangles.{Triple, Shape, Vertex, Corner, Mid, middle, triple_of, top_of}
-use Rattle.mesh_names.specs.Partners.{Edge, Edge0, Edge1, Edge2, edge_at, edge_middle, turned_by}
+use Rattle.mesh_names.specs.Triangles.{Triple}
+use Rattle.mesh_names.specs.Partners.{Edge, Edge0, Edge1, Edge2}
 use Rattle.mesh_names.specs.Validity.{ends_of, IsSamePair}
 use Rattle.compat_check.specs.Meshes.{edge_of, edge_number}
 use Rattle.compat_check.specs.Places.{ends_at}

@@ -1,8 +1,8 @@
 -- A mesh has one list of grades, however great they are.
-use Rattle.std.proofs.Common.{◌≡◌, ℕ, ◌+◌, ◌<◌, ◌≤◌, Bool, true, false, List, [], ◌∷◌, length, refl, sym, ap, ◌∙◌, subst, ⊎_elim, arith}
+use Rattle.std.proofs.Common.{◌≡◌, ℕ, ◌+◌, ◌<◌, ◌≤◌, Bool, true, false, List, [], ◌∷◌, length, refl, sym, ◌∙◌, subst, ⊎_elim, arith}
 use Rattle.std.specs.Prelude.{slice_index_or}
 use Rattle.std.proofs.lemmas.Bool.{cases_eq}
-use Rattle.mesh_names.specs.Triangles.{Triple, Shape}
+use Rattle.mesh_names.specs.Triangles.{Triple}
 use Rattle.mesh_names.specs.Partners.{Edge}
 use Rattle.mesh_names.specs.Validity.{IsGraded, IsWalk, Shares, ends_of, is_refined}
 use Rattle.compat_check.specs.Checks.{AreGradesOf, bare}

@@ -1,13 +1,12 @@
 -- The owner of a name's patch, as the key of its midpoint.
-use Rattle.std.proofs.Common.{◌≡◌, ℕ, ◌<◌, Bool, true, false, cond, refl, sym, ap, subst, ◌∙◌, true≢false}
+use Rattle.std.proofs.Common.{◌≡◌, ◌<◌, Bool, true, false, cond, refl, sym, ap, subst, ◌∙◌, true≢false}
 use Rattle.std.specs.Prelude.{Option, Some, None}
-use Rattle.std.specs.Cmp.{IsTotalOrder}
 use Rattle.std.specs.Ordering.{is_lt, ordering_reverse}
 use Rattle.std.specs.declared.cmp.Ordering.{Ordering}
 use Rattle.std.specs.declared.cmp.Ordering.TheVariants.{Less, Equal, Greater}
 use Rattle.mesh_names.specs.Names.{Name, name_cmp}
 use Rattle.mesh_names.specs.Order.{name_cmp_total, name_cmp-same}
-use Rattle.mesh_names.specs.Triangles.{Shape, Vertex, size, triangle, midpoint}
+use Rattle.mesh_names.specs.Triangles.{Shape, size, triangle, midpoint}
 use Rattle.mesh_names.specs.Partners.{Across, Tells, partner, PartnersPair, PartnersShare}
 use Rattle.mesh_names.specs.Patches.{patch_by, owns, is_first}
 use Rattle.mesh_names.specs.declared.patch.PatchName.{PatchName}

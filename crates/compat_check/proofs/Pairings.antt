@@ -1,10 +1,10 @@
 -- The table of sides, entry by entry.
-use Rattle.std.proofs.Common.{◌≡◌, ℕ, ◌+◌, ◌*◌, ◌<◌, ◌≤◌, ◌⊎◌, true, List, length, set, get_or, refl, sym, ap, ◌∙◌, subst, inl, inr, ⊎_elim, arith, get_or-set_same, get_or-set_other, length-set}
+use Rattle.std.proofs.Common.{◌≡◌, ℕ, ◌+◌, ◌*◌, ◌<◌, ◌≤◌, List, length, set, refl, sym, ◌∙◌, subst, inl, inr, ⊎_elim, arith, get_or-set_same, get_or-set_other, length-set}
 use Rattle.std.specs.Prelude.{Option, Some, None, IfSome, IsSome, slice_index_or}
 use Rattle.std.proofs.lemmas.Bool.{cases_lt, cases_eq}
 use Rattle.mesh_names.specs.Triangles.{Triple}
 use Rattle.mesh_names.specs.Validity.{IsSamePair}
-use Rattle.compat_check.specs.Places.{AreEarlier, IsEarlier, Meets, ends_at}
+use Rattle.compat_check.specs.Places.{AreEarlier, IsEarlier, ends_at}
 use Rattle.compat_check.specs.Paired.{AreSides, IsSide, side_of}
 use Rattle.compat_check.specs.declared.mesh.Side.{Side}
 use Rattle.compat_check.proofs.Links.{same_some}

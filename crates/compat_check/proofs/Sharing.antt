@@ -1,8 +1,8 @@
 -- A partner is the one other name with the refinement edge.
-use Rattle.std.proofs.Common.{◌≡◌, ℕ, ◌<◌, ◌⊎◌, Bool, List, refl, sym, ap, ◌∙◌, subst, ⊎_elim}
-use Rattle.std.specs.Prelude.{Option, Some, None, option_map, IfSome}
+use Rattle.std.proofs.Common.{◌≡◌, ◌<◌, Bool, sym, ap, ◌∙◌, ⊎_elim}
+use Rattle.std.specs.Prelude.{Option, Some, option_map}
 use Rattle.mesh_names.specs.Names.{Name}
-use Rattle.mesh_names.specs.Triangles.{Shape, size, triangle, midpoint}
+use Rattle.mesh_names.specs.Triangles.{Shape, size}
 use Rattle.mesh_names.specs.Partners.{Across, Tells, partner, PartnersPair, PartnersShare, PartnerIsOnly}
 use Rattle.compat_check.specs.Partnership.{SharesEdge}
 

@@ -1,15 +1,15 @@
 -- Equal keys are twins.
-use Rattle.std.proofs.Common.{◌≡◌, ℕ, ◌<◌, ◌≤◌, ◌⊎◌, List, length, refl, sym, ap, ◌∙◌, subst, inl, inr, ⊎_elim, arith}
+use Rattle.std.proofs.Common.{◌≡◌, ℕ, ◌<◌, List, length, refl, sym, ◌∙◌, subst, inl, inr, ⊎_elim, arith}
 use Rattle.std.specs.Prelude.{Option, Some, None, slice_get, slice_index_or}
 use Rattle.std.specs.Ordering.{nat_cmp, ordering_then}
 use Rattle.std.specs.declared.cmp.Ordering.{Ordering}
-use Rattle.std.specs.declared.cmp.Ordering.TheVariants.{Less, Equal, Greater}
+use Rattle.std.specs.declared.cmp.Ordering.TheVariants.{Equal}
 use Rattle.std.proofs.lemmas.Option.{slice_get_within}
 use Rattle.mesh_names.specs.Triangles.{Triple, corner_of}
 use Rattle.mesh_names.specs.Validity.{IsTwin, HasCorner}
 use Rattle.compat_check.specs.Earlier.{AreLastTies, IsLastTie, Ties}
 use Rattle.compat_check.specs.Faults.{IsFirst, IsRepeated, triple_in}
-use Rattle.compat_check.specs.Twins.{AreCornerKeys, AreTwins, IsTwinBefore, corner_key, in_order_of}
+use Rattle.compat_check.specs.Twins.{AreCornerKeys, AreTwins, IsTwinBefore, corner_key}
 use Rattle.compat_check.proofs.Links.{same_some}
 use Rattle.compat_check.proofs.Meetings.{number_ties, numbers_tie, both_tie, then_tie}
 use Rattle.compat_check.proofs.Sorted3.{OneOf, low3, mid3, high3, key_has, has_key, in_order3, same_three}

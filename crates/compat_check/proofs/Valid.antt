@@ -1,18 +1,17 @@
 -- What the passes over a mesh show together: it is valid, and the table tells what lies across its edges.
-use Rattle.std.proofs.Common.{◌≡◌, ℕ, ◌+◌, ◌*◌, ◌/◌, ◌%◌, ◌<◌, ◌≤◌, ◌⊎◌, Bool, true, false, not, eqb, List, [], length, refl, sym, ap, ◌∙◌, subst, inl, inr, ⊎_elim, arith}
+use Rattle.std.proofs.Common.{◌≡◌, ℕ, ◌+◌, ◌*◌, ◌/◌, ◌%◌, ◌<◌, ◌≤◌, ◌⊎◌, Bool, not, eqb, List, length, refl, sym, ap, ◌∙◌, subst, inl, inr, ⊎_elim, arith}
 use Rattle.std.specs.Prelude.{Option, Some, None, IfSome, IsSome, slice_index_or}
 use Rattle.std.proofs.lemmas.Bool.{cases_lt, cases_eq}
 use Rattle.mesh_names.specs.Triangles.{Triple, Shape}
 use Rattle.mesh_names.specs.Partners.{Edge, Edge0, Edge1, Edge2}
-use Rattle.mesh_names.specs.Validity.{IsValid, IsTwin, Shares, IsSamePair, across_of, ends_of}
+use Rattle.mesh_names.specs.Validity.{IsValid, Shares, IsSamePair, across_of, ends_of}
 use Rattle.compat_check.specs.Meshes.{edge_of, edge_number}
 use Rattle.compat_check.specs.Sides.{told_in, side_told}
 use Rattle.compat_check.specs.Faults.{IsFirst, IsRepeated, triple_in}
-use Rattle.compat_check.specs.Twins.{AreTwins, IsTwinBefore, TwinFree}
+use Rattle.compat_check.specs.Twins.{TwinFree}
 use Rattle.compat_check.specs.Places.{AreEarlier, IsEarlier, Meets, ends_at}
-use Rattle.compat_check.specs.Paired.{AreSides, IsSide, IsThirdAt, side_of}
+use Rattle.compat_check.specs.Paired.{AreSides, IsSide, IsThirdAt}
 use Rattle.compat_check.specs.declared.mesh.Side.{Side}
-use Rattle.compat_check.proofs.Links.{same_some}
 use Rattle.compat_check.proofs.Pairings.{same_pair_back}
 use Rattle.compat_check.proofs.TwinKeys.{twin_swap}
 use Rattle.compat_check.proofs.Numbers.{edge_low, place_ends, place_is, pair_trans, turn_is}

@@ -1,15 +1,14 @@
 -- The mesh that the check makes, as a whole.
-use Rattle.std.proofs.Common.{◌≡◌, ℕ, zero, suc, ◌+◌, ◌*◌, ◌<◌, ◌≤◌, Bool, true, false, List, [], length, map, refl, sym, ap, ◌∙◌, subst, arith}
+use Rattle.std.proofs.Common.{◌≡◌, ℕ, zero, suc, ◌+◌, ◌*◌, ◌<◌, ◌≤◌, Bool, true, false, List, [], length, map, refl, sym, ap, ◌∙◌, arith}
 use Rattle.std.specs.Prelude.{ℤ, pos, Option, Some, None, slice_index_or}
 use Rattle.std.proofs.lemmas.List.{length-map}
 use Rattle.macro_file.specs.declared.text.MacroVertex.{MacroVertex}
 use Rattle.macro_file.specs.declared.text.MacroElem.{MacroElem}
 use Rattle.mesh_names.specs.Triangles.{Triple, Shape, corner_of}
-use Rattle.mesh_names.specs.Partners.{Edge}
 use Rattle.mesh_names.specs.Validity.{ValidTells, IsCompatible, across_of}
-use Rattle.compat_check.specs.Meshes.{edge_of, edge_number}
-use Rattle.compat_check.specs.Sides.{IsStored, side_told, told_in}
-use Rattle.compat_check.specs.Faults.{AreSound, triple_in}
+use Rattle.compat_check.specs.Meshes.{edge_of}
+use Rattle.compat_check.specs.Sides.{IsStored, side_told}
+use Rattle.compat_check.specs.Faults.{triple_in}
 use Rattle.compat_check.specs.Paired.{Passes}
 use Rattle.compat_check.specs.Grading.{AreGrades, rules_before}
 use Rattle.compat_check.specs.Tables.{AreMadeLabels, label_by}

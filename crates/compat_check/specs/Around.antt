@@ -1,5 +1,5 @@
 -- What a walk down a word knows at each name.
-use Rattle.std.specs.Prelude.{◌≡◌, ℕ, List, [], ◌∷◌, Bool, Option, Some, None}
+use Rattle.std.specs.Prelude.{◌≡◌, [], ◌∷◌, Option, Some, None}
 use Rattle.mesh_names.specs.Names.{Name}
 use Rattle.mesh_names.specs.Partners.{Across, partner}
 use Rattle.compat_check.specs.Meshes.{Mesh, across_in}

@@ -1,11 +1,11 @@
 -- What the check answers: the mesh of a text, or its first fault.
-use Rattle.std.specs.Prelude.{◌≡◌, ℕ, ◌<◌, ◌≤◌, ◌⊎◌, ℤ, pos, negsuc, ◌+ℤ◌, Bool, true, false, List, [], map, length, Option, Some, None, slice_get, slice_index_or}
+use Rattle.std.specs.Prelude.{◌≡◌, ℕ, ◌<◌, ◌⊎◌, ℤ, pos, negsuc, ◌+ℤ◌, Bool, true, false, List, [], map, length, Option, Some, None, slice_get, slice_index_or}
 use Rattle.macro_file.specs.declared.text.MacroText.{MacroText}
 use Rattle.macro_file.specs.declared.text.MacroElem.{MacroElem}
-use Rattle.mesh_names.specs.Triangles.{Triple, Shape, size, grade_of}
+use Rattle.mesh_names.specs.Triangles.{Triple, Shape, size}
 use Rattle.mesh_names.specs.Partners.{Edge}
 use Rattle.mesh_names.specs.Validity.{IsValid, IsGraded, IsCompatible, IsTwin, IsWalk, Shares, across_of, is_refined}
-use Rattle.compat_check.specs.Meshes.{Mesh, across_in, edge_of, label_of, shape_of}
+use Rattle.compat_check.specs.Meshes.{Mesh, across_in, edge_of, label_of}
 use Rattle.compat_check.specs.Faults.{AreSound, IsFirst, IsFlat, IsOutside, IsRepeated, triple_in}
 use Rattle.compat_check.specs.Twins.{TwinFree}
 use Rattle.compat_check.specs.declared.refusal.CheckRefusal.{CheckRefusal}

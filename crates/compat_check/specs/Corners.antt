@@ -2,7 +2,6 @@
 use Rattle.std.specs.Prelude.{◌≡◌, ℕ, ◌<◌, List, slice_index_or}
 use Rattle.mesh_names.specs.Names.{Name}
 use Rattle.mesh_names.specs.Triangles.{Shape, Triangle, size, triangle}
-use Rattle.mesh_names.specs.Partners.{Across}
 use Rattle.mesh_names.specs.Patches.{vertex_of, IsKey}
 use Rattle.mesh_names.specs.declared.patch.VertexKey.{VertexKey}
 use Rattle.mesh_names.specs.declared.patch.VertexKey.TheVariants.{Macro, Patch}

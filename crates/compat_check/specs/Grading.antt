@@ -1,5 +1,5 @@
 -- What shared edges ask of grades.
-use Rattle.std.specs.Prelude.{◌≡◌, ℕ, zero, suc, ◌+◌, ◌*◌, ◌/◌, ◌%◌, ◌<◌, ◌≤◌, ℤ, pos, ◌+ℤ◌, ◌-ℤ◌, ◌≤ℤ◌, Bool, cond, eqb, List, [], ◌∷◌, length, Option, Some, None, slice_index_or}
+use Rattle.std.specs.Prelude.{◌≡◌, ℕ, zero, suc, ◌/◌, ◌%◌, ◌<◌, ℤ, pos, ◌-ℤ◌, ◌≤ℤ◌, cond, eqb, List, [], ◌∷◌, length, Option, Some, None, slice_index_or}
 use Rattle.compat_check.specs.Parts.{Rule, Satisfies, Hangs}
 use Rattle.compat_check.specs.declared.mesh.Side.{Side}
 

@@ -1,5 +1,5 @@
 -- A checked macro mesh, as contracts see it.
-use Rattle.std.specs.Prelude.{◌≡◌, ℕ, zero, suc, ◌<◌, ◌≤◌, ℤ, pos, List, [], length, slice_index_or}
+use Rattle.std.specs.Prelude.{ℕ, zero, suc, ◌<◌, ◌≤◌, ℤ, pos, List, [], length, slice_index_or}
 use Rattle.macro_file.specs.declared.MacroVertex.{MacroVertex}
 use Rattle.mesh_names.specs.Names.{Name}
 use Rattle.mesh_names.specs.Triangles.{Shape, size, grade_of, triple_of, corner_of}

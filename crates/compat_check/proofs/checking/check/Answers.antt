@@ -1,5 +1,5 @@
 use Rattle.std.proofs.Common.{◌≡◌, ◌*◌, ◌<◌, ◌≤◌, ◌∙◌, ℕ, List, [], ap, sym, subst, arith, length, map, refl}
-use Rattle.std.specs.Prelude.{ℤ, None, Option, slice_index_or, true, false}
+use Rattle.std.specs.Prelude.{ℤ, None, Option, slice_index_or, true}
 use Rattle.std.proofs.lemmas.Result.{err_from_is_err_and}
 use Rattle.macro_file.specs.declared.text.MacroText.{MacroText}
 use Rattle.compat_check.specs.Faults.{IsFirst}

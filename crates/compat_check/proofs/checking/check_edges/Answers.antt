@@ -1,4 +1,4 @@
-use Rattle.std.proofs.Common.{◌≡◌, ◌∙◌, ◌*◌, ◌<◌, ℕ, List, ap, sym, subst, length}
+use Rattle.std.proofs.Common.{◌∙◌, ◌*◌, ℕ, List, ap, subst, length}
 use Rattle.std.specs.Prelude.{Option, None, Some}
 use Rattle.compat_check.specs.Faults.{IsFirst}
 use Rattle.compat_check.specs.Paired.{AreSides, IsThirdAt}

@@ -1,4 +1,4 @@
-use Rattle.std.proofs.Common.{◌≡◌, ◌+◌, ◌*◌, ◌/◌, ◌%◌, subst, sym, arith}
+use Rattle.std.proofs.Common.{◌≡◌, ◌+◌, ◌*◌, ◌/◌, ◌%◌, subst, arith}
 use Rattle.compat_check.specs.Passes.{IsStuck}
 use Rattle.compat_check.proofs.checking.check_grades.Goals as goal
 

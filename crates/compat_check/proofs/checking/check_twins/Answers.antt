@@ -1,5 +1,5 @@
 use Rattle.std.proofs.Common.{◌≡◌, ◌<◌, ◌∙◌, ℕ, List, ap, sym, subst, arith, length}
-use Rattle.std.specs.Prelude.{Option, None, Some, slice_index_or}
+use Rattle.std.specs.Prelude.{Option, None, slice_index_or}
 use Rattle.compat_check.specs.Twins.{IsTwinBefore}
 use Rattle.compat_check.proofs.Firsts.{first_twins}
 use Rattle.compat_check.proofs.checking.check_twins.Goals as goal

@@ -1,8 +1,7 @@
-use Rattle.std.proofs.Common.{sym, subst, List, ℕ}
+use Rattle.std.proofs.Common.{sym, subst}
 use Rattle.std.proofs.lemmas.Result.{IfOk-weaker}
-use Rattle.compat_check.specs.Places.{AreEarlier, AreEdgeKeys}
-use Rattle.compat_check.specs.Earlier.{AreLastTies}
-use Rattle.compat_check.proofs.Meetings.{earlier_from_ties, key_cmp}
+use Rattle.compat_check.specs.Places.{AreEdgeKeys}
+use Rattle.compat_check.proofs.Meetings.{earlier_from_ties}
 use Rattle.compat_check.proofs.edges.earlier_edges.Goals as goal
 
 pub returns : goal.returns

@@ -1,4 +1,4 @@
-use Rattle.std.proofs.Common.{arith, length, ◌≡◌, subst, sym}
+use Rattle.std.proofs.Common.{arith, length, ◌≡◌, subst}
 use Rattle.compat_check.specs.Paired.{AreSides}
 use Rattle.compat_check.proofs.Pairings.{sides_skip, sides_more}
 use Rattle.compat_check.proofs.edges.sides.Goals as goal

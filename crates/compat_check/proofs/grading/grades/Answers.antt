@@ -1,11 +1,9 @@
-use Rattle.std.proofs.Common.{◌≡◌, ◌+◌, ◌<◌, ◌≤◌, ◌∙◌, ℕ, List, ap, sym, subst, arith, rules, length}
-use Rattle.std.specs.Prelude.{ℤ, pos, ◌-ℤ◌, ◌≤ℤ◌, slice_index_or}
-use Rattle.std.specs.Int.{w32}
-use Rattle.std.proofs.lemmas.Int.{ints, to_z-of_z}
+use Rattle.std.proofs.Common.{◌≡◌, ◌<◌, ◌∙◌, ℕ, ap, arith, length}
+use Rattle.std.specs.Prelude.{pos, ◌-ℤ◌, slice_index_or}
+use Rattle.std.proofs.lemmas.Int.{ints}
 use Rattle.std.proofs.lemmas.List.{get_or_read}
-use mir.Val.{SFits, to_z, of_z}
-use Rattle.compat_check.specs.Parts.{Leads, size}
-use Rattle.compat_check.specs.Grading.{AreLows, low_of}
+use Rattle.compat_check.specs.Parts.{size}
+use Rattle.compat_check.specs.Grading.{low_of}
 use Rattle.compat_check.proofs.Lists.{length_pushed}
 use Rattle.compat_check.proofs.Lows.{over_fits, over_more, grades_are}
 use Rattle.compat_check.proofs.grading.grades.Goals as goal

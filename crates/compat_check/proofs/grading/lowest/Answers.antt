@@ -1,11 +1,11 @@
-use Rattle.std.proofs.Common.{◌≡◌, ◌+◌, ◌<◌, ◌≤◌, ◌∙◌, ℕ, List, ap, sym, subst, arith, rules, length, set}
-use Rattle.std.specs.Prelude.{ℤ, pos, ◌≤ℤ◌, ◌<ℤ◌, slice_index_or}
+use Rattle.std.proofs.Common.{◌≡◌, ◌+◌, ◌<◌, ◌∙◌, ℕ, List, ap, sym, subst, arith, rules, length, set}
+use Rattle.std.specs.Prelude.{ℤ, pos}
 use Rattle.std.specs.Int.{w32}
 use Rattle.std.proofs.lemmas.Int.{ints, to_z-of_z}
 use Rattle.std.proofs.lemmas.List.{get_or_read, get_or-replicate}
 use lib.ListN.{replicate}
-use mir.Val.{SFits, to_z, of_z}
-use Rattle.compat_check.specs.Parts.{Leads, size}
+use mir.Val.{SFits}
+use Rattle.compat_check.specs.Parts.{size}
 use Rattle.compat_check.specs.Grading.{AreLows, low_of}
 use Rattle.compat_check.proofs.Lows.{lows_none, lows_skip, lows_more}
 use Rattle.compat_check.proofs.grading.lowest.Goals as goal

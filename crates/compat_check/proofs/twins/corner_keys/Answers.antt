@@ -1,4 +1,3 @@
-use Rattle.std.proofs.Common.{ℕ, ◌∙◌, ap}
 use Rattle.compat_check.specs.Faults.{triple_in}
 use Rattle.compat_check.specs.Twins.{corner_key}
 use Rattle.compat_check.proofs.Lists.{length_pushed, get_pushed}
