@@ -5,6 +5,8 @@
 #[cfg(test)]
 mod files;
 #[cfg(test)]
+mod meshes;
+#[cfg(test)]
 mod run;
 #[cfg(test)]
 mod tests;
