@@ -65,7 +65,9 @@ fn main(rt: HostRuntime) -> Result<()> {
     let elements = read_text.elements.len();
     let lines = tally.lines;
     let tokens = tally.tokens;
-    println!(rt; "{length} bytes, {lines} lines, {tokens} words: {vertices} vertices, {elements} elements")?;
+    println!(rt;
+        "{length} bytes, {lines} lines, {tokens} words: {vertices} vertices, {elements} elements"
+    )?;
     if size.is_some() {
         let times = least_times(&rt, alloc, bytes)?;
         let reader = times.reader;

@@ -16,9 +16,7 @@ pub fn pass(bytes: &[u8]) -> Tally {
     for byte in bytes {
         match *byte {
             b'0'..=b'9' => {
-                number = number
-                    .wrapping_mul(10)
-                    .wrapping_add(u64::from(*byte & 15));
+                number = number.wrapping_mul(10).wrapping_add(u64::from(*byte & 15));
                 within = true;
             }
             b' ' | b'\t' | b'\n' => {

@@ -26,7 +26,10 @@ pub fn file(alloc: Global, size: u32) -> Result<String, AllocError> {
     let count = u64::from((size / 240).clamp(3, 65535));
     let mut text = String::new(alloc);
     let mut seed = 1;
-    write!(text, "DIM: 2\nDIM_OF_WORLD: 2\n\nnumber of vertices: {count}\nnumber of elements: {count}\n\n")?;
+    write!(
+        text,
+        "DIM: 2\nDIM_OF_WORLD: 2\n\nnumber of vertices: {count}\nnumber of elements: {count}\n\n"
+    )?;
     text.push_str("vertex coordinates:\n")?;
     for _ in 0..count {
         seed = next(seed);

@@ -16,7 +16,10 @@ alone_spread : (n x y : ℕ) → y < n → x ≡ y → (pos 0 +ℤ pos 1) ≤ℤ
 alone_spread n x y hy e = omega (arith, ints, counts_itself n y hy)
 
 pub alone : (n : ℕ) (parts : Parts) → length parts.parents.items ≡ n → length parts.rises.items ≡ n → length parts.ranks.items ≡ n → ((x : ℕ) → x < n → parent_of parts x ≡ x) → ((x : ℕ) → x < n → rank_of parts x ≡ 0) → AreSettled n [] parts
-alone n parts parents rises ranks tops zeros = (λ x. x, (λ x. pos 0,
+alone n parts parents rises ranks tops zeros = (
+  λ x. x,
+  (
+    λ x. pos 0,
     record {
       each = parents;
       rises = rises;
@@ -32,4 +35,6 @@ alone n parts parents rises ranks tops zeros = (λ x. x, (λ x. pos 0,
       met = tt;
       forced = λ g sat x hx. omega (arith, ints);
       hangs = λ x hx. hangs_self [] x;
-    }))
+    },
+  ),
+)

@@ -24,9 +24,10 @@ pub flat_answer : (vertices : List MacroVertex) (t : Triple) (a b c : MacroVerte
     p ≡ (b.x -ℤ a.x) *ℤ (c.y -ℤ a.y) → q ≡ (c.x -ℤ a.x) *ℤ (b.y -ℤ a.y) → (IsTrue (eqb (of_z w128 p) (of_z w128 q)) ↔ IsFlat vertices t)
 flat_answer vertices t a b c p q ha hb hc fp fq ep eq =
     let area : doubled_area (point_at vertices (corner_of t 0)) (point_at vertices (corner_of t 1)) (point_at vertices (corner_of t 2)) ≡ p -ℤ q =
-    (λ i. doubled_area (point_of (ha i)) (point_of (hb i)) (point_of (hc i))) ∙ (λ i. sym ep i -ℤ sym eq i) in
-    (λ h. area ∙ no_difference p q (same_bits p q fp fq (eqb-true (of_z w128 p) (of_z w128 q) h)),
-      λ h. eq-eqb (of_z w128 p) (of_z w128 q) (ap (of_z w128) (same_from_difference p q (sym area ∙ h))))
+    (λ i. doubled_area (point_of (ha i)) (point_of (hb i)) (point_of (hc i))) ∙ (λ i. sym ep i -ℤ sym eq i) in (
+      λ h. area ∙ no_difference p q (same_bits p q fp fq (eqb-true (of_z w128 p) (of_z w128 q) h)),
+      λ h. eq-eqb (of_z w128 p) (of_z w128 q) (ap (of_z w128) (same_from_difference p q (sym area ∙ h))),
+    )
 
 inside : (count k : ℕ) → (count ≤ k → ⊥) → k < count
 inside count k h = ⊎_elim (λ x. x) (λ y. absurd (h y)) (cases_lt k count)

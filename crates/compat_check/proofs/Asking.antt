@@ -39,6 +39,6 @@ stuck sides k s inside here n m parts d nm rise settled never = record {
   here = here;
   before = (settled.1.0, ties_satisfy settled.0 settled.1.0 (rules_before sides k) settled.1.2.met);
   none = λ g sat.
-  let asked : Satisfies g ((k / 3, s.element, rise_at k s) ∷ rules_before sides k) = subst (λ (o : Option Side). Satisfies g (rule_at k o (rules_before sides k))) here sat in
-  never (rules_before sides k) (subst (λ (y : ℕ). AreSettled y (rules_before sides k) parts) nm settled) g (subst (λ (y : ℤ). Satisfies g ((k / 3, s.element, y) ∷ rules_before sides k)) (sym rise) asked);
+      let asked : Satisfies g ((k / 3, s.element, rise_at k s) ∷ rules_before sides k) = subst (λ (o : Option Side). Satisfies g (rule_at k o (rules_before sides k))) here sat in
+      never (rules_before sides k) (subst (λ (y : ℕ). AreSettled y (rules_before sides k) parts) nm settled) g (subst (λ (y : ℤ). Satisfies g ((k / 3, s.element, y) ∷ rules_before sides k)) (sym rise) asked);
 }

@@ -85,10 +85,12 @@ neighbour_cause text sides passes (NeighboursDiffer r k) h =
     let triples = triples_of text in
     let elements = text.elements.items in
     let table : Told (bare triples) sides = told_of text.vertices.items triples sides [] passes in
-    let first : IsFirst (length triples * 3) (Differs elements sides) (Some (r * 3 + k)) = subst (λ (n : ℕ). IsFirst n (Differs elements sides) (Some (r * 3 + k))) table.each h.2 in
-    (valid_text text sides passes, h.0,
+    let first : IsFirst (length triples * 3) (Differs elements sides) (Some (r * 3 + k)) = subst (λ (n : ℕ). IsFirst n (Differs elements sides) (Some (r * 3 + k))) table.each h.2 in (
+      valid_text text sides passes,
+      h.0,
       at_edge (length triples) (NeighbourDiffers elements triples) r k h.1
-      (first_edge_of (length triples) (Differs elements sides) (NeighbourDiffers elements triples) (r * 3 + k) first (differs_there elements triples sides table (r * 3 + k) first.0) (differs_back elements triples sides table)))
+          (first_edge_of (length triples) (Differs elements sides) (NeighbourDiffers elements triples) (r * 3 + k) first (differs_there elements triples sides table (r * 3 + k) first.0) (differs_back elements triples sides table)),
+    )
 neighbour_cause text sides passes (Incompatible r k) h = absurd h
 neighbour_cause text sides passes (GradeTooHigh r g) h = absurd h
 neighbour_cause text sides passes Memory h = absurd h
@@ -164,8 +166,8 @@ stuck_edge triples sides table i stuck =
         none = λ g fits. stuck.none g (satisfies_up triples sides table g i hi fits (suc i) (omega arith));
       };
       first = λ q j hj before ungradable.
-      let less : q * 3 + j < i = ⊎_elim (λ (x : q < i / 3). omega (arith, hj, x)) (λ (x : (q ≡ i / 3) × (j < i % 3)). omega (arith, x.0, x.1)) before in
-      ungradable.none stuck.before.0 (fits_before triples sides table stuck.before.0 i stuck.before.1 q j less);
+          let less : q * 3 + j < i = ⊎_elim (λ (x : q < i / 3). omega (arith, hj, x)) (λ (x : (q ≡ i / 3) × (j < i % 3)). omega (arith, x.0, x.1)) before in
+          ungradable.none stuck.before.0 (fits_before triples sides table stuck.before.0 i stuck.before.1 q j less);
     }
 
 pub grade_cause : (text : MacroText) (sides : List (Option Side)) → Passes text.vertices.items (triples_of text) sides → IsFaultless text → (refusal : CheckRefusal) → IsGradeFault (count_of text) sides refusal → IsCheckRefusal text refusal
@@ -180,13 +182,15 @@ grade_cause text sides passes none (Incompatible r k) h =
     (none, at_edge (length triples) (IsUngradable triples) r k h.0 (stuck_edge triples sides (told_of text.vertices.items triples sides [] passes) (r * 3 + k) h.1))
 grade_cause text sides passes none (GradeTooHigh r g) h =
     let triples = triples_of text in
-    let table = told_of text.vertices.items triples sides h.grades passes in
-    (none, record {
-      grades = h.grades;
-      are = grades_of triples h.grades sides table (subst (λ (n : ℕ). AreGrades (length triples) (rules_before sides n) h.grades) table.each h.are);
-      first = h.first;
-      told = h.told;
-    })
+    let table = told_of text.vertices.items triples sides h.grades passes in (
+      none,
+      record {
+        grades = h.grades;
+        are = grades_of triples h.grades sides table (subst (λ (n : ℕ). AreGrades (length triples) (rules_before sides n) h.grades) table.each h.are);
+        first = h.first;
+        told = h.told;
+      },
+    )
 grade_cause text sides passes none Memory h = tt
 
 -- where a mesh is made no refusal has a cause

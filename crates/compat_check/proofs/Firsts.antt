@@ -25,8 +25,8 @@ first_edge_of n Q P i first there back = record {
   edge = omega arith;
   holds = there first.1;
   first = λ q j hj before p.
-  let less : q * 3 + j < i = ⊎_elim (λ (x : q < i / 3). omega arith) (λ (x : (q ≡ i / 3) × (j < i % 3)). omega (arith, x.0, x.1)) before in
-  first.2 (q * 3 + j) less (back q j (omega (arith, less, first.0)) hj p);
+      let less : q * 3 + j < i = ⊎_elim (λ (x : q < i / 3). omega arith) (λ (x : (q ≡ i / 3) × (j < i % 3)). omega (arith, x.0, x.1)) before in
+      first.2 (q * 3 + j) less (back q j (omega (arith, less, first.0)) hj p);
 }
 
 -- ---- twins
@@ -40,8 +40,12 @@ first_twins triples unrepeated earlier are b a hb before here =
     let none : (s : ℕ) → s < b → HasTwinBefore triples s → ⊥ = λ s hs. none_before triples s (slice_index_or earlier s None) (before s hs) (are.last s (omega (arith, hs, hb))) in
     record {
       second = (hb, (a, twin.0, twin.1), none);
-      first = (twin.0, twin.1, λ r hr other.
-        none a twin.0 (r, hr, twin_join (triple_in triples r) (triple_in triples a) (triple_in triples b) (unrepeated r (omega (arith, hr, twin.0, hb))) (unrepeated a (omega (arith, twin.0, hb))) (unrepeated b hb) other twin.1));
+      first = (
+        twin.0,
+        twin.1,
+        λ r hr other.
+            none a twin.0 (r, hr, twin_join (triple_in triples r) (triple_in triples a) (triple_in triples b) (unrepeated r (omega (arith, hr, twin.0, hb))) (unrepeated a (omega (arith, twin.0, hb))) (unrepeated b hb) other twin.1),
+      );
     }
 
 -- ---- edges of three

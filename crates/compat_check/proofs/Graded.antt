@@ -99,8 +99,10 @@ module _ (mesh : Shape) (sides : List (Option Side)) (table : Told mesh sides) w
       ⊎_elim
       (λ (p : (m / 3 ≡ x) × (s.element ≡ q)). (subst (λ (y : ℕ). y < size mesh) p.1 entry.1, (e, f, subst (λ (y : ℕ × ℕ). Shares mesh y.0 e y.1 f) (λ i. (p.0 i, p.1 i)) entry.3)))
       (λ t2. ⊎_elim
-      (λ (p : (m / 3 ≡ q) × (s.element ≡ x)). (subst (λ (y : ℕ). y < size mesh) p.0 entry.0,
-        (f, e, subst (λ (y : ℕ × ℕ). Shares mesh y.0 f y.1 e) (λ i. (p.1 i, p.0 i)) (same_pair_back (ends_of (triple_of mesh (m / 3)) e) (ends_of (triple_of mesh s.element) f) entry.3))))
+      (λ (p : (m / 3 ≡ q) × (s.element ≡ x)). (
+        subst (λ (y : ℕ). y < size mesh) p.0 entry.0,
+        (f, e, subst (λ (y : ℕ × ℕ). Shares mesh y.0 f y.1 e) (λ i. (p.1 i, p.0 i)) (same_pair_back (ends_of (triple_of mesh (m / 3)) e) (ends_of (triple_of mesh s.element) f) entry.3)),
+      ))
       rest t2) t
 
   touch_shares : (m : ℕ) → m ≤ size mesh * 3 → (x q : ℕ) → Touches (rules_before sides m) x q → (q < size mesh) × ((e : Edge) × (f : Edge) × Shares mesh x e q f)
@@ -136,8 +138,8 @@ grades_of triples grades sides table are =
         more = λ r s e f hr hs apart h one other. let w : W e ≡ 1 = ap {B = ℕ} (λ b. cond b 1 0) one in let x : W f ≡ 0 = ap {B = ℕ} (λ b. cond b 1 0) other in omega (arith, level r s e f hr hs apart h, w, x);
       };
       least = λ r hr.
-      let lowest = are.least r hr in
-      (lowest.2.0, lowest.0, lowest.1, walk_of mesh sides table (n * 3) (omega arith) lowest.2.0 r lowest.0 lowest.2.1, lowest.3);
+          let lowest = are.least r hr in
+          (lowest.2.0, lowest.0, lowest.1, walk_of mesh sides table (n * 3) (omega arith) lowest.2.0 r lowest.0 lowest.2.1, lowest.3);
     }
 
 pub compatible_is : (triples : List Triple) (grades : List ℕ) → AreGradesOf triples grades → ((r : ℕ) → r < length triples → slice_index_or grades r 0 ≤ 24) → IsCompatible (record { triples = triples; grades = grades })

@@ -144,10 +144,12 @@ module _ (n : ℕ) (old new : Parts) (head : ℕ → ℕ) (height : ℕ → ℤ)
       let own_t = leads.top t t_in t_top in
       let other : head t ≡ c → ⊥ = λ g. apart (sym g ∙ own_t.0) in
       let sum : pos 0 +ℤ v ≡ v +ℤ pos 0 = omega (arith, ints) in
-      let at_c : (t < n) × (new_head head c t c ≡ new_head head c t t) × (new_height head height c v c ≡ v +ℤ new_height head height c v t) × (rank_of new c < rank_of new t) =
-      (t_in, moved_head head c t c own.0 ∙ sym (kept_head head c t t other ∙ own_t.0),
+      let at_c : (t < n) × (new_head head c t c ≡ new_head head c t t) × (new_height head height c v c ≡ v +ℤ new_height head height c v t) × (rank_of new c < rank_of new t) = (
+        t_in,
+        moved_head head c t c own.0 ∙ sym (kept_head head c t t other ∙ own_t.0),
         moved_height head height c v c own.0 ∙ ap (λ z. z +ℤ v) own.1 ∙ sum ∙ ap (λ z. v +ℤ z) (sym (kept_height head height c v t other ∙ own_t.1)),
-        omega (arith, rank_here, rank_else c apart)) in
+        omega (arith, rank_here, rank_else c apart),
+      ) in
       subst (λ (y : ℕ × ℕ × ℤ). (y.1 < n) × (new_head head c t y.0 ≡ new_head head c t y.1) × (new_height head height c v y.0 ≡ y.2 +ℤ new_height head height c v y.1) × (rank_of new y.0 < rank_of new y.1))
       (λ i. (sym f i, sym (ap (parent_of new) f ∙ parent_here) i, sym (ap (rise_of new) f ∙ rise_here) i)) at_c)
       (λ (f : x ≡ c → ⊥).

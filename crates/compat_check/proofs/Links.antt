@@ -99,14 +99,14 @@ module _ {K : Type 0} (cmp : K → K → Ordering) (o : IsTotalOrder cmp) (keys 
     each = linked.each;
     right = linked.right;
     done = λ p e f h he hf less tie. ⊎_elim
-    (λ (b : suc p < i). linked.done p e f b he hf less tie)
-    (λ (b : i ≤ suc p).
-    let same : p ≡ q = omega arith in
-    let same2 : suc p ≡ i = omega arith in
-    let el : e ≡ low = same_some e low (slice_get entries p) he (subst (λ (y : ℕ). slice_get entries y ≡ Some low) (sym same) hl) in
-    let eh : f ≡ high = same_some f high (slice_get entries (suc p)) hf (subst (λ (y : ℕ). slice_get entries y ≡ Some high) (sym same2) hh) in
-    absurd (apart (subst (λ (y : (K × ℕ) × (K × ℕ)). y.0.1 < y.1.1) (λ x. (el x, eh x)) less) (subst (λ (y : (K × ℕ) × (K × ℕ)). cmp y.0.0 y.1.0 ≡ Equal) (λ x. (el x, eh x)) tie)))
-    (cases_lt (suc p) i);
+        (λ (b : suc p < i). linked.done p e f b he hf less tie)
+        (λ (b : i ≤ suc p).
+        let same : p ≡ q = omega arith in
+        let same2 : suc p ≡ i = omega arith in
+        let el : e ≡ low = same_some e low (slice_get entries p) he (subst (λ (y : ℕ). slice_get entries y ≡ Some low) (sym same) hl) in
+        let eh : f ≡ high = same_some f high (slice_get entries (suc p)) hf (subst (λ (y : ℕ). slice_get entries y ≡ Some high) (sym same2) hh) in
+        absurd (apart (subst (λ (y : (K × ℕ) × (K × ℕ)). y.0.1 < y.1.1) (λ x. (el x, eh x)) less) (subst (λ (y : (K × ℕ) × (K × ℕ)). cmp y.0.0 y.1.0 ≡ Equal) (λ x. (el x, eh x)) tie)))
+        (cases_lt (suc p) i);
   }
 
   pub linked_more : (earlier : List (Option ℕ)) (q i place : ℕ) (low high : K × ℕ) → suc q ≡ i → slice_get entries q ≡ Some low → slice_get entries i ≡ Some high → (place ≡ low.1) × (low.1 < high.1) × (cmp low.0 high.0 ≡ Equal) → AreLinked cmp keys entries earlier i → AreLinked cmp keys entries (set earlier high.1 (Some place)) (i + 1)
@@ -119,16 +119,16 @@ module _ {K : Type 0} (cmp : K → K → Ordering) (o : IsTotalOrder cmp) (keys 
       record {
         each = length-set earlier high.1 (Some place) ∙ linked.each;
         right = λ k hk. ⊎_elim
-        (λ (e : k ≡ high.1). subst (λ (y : ℕ). IfSome (slice_index_or (set earlier high.1 (Some place)) y None) (λ j. IsLastTie cmp keys y (Some j))) (sym e)
-        (subst (λ (y : Option ℕ). IfSome y (λ j. IsLastTie cmp keys high.1 (Some j))) (sym now) (last_tie q low high hl next tied.1 tied.2)))
-        (λ (ne : k ≡ high.1 → ⊥). subst (λ (y : Option ℕ). IfSome y (λ j. IsLastTie cmp keys k (Some j))) (sym (kept k ne)) (linked.right k hk))
-        (cases_eq k high.1);
+            (λ (e : k ≡ high.1). subst (λ (y : ℕ). IfSome (slice_index_or (set earlier high.1 (Some place)) y None) (λ j. IsLastTie cmp keys y (Some j))) (sym e)
+            (subst (λ (y : Option ℕ). IfSome y (λ j. IsLastTie cmp keys high.1 (Some j))) (sym now) (last_tie q low high hl next tied.1 tied.2)))
+            (λ (ne : k ≡ high.1 → ⊥). subst (λ (y : Option ℕ). IfSome y (λ j. IsLastTie cmp keys k (Some j))) (sym (kept k ne)) (linked.right k hk))
+            (cases_eq k high.1);
         done = λ p e f h he hf less tie. ⊎_elim
-        (λ (b : f.1 ≡ high.1). subst (λ (y : ℕ). IsSome (slice_index_or (set earlier high.1 (Some place)) y None)) (sym b) some_now)
-        (λ (ne : f.1 ≡ high.1 → ⊥). subst (λ (y : Option ℕ). IsSome y) (sym (kept f.1 ne)) (linked.done p e f
-        (⊎_elim (λ (x : suc p < i). x) (λ (x : i ≤ suc p).
-        let same : suc p ≡ i = omega arith in
-        absurd (ne (ap (λ (y : K × ℕ). y.1) (same_some f high (slice_get entries (suc p)) hf (subst (λ (y : ℕ). slice_get entries y ≡ Some high) (sym same) hh))))) (cases_lt (suc p) i))
-        he hf less tie))
-        (cases_eq f.1 high.1);
+            (λ (b : f.1 ≡ high.1). subst (λ (y : ℕ). IsSome (slice_index_or (set earlier high.1 (Some place)) y None)) (sym b) some_now)
+            (λ (ne : f.1 ≡ high.1 → ⊥). subst (λ (y : Option ℕ). IsSome y) (sym (kept f.1 ne)) (linked.done p e f
+            (⊎_elim (λ (x : suc p < i). x) (λ (x : i ≤ suc p).
+            let same : suc p ≡ i = omega arith in
+            absurd (ne (ap (λ (y : K × ℕ). y.1) (same_some f high (slice_get entries (suc p)) hf (subst (λ (y : ℕ). slice_get entries y ≡ Some high) (sym same) hh))))) (cases_lt (suc p) i))
+            he hf less tie))
+            (cases_eq f.1 high.1);
       }

@@ -16,9 +16,9 @@ module _ (n : ℕ) (few : n ≤ 65535) (parts : Parts) (head : ℕ → ℕ) (hei
     each = each;
     below = λ x h. absurd (omega arith);
     hit = λ x hx.
-    let tops = leads.tops x hx in
-    let own = leads.top (head x) tops.0 tops.1 in
-    (head x, tops.0, own.0, own.1 ∙ sym (zeros (head x) tops.0));
+        let tops = leads.tops x hx in
+        let own = leads.top (head x) tops.0 tops.1 in
+        (head x, tops.0, own.0, own.1 ∙ sym (zeros (head x) tops.0));
   }
 
   pub lows_skip : (lows : List ℤ) (k : ℕ) → low_of lows (head k) ≤ℤ height k → AreLows n k head height lows → AreLows n (k + 1) head height lows
@@ -33,23 +33,23 @@ module _ (n : ℕ) (few : n ≤ 65535) (parts : Parts) (head : ℕ → ℕ) (hei
       record {
         each = length-set lows h (height k) ∙ are.each;
         below = λ x hx. ⊎_elim
-        (λ (e : head x ≡ h).
-        let at_x : low_of (set lows h (height k)) (head x) ≡ height k = ap (low_of (set lows h (height k))) e ∙ here in
-        ⊎_elim
-        (λ (l : x < k).
-        let old : low_of lows h ≤ℤ height x = subst (λ (y : ℕ). low_of lows y ≤ℤ height x) e (are.below x l) in
-        omega (arith, ints, at_x, old, less))
-        (λ (g : k ≤ x). let same : x ≡ k = omega arith in let level : height x ≡ height k = ap height same in omega (arith, ints, at_x, level))
-        (cases_lt x k))
-        (λ (ne : head x ≡ h → ⊥).
-        let apart : x ≡ k → ⊥ = λ e. ne (ap head e) in
-        let l : x < k = ⊎_elim (λ (y : x < k). y) (λ (y : k ≤ x). absurd (apart (omega arith))) (cases_lt x k) in
-        subst (λ (z : ℤ). z ≤ℤ height x) (sym (else (head x) ne)) (are.below x l))
-        (cases_eq (head x) h);
+            (λ (e : head x ≡ h).
+            let at_x : low_of (set lows h (height k)) (head x) ≡ height k = ap (low_of (set lows h (height k))) e ∙ here in
+            ⊎_elim
+            (λ (l : x < k).
+            let old : low_of lows h ≤ℤ height x = subst (λ (y : ℕ). low_of lows y ≤ℤ height x) e (are.below x l) in
+            omega (arith, ints, at_x, old, less))
+            (λ (g : k ≤ x). let same : x ≡ k = omega arith in let level : height x ≡ height k = ap height same in omega (arith, ints, at_x, level))
+            (cases_lt x k))
+            (λ (ne : head x ≡ h → ⊥).
+            let apart : x ≡ k → ⊥ = λ e. ne (ap head e) in
+            let l : x < k = ⊎_elim (λ (y : x < k). y) (λ (y : k ≤ x). absurd (apart (omega arith))) (cases_lt x k) in
+            subst (λ (z : ℤ). z ≤ℤ height x) (sym (else (head x) ne)) (are.below x l))
+            (cases_eq (head x) h);
         hit = λ x hx. ⊎_elim
-        (λ (e : head x ≡ h). (k, hk, sym e, sym (ap (low_of (set lows h (height k))) e ∙ here)))
-        (λ (ne : head x ≡ h → ⊥). let old = are.hit x hx in (old.0, old.1, old.2, old.3 ∙ sym (else (head x) ne)))
-        (cases_eq (head x) h);
+            (λ (e : head x ≡ h). (k, hk, sym e, sym (ap (low_of (set lows h (height k))) e ∙ here)))
+            (λ (ne : head x ≡ h → ⊥). let old = are.hit x hx in (old.0, old.1, old.2, old.3 ∙ sym (else (head x) ne)))
+            (cases_eq (head x) h);
       }
 
   pub over_fits : (lows : List ℤ) → AreLows n n head height lows → (x : ℕ) → x < n → (low_of lows (head x) ≤ℤ height x) × ((height x -ℤ low_of lows (head x)) ≤ℤ pos 65535)
@@ -71,12 +71,12 @@ module _ (n : ℕ) (few : n ≤ 65535) (parts : Parts) (head : ℕ → ℕ) (hei
     each = each;
     meets = grades_meet lows grades over rules within settled.met;
     least = λ x hx.
-    let hit = are.hit x hx in
-    let y = hit.0 in
-    let low : low_of lows (head y) ≡ low_of lows (head x) = ap (low_of lows) hit.2 in
-    let none : slice_index_or grades y 0 ≡ 0 = omega (arith, ints, over y hit.1, hit.3, low) in
-    let to_head : Hangs rules y (head x) = subst (Hangs rules y) hit.2 (settled.hangs y hit.1) in
-    (y, hit.1, hangs_trans rules x (head x) y (settled.hangs x hx) (hangs_back rules y (head x) to_head), none);
+        let hit = are.hit x hx in
+        let y = hit.0 in
+        let low : low_of lows (head y) ≡ low_of lows (head x) = ap (low_of lows) hit.2 in
+        let none : slice_index_or grades y 0 ≡ 0 = omega (arith, ints, over y hit.1, hit.3, low) in
+        let to_head : Hangs rules y (head x) = subst (Hangs rules y) hit.2 (settled.hangs y hit.1) in
+        (y, hit.1, hangs_trans rules x (head x) y (settled.hangs x hx) (hangs_back rules y (head x) to_head), none);
   }
 
 -- a grade more

@@ -34,8 +34,8 @@ sides_skip triples earlier sides n none are = record {
   each = are.each;
   right = are.right;
   done = λ k j h e. ⊎_elim (λ (x : k < n). are.done k j x e) (λ (x : n ≤ k).
-  let same : k ≡ n = omega arith in
-  let both : None ≡ Some j = sym none ∙ subst (λ (y : ℕ). slice_index_or earlier y None ≡ Some j) same e in absurd (cc)) (cases_lt k n);
+      let same : k ≡ n = omega arith in
+      let both : None ≡ Some j = sym none ∙ subst (λ (y : ℕ). slice_index_or earlier y None ≡ Some j) same e in absurd (cc)) (cases_lt k n);
 }
 
 pub sides_more : (triples : List Triple) (earlier : List (Option ℕ)) (sides : List (Option Side)) (n j : ℕ) (a b : Side) → AreEarlier triples earlier → n < length triples * 3 → slice_index_or earlier n None ≡ Some j → a ≡ side_of triples n j → b ≡ side_of triples j n → AreSides triples earlier sides n →
@@ -51,12 +51,13 @@ sides_more triples earlier sides n j a b known hn here ha hb are =
       each = length-set (set sides n (Some a)) j (Some b) ∙ length-set sides n (Some a) ∙ are.each;
       right = set_right triples (set sides n (Some a)) j b inside2 one side_b;
       done = λ k i h e. ⊎_elim
-      (λ (x : k < n). let old = are.done k i x e in
-      (set_some (set sides n (Some a)) j k b inside2 (set_some sides n k a inside old.0), set_some (set sides n (Some a)) j i b inside2 (set_some sides n i a inside old.1)))
-      (λ (x : n ≤ k).
-      let same : k ≡ n = omega arith in
-      let to : j ≡ i = same_some j i (slice_index_or earlier n None) here (subst (λ (y : ℕ). slice_index_or earlier y None ≡ Some i) same e) in
-      (subst (λ (y : ℕ). IsSome (slice_index_or (set (set sides n (Some a)) j (Some b)) y None)) (sym same) (set_some (set sides n (Some a)) j n b inside2 (set_here sides n a inside)),
-        subst (λ (y : ℕ). IsSome (slice_index_or (set (set sides n (Some a)) j (Some b)) y None)) to (set_here (set sides n (Some a)) j b inside2)))
-      (cases_lt k n);
+          (λ (x : k < n). let old = are.done k i x e in
+          (set_some (set sides n (Some a)) j k b inside2 (set_some sides n k a inside old.0), set_some (set sides n (Some a)) j i b inside2 (set_some sides n i a inside old.1)))
+          (λ (x : n ≤ k).
+          let same : k ≡ n = omega arith in
+          let to : j ≡ i = same_some j i (slice_index_or earlier n None) here (subst (λ (y : ℕ). slice_index_or earlier y None ≡ Some i) same e) in (
+            subst (λ (y : ℕ). IsSome (slice_index_or (set (set sides n (Some a)) j (Some b)) y None)) (sym same) (set_some (set sides n (Some a)) j n b inside2 (set_here sides n a inside)),
+            subst (λ (y : ℕ). IsSome (slice_index_or (set (set sides n (Some a)) j (Some b)) y None)) to (set_here (set sides n (Some a)) j b inside2),
+          ))
+          (cases_lt k n);
     }

@@ -43,12 +43,12 @@ ranked_is {K} cmp o keys made sorted n low paired moved up high =
       each = length_permutation made sorted moved ∙ paired.each ∙ omega arith;
       own = λ p e h. subst P (get_or_from_slice_get sorted p e e h) (all p e (slice_get_within sorted p e h));
       every = λ i a h.
-      let stands = paired.stands i a (omega (arith, slice_get_within keys i a h)) h in
-      let there : Contains made (a, i) = (i, slice_get_within made i (a, i) stands, get_or_from_slice_get made i (a, i) (a, i) stands) in
-      let found = Contains-permutation made sorted (a, i) moved there in
-      (found.0, slice_get-get_or sorted found.0 (a, i) found.1 ∙ ap Some found.2);
+          let stands = paired.stands i a (omega (arith, slice_get_within keys i a h)) h in
+          let there : Contains made (a, i) = (i, slice_get_within made i (a, i) stands, get_or_from_slice_get made i (a, i) (a, i) stands) in
+          let found = Contains-permutation made sorted (a, i) moved there in
+          (found.0, slice_get-get_or sorted found.0 (a, i) found.1 ∙ ap Some found.2);
       rises = λ p q e f pq hp hq.
-      let far = sorted_far (λ x y. is_lt (pair_cmp cmp x y)) (ranks_by (pair_total cmp o) (λ (x : K × ℕ). x)) sorted up p q e pq (slice_get_within sorted q f hq) in
-      let turned : is_lt (ordering_reverse (pair_cmp cmp e f)) ≡ false = ap is_lt (sym ((pair_total cmp o).antisymm f e)) ∙ (λ i. is_lt (pair_cmp cmp (sym (get_or_from_slice_get sorted q f e hq) i) (sym (get_or_from_slice_get sorted p e e hp) i))) ∙ far in
-      not_after (cmp e.0 f.0) (nat_cmp e.1 f.1) e.1 f.1 refl turned;
+          let far = sorted_far (λ x y. is_lt (pair_cmp cmp x y)) (ranks_by (pair_total cmp o) (λ (x : K × ℕ). x)) sorted up p q e pq (slice_get_within sorted q f hq) in
+          let turned : is_lt (ordering_reverse (pair_cmp cmp e f)) ≡ false = ap is_lt (sym ((pair_total cmp o).antisymm f e)) ∙ (λ i. is_lt (pair_cmp cmp (sym (get_or_from_slice_get sorted q f e hq) i) (sym (get_or_from_slice_get sorted p e e hp) i))) ∙ far in
+          not_after (cmp e.0 f.0) (nat_cmp e.1 f.1) e.1 f.1 refl turned;
     }

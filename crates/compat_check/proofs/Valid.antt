@@ -92,10 +92,10 @@ module _ (triples : List Triple) (grades : List ℕ) (unrepeated : Unrepeated tr
   valid_is twin_free = record {
     distinct = λ r hr. (λ e. unrepeated r hr (inl e), λ e. unrepeated r hr (inr (inl e)), λ e. unrepeated r hr (inr (inr e)));
     no_twins = λ r s hr hs apart twin. ⊎_elim
-    (λ (x : r < s). twin_free r s x hs twin)
-    (λ (x : s ≤ r). let y : s < r = ⊎_elim (λ (z : s < r). z) (λ (z : r ≤ s). absurd (apart (omega arith))) (cases_lt s r) in
-    twin_free s r y hr (twin_swap (triple_in triples r) (triple_in triples s) (unrepeated r hr) (unrepeated s hs) twin))
-    (cases_lt r s);
+        (λ (x : r < s). twin_free r s x hs twin)
+        (λ (x : s ≤ r). let y : s < r = ⊎_elim (λ (z : s < r). z) (λ (z : r ≤ s). absurd (apart (omega arith))) (cases_lt s r) in
+        twin_free s r y hr (twin_swap (triple_in triples r) (triple_in triples s) (unrepeated r hr) (unrepeated s hs) twin))
+        (cases_lt r s);
     no_third = no_third_element;
   }
 

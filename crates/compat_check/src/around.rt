@@ -9,11 +9,10 @@ ghost use Rattle.compat_check.specs.Around.{IsAround};
 ghost use Rattle.compat_check.specs.Partnership.{SharesEdge};
 ghost use Rattle.compat_check.specs.Corners.{AreCorners, IsOfMesh};
 
+use crate::mesh::MacroMesh;
 use mesh_names::laws;
 use mesh_names::name::ElemName;
 use mesh_names::patch::{PatchName, VertexKey};
-
-use crate::mesh::MacroMesh;
 
 /// The parent of a name on the walk, the side of it on which the name lies, and its partner.
 #[derive(Clone, Copy)]

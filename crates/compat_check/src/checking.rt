@@ -9,11 +9,6 @@ ghost use Rattle.compat_check.specs.Checks.{IsCheckRefusal, IsMeshOf};
 ghost use Rattle.compat_check.specs.Tables.{AreMadeLabels, Differs, label_by, number_by};
 ghost use Rattle.compat_check.specs.Twins.{TwinFree};
 
-use std::alloc::{AllocError, Global};
-
-use macro_file::{MacroElem, MacroText, MacroVertex};
-use mesh_names::laws;
-
 use crate::edges::{earlier_edges, first_third, sides};
 use crate::grading::{ask_all, first_above, grades};
 use crate::mesh::{MacroMesh, Side};
@@ -21,6 +16,9 @@ use crate::parts::Parts;
 use crate::refusal::CheckRefusal;
 use crate::triples::{first_flat, first_outside, first_repeated};
 use crate::twins::earlier_twins;
+use macro_file::{MacroElem, MacroText, MacroVertex};
+use mesh_names::laws;
+use std::alloc::{AllocError, Global};
 
 fn corners_of(alloc: Global, elements: &[MacroElem]) -> Result<Vec<[u32; 3]>, AllocError>
     ensures { IfOk result (λ triples. triples.items ≡ map (λ e. e.corners) elements.now) }
@@ -73,7 +71,11 @@ fn made_row(sides: &[Option<Side>], element: usize) -> [i8; 3]
     ]
 }
 
-fn made_labels(alloc: Global, sides: &[Option<Side>], count: u32) -> Result<Vec<[i8; 3]>, AllocError>
+fn made_labels(
+    alloc: Global,
+    sides: &[Option<Side>],
+    count: u32,
+) -> Result<Vec<[i8; 3]>, AllocError>
     requires { length sides.now ≡ count * 3 }
     ensures { IfOk result (λ labels. AreMadeLabels count sides.now labels.items) }
 {
@@ -206,7 +208,11 @@ fn first_differing(elements: &[MacroElem], sides: &[Option<Side>]) -> Option<usi
     None
 }
 
-fn check_neighbours(given: bool, elements: &[MacroElem], sides: &[Option<Side>]) -> Result<(), CheckRefusal>
+fn check_neighbours(
+    given: bool,
+    elements: &[MacroElem],
+    sides: &[Option<Side>],
+) -> Result<(), CheckRefusal>
     requires few { length elements.now ≤ 65535 }
     requires sides { length sides.now ≡ length elements.now * 3 }
     ensures refused { IfErr result (IsNeighbourFault given elements.now sides.now) }
@@ -225,7 +231,12 @@ fn check_neighbours(given: bool, elements: &[MacroElem], sides: &[Option<Side>])
 }
 
 // The labels that were given, or else those that the sides make.
-fn labels(alloc: Global, given: bool, elements: &[MacroElem], sides: &[Option<Side>]) -> Result<Vec<[i8; 3]>, AllocError>
+fn labels(
+    alloc: Global,
+    given: bool,
+    elements: &[MacroElem],
+    sides: &[Option<Side>],
+) -> Result<Vec<[i8; 3]>, AllocError>
     requires few { length elements.now ≤ 65535 }
     requires sides { length sides.now ≡ length elements.now * 3 }
     ensures given { IfOk result (λ labels. given ≡ true → labels.items ≡ map (λ e. e.labels) elements.now) }
@@ -238,7 +249,11 @@ fn labels(alloc: Global, given: bool, elements: &[MacroElem], sides: &[Option<Si
 }
 
 // The faults that bisection does not look at: all but those of grades and of given neighbours.
-fn check_valid(alloc: Global, vertices: &[MacroVertex], triples: &[[u32; 3]]) -> Result<Vec<Option<Side>>, CheckRefusal>
+fn check_valid(
+    alloc: Global,
+    vertices: &[MacroVertex],
+    triples: &[[u32; 3]],
+) -> Result<Vec<Option<Side>>, CheckRefusal>
     requires vertices { length vertices.now ≤ 65535 }
     requires triples { length triples.now ≤ 65535 }
     ensures refused { IfErr result (IsValidityFault vertices.now triples.now) }

@@ -32,7 +32,10 @@ fn tied_place<K: Ord + Copy>(low: (K, u32), high: (K, u32)) -> Option<u32>
 }
 
 /// For each place the last earlier place with an equal key. Takes n log n steps.
-pub(crate) fn earlier_equals<K: Ord + Copy>(alloc: Global, keys: &[K]) -> Result<Vec<Option<u32>>, AllocError>
+pub(crate) fn earlier_equals<K: Ord + Copy>(
+    alloc: Global,
+    keys: &[K],
+) -> Result<Vec<Option<u32>>, AllocError>
     requires { length keys.now < 2 ^ 32 }
     ensures { IfOk result (λ r. AreLastTies K.cmp keys.now r.items) }
 {

@@ -6,10 +6,9 @@ ghost use Rattle.compat_check.specs.Faults.{IsFirst};
 ghost use Rattle.compat_check.specs.Paired.{AreSides, FallBack, IsThirdAt, side_of};
 ghost use Rattle.compat_check.specs.Places.{AreEarlier, AreEdgeKeys, ends_at, in_order};
 
-use std::alloc::{AllocError, Global};
-
 use crate::earlier::earlier_equals;
 use crate::mesh::Side;
+use std::alloc::{AllocError, Global};
 
 // The two ends of an edge, in the sense of the triple.
 fn ends(triples: &[[u32; 3]], place: usize) -> (u32, u32)
@@ -44,7 +43,10 @@ fn edge_keys(alloc: Global, triples: &[[u32; 3]]) -> Result<Vec<(u32, u32)>, All
 }
 
 /// For each edge its last earlier place, in an element of smaller index.
-pub(crate) fn earlier_edges(alloc: Global, triples: &[[u32; 3]]) -> Result<Vec<Option<u32>>, AllocError>
+pub(crate) fn earlier_edges(
+    alloc: Global,
+    triples: &[[u32; 3]],
+) -> Result<Vec<Option<u32>>, AllocError>
     requires { length triples.now ≤ 65535 }
     ensures { IfOk result (λ earlier. AreEarlier triples.now earlier.items) }
 {
@@ -91,7 +93,11 @@ fn side_at(triples: &[[u32; 3]], from: usize, to: usize) -> Side
 }
 
 /// What lies across each edge.
-pub(crate) fn sides(alloc: Global, triples: &[[u32; 3]], earlier: &[Option<u32>]) -> Result<Vec<Option<Side>>, AllocError>
+pub(crate) fn sides(
+    alloc: Global,
+    triples: &[[u32; 3]],
+    earlier: &[Option<u32>],
+) -> Result<Vec<Option<Side>>, AllocError>
     requires few { length triples.now ≤ 65535 }
     requires earlier { AreEarlier triples.now earlier.now }
     ensures { IfOk result (λ sides. AreSides triples.now earlier.now sides.items (length earlier.now)) }

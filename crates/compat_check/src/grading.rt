@@ -6,10 +6,9 @@ ghost use Rattle.compat_check.specs.Parts.{AreParts, AreSettled, InRange, Leads,
 ghost use Rattle.compat_check.specs.Passes.{IsStuck};
 ghost use Rattle.compat_check.specs.Grading.{AreFit, AreGrades, AreLows, rise_at, rules_before, weight};
 
-use std::alloc::{AllocError, Global};
-
 use crate::mesh::Side;
 use crate::parts::Parts;
+use std::alloc::{AllocError, Global};
 
 // 1 at the refinement edge, and 0 at the others.
 fn weight(edge: u8) -> i32

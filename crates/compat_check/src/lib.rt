@@ -16,6 +16,6 @@ pub mod refusal;
 mod triples;
 mod twins;
 
-pub use mesh::MacroMesh;
 pub use checking::check;
+pub use mesh::MacroMesh;
 pub use refusal::CheckRefusal;

@@ -5,10 +5,9 @@ ghost use Rattle.mesh_names.specs.Partners.{Tells, partner, top_partner, edge_wo
 ghost use Rattle.compat_check.specs.Partnership.{IsNeighbour};
 ghost use Rattle.compat_check.specs.Meshes.{IsChecked, across_in, edge_of, label_of, shape_of};
 
-use std::marker::Model;
-
 use macro_file::MacroVertex;
 use mesh_names::name::ElemName;
+use std::marker::Model;
 
 /// The other element at an edge of a macro element, which of its edges it is, and whether it runs
 /// the other way there.

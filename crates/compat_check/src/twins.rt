@@ -3,9 +3,8 @@ ghost use Rattle.std.specs.Prelude.{◌≡◌, ◌≤◌, IfOk, None, length};
 ghost use Rattle.compat_check.specs.Faults.{IsFirst, IsRepeated, triple_in};
 ghost use Rattle.compat_check.specs.Twins.{AreCornerKeys, AreTwins, corner_key};
 
-use std::alloc::{AllocError, Global};
-
 use crate::earlier::earlier_equals;
+use std::alloc::{AllocError, Global};
 
 // The three corners in order.
 fn ordered_corners(triple: &[u32; 3]) -> (u32, u32, u32)
@@ -29,7 +28,10 @@ fn corner_keys(alloc: Global, triples: &[[u32; 3]]) -> Result<Vec<(u32, u32, u32
 }
 
 /// For each element the last earlier one with the same three vertices.
-pub(crate) fn earlier_twins(alloc: Global, triples: &[[u32; 3]]) -> Result<Vec<Option<u32>>, AllocError>
+pub(crate) fn earlier_twins(
+    alloc: Global,
+    triples: &[[u32; 3]],
+) -> Result<Vec<Option<u32>>, AllocError>
     requires few { length triples.now ≤ 65535 }
     requires distinct { IsFirst (length triples.now) (λ r. IsRepeated (triple_in triples.now r)) None }
     ensures { IfOk result (λ earlier. AreTwins triples.now earlier.items) }

@@ -76,8 +76,8 @@ returns-clause-ok c =
       values = c.in_ok-values.ensures ∙ ap (map (λ (e : MacroElem). e.value)) c.deref-9.ensures.value;
       given = λ given. c.in_ok-labels.ensures.given given ∙ ap (map (λ (e : MacroElem). e.labels)) c.deref-7.ensures.value;
       made = λ made.
-      let are = made_at (length c.deref-7.result.now) (length c.in_ok-triples.triples.items) c.in_ok-sides.sides.items c.deref-8.result.now c.in_ok-labels.labels.items (ap length c.deref-7.ensures.value ∙ sym each) c.deref-8.ensures.value (c.in_ok-labels.ensures.made made) in
-      (are.each, labels_made c.args.text.vertices.items c.in_ok-triples.triples.items c.in_ok-grades.grades.items c.in_ok-sides.sides.items passes c.in_ok-labels.labels.items are);
+          let are = made_at (length c.deref-7.result.now) (length c.in_ok-triples.triples.items) c.in_ok-sides.sides.items c.deref-8.result.now c.in_ok-labels.labels.items (ap length c.deref-7.ensures.value ∙ sym each) c.deref-8.ensures.value (c.in_ok-labels.ensures.made made) in
+          (are.each, labels_made c.args.text.vertices.items c.in_ok-triples.triples.items c.in_ok-grades.grades.items c.in_ok-sides.sides.items passes c.in_ok-labels.labels.items are);
       valid = (told_of c.args.text.vertices.items c.in_ok-triples.triples.items c.in_ok-sides.sides.items c.in_ok-grades.grades.items passes).valid;
       compatible = compatible;
     }

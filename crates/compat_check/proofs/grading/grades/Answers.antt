@@ -34,13 +34,13 @@ pub loop-element-preserved : goal.loop-element-preserved
 loop-element-preserved c = record {
   each = length_pushed c.loop-element.grades.items c.push.new.self.items c.over.result c.loop-element.element c.loop-element.invariant.each c.in_ok-push.ensures.items;
   over = λ head height leads.
-  let k = c.loop-element.element in
-  let are = c.in_ok-lows.ensures head height leads in
-  let found = c.find-head.ensures.found head height leads in
-  let idx = c.index.result.now in
-  let inside : c.find-head.result.0 < length c.in_ok-lows.lows.items = omega (arith, are.each, c.find-head.ensures.within) in
-  let read : idx ≡ low_of c.in_ok-lows.lows.items (head k) = get_or_read c.in_ok-lows.lows.items c.find-head.result.0 idx inside c.index.ensures (pos 0) ∙ ap (low_of c.in_ok-lows.lows.items) found.0 in
-  over_more height (λ x. low_of c.in_ok-lows.lows.items (head x)) c.loop-element.grades.items c.push.new.self.items c.over.result k c.loop-element.invariant.each c.in_ok-push.ensures.items (c.loop-element.invariant.over head height leads) (omega (arith, ints, read, found.1, c.over.ensures));
+      let k = c.loop-element.element in
+      let are = c.in_ok-lows.ensures head height leads in
+      let found = c.find-head.ensures.found head height leads in
+      let idx = c.index.result.now in
+      let inside : c.find-head.result.0 < length c.in_ok-lows.lows.items = omega (arith, are.each, c.find-head.ensures.within) in
+      let read : idx ≡ low_of c.in_ok-lows.lows.items (head k) = get_or_read c.in_ok-lows.lows.items c.find-head.result.0 idx inside c.index.ensures (pos 0) ∙ ap (low_of c.in_ok-lows.lows.items) found.0 in
+      over_more height (λ x. low_of c.in_ok-lows.lows.items (head x)) c.loop-element.grades.items c.push.new.self.items c.over.result k c.loop-element.invariant.each c.in_ok-push.ensures.items (c.loop-element.invariant.over head height leads) (omega (arith, ints, read, found.1, c.over.ensures));
 }
 
 pub returns : goal.returns

@@ -46,10 +46,14 @@ returns-then-index c = λ asked w.
     let rank_b : c.index-2.result.now ≡ rank_of c.args.self.now b = get_or_read c.args.self.now.ranks.items b c.index-2.result.now in_b c.index-2.ensures 0 in
     let rank : rank_of c.args.self.now a ≤ rank_of c.args.self.now b = omega (arith, rank_a, rank_b, c.if-index.true) in
     let fits : SFits w32 v = search tried in
-    let links : Links c.args.self.now c.link.new.self a b v = subst (Links c.args.self.now c.link.new.self a b) (to_z-of_z w32 v fits) c.link.ensures in
-    (new_head head a b, (new_height head height a v,
-      leads_new n c.args.self.now c.link.new.self head height w.1.1 a b x y v d links c.requires.first c.requires.second (sym one.0) (sym two.0) c.if-head-other.false v_is c.requires.rise.0 c.requires.rise.1 rank,
-      settles_new n c.args.self.now c.link.new.self head height w.1.1 a b x y v d links c.requires.first c.requires.second (sym one.0) (sym two.0) c.if-head-other.false v_is c.requires.rise.0 c.requires.rise.1 rank asked w.1.2))
+    let links : Links c.args.self.now c.link.new.self a b v = subst (Links c.args.self.now c.link.new.self a b) (to_z-of_z w32 v fits) c.link.ensures in (
+      new_head head a b,
+      (
+        new_height head height a v,
+        leads_new n c.args.self.now c.link.new.self head height w.1.1 a b x y v d links c.requires.first c.requires.second (sym one.0) (sym two.0) c.if-head-other.false v_is c.requires.rise.0 c.requires.rise.1 rank,
+        settles_new n c.args.self.now c.link.new.self head height w.1.1 a b x y v d links c.requires.first c.requires.second (sym one.0) (sym two.0) c.if-head-other.false v_is c.requires.rise.0 c.requires.rise.1 rank asked w.1.2,
+      ),
+    )
 
 pub returns : goal.returns
 returns c = λ asked w.
@@ -76,8 +80,12 @@ returns c = λ asked w.
     let apart : b ≡ a → ⊥ = λ h. c.if-head-other.false (sym h) in
     let fits : SFits w32 v = search tried in
     let links : Links c.args.self.now c.link-2.new.self b a v = subst (Links c.args.self.now c.link-2.new.self b a) (to_z-of_z w32 v fits) c.link-2.ensures in
-    let none : d +ℤ e ≡ pos 0 = omega (arith, ints, c.opposite-turned.ensures) in
-    (new_head head b a, (new_height head height b v,
-      leads_new n c.args.self.now c.link-2.new.self head height w.1.1 b a y x v e links c.requires.second c.requires.first (sym two.0) (sym one.0) apart v_is e_low e_high rank,
-      settles_turned n asked (new_head head b a) (new_height head height b v) x y d e none
-      (settles_new n c.args.self.now c.link-2.new.self head height w.1.1 b a y x v e links c.requires.second c.requires.first (sym two.0) (sym one.0) apart v_is e_low e_high rank asked w.1.2)))
+    let none : d +ℤ e ≡ pos 0 = omega (arith, ints, c.opposite-turned.ensures) in (
+      new_head head b a,
+      (
+        new_height head height b v,
+        leads_new n c.args.self.now c.link-2.new.self head height w.1.1 b a y x v e links c.requires.second c.requires.first (sym two.0) (sym one.0) apart v_is e_low e_high rank,
+        settles_turned n asked (new_head head b a) (new_height head height b v) x y d e none
+            (settles_new n c.args.self.now c.link-2.new.self head height w.1.1 b a y x v e links c.requires.second c.requires.first (sym two.0) (sym one.0) apart v_is e_low e_high rank asked w.1.2),
+      ),
+    )

@@ -41,9 +41,9 @@ loop-at-preserved c =
     record {
       within = (step_up n c.requires.few c.args.self.now w.0 w.1.0 w.1.1 c.args.element c.loop-at.at p h u c.loop-at.invariant.within parent rise apart told.0 told.1).0;
       tells = λ head height leads.
-      let known = c.loop-at.invariant.tells head height leads in
-      let up = step_up n c.requires.few c.args.self.now head height leads c.args.element c.loop-at.at p h u c.loop-at.invariant.within parent rise apart known.0 known.1 in
-      (up.1, up.2 ∙ ap (λ z. z +ℤ height p) (sym sum_is));
+          let known = c.loop-at.invariant.tells head height leads in
+          let up = step_up n c.requires.few c.args.self.now head height leads c.args.element c.loop-at.at p h u c.loop-at.invariant.within parent rise apart known.0 known.1 in
+          (up.1, up.2 ∙ ap (λ z. z +ℤ height p) (sym sum_is));
     }
 
 pub returns-clause-found : goal.returns-clause-found
