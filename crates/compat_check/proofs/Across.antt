@@ -1,9 +1,10 @@
 -- What lies across the edges of a valid mesh, whether it has grades or not.
-use Rattle.std.proofs.Common.{◌≡◌, ℕ, ◌<◌, Bool, true, false, cond, eqb, ◌&&◌, refl, sym, ◌∙◌, subst, inl, inr, ⊎_elim, eqb-true}
-use Rattle.std.specs.Prelude.{Some, None}
+use Rattle.std.proofs.Common.{◌≡◌, ℕ, ◌<◌, ◌⊎◌, Bool, true, false, cond, eqb, ◌&&◌, refl, sym, ap, ◌∙◌, subst, inl, inr, ⊎_elim, eqb-true}
+use Rattle.std.specs.Prelude.{Option, Some, None, option_map}
 use Rattle.mesh_names.specs.Triangles.{Triple, Shape, size, triple_of, corner_of}
 use Rattle.mesh_names.specs.Partners.{Edge, Edge0, Edge1, Edge2}
 use Rattle.mesh_names.specs.Validity.{IsValid, Shares, IsSamePair, across_of, ends_of, match_pair}
+use Rattle.compat_check.specs.Partnership.{IsNeighbour}
 use Rattle.mesh_names.proofs.Neighbours.{found, there}
 use Rattle.compat_check.proofs.Links.{same_some}
 use Rattle.compat_check.proofs.Numbers.{pair_trans}
@@ -63,3 +64,14 @@ module _ (mesh : Shape) (valid : IsValid mesh) where
       let both : Shares mesh s f a.0.0 a.0.1 = pair_trans (ends_of (triple_of mesh s) f) p (ends_of (triple_of mesh a.0.0) a.0.1) (same_pair_back p (ends_of (triple_of mesh s) f) h) k in
       let by : f ≡ a.0.1 = one_edge (triple_of mesh s) (valid.distinct s hs) f a.0.1 (subst (λ (y : ℕ). Shares mesh s f y a.0.1) (sym at) both) in
       (a.0.2, a.1 ∙ (λ i. Some (sym at i, sym by i, a.0.2)))
+
+-- the element that lies across an edge has the edge, and is the only one
+pub neighbour_shares : (mesh : Shape) → IsValid mesh → (r : ℕ) (e : Edge) (a : ℕ × Edge × Bool) → across_of mesh r e ≡ Some a → IsNeighbour mesh r e a.0
+neighbour_shares mesh valid r e a is =
+    let h = across_found mesh valid r a.0 e a.1 a.2 is in
+    record { inside = h.0; other = h.1; edge = a.1; shares = turns_same a.2 (ends_of (triple_of mesh r) e) (ends_of (triple_of mesh a.0) a.1) h.2 }
+
+pub only_neighbour : (mesh : Shape) → IsValid mesh → (r : ℕ) (e : Edge) → r < size mesh → (s : ℕ) → IsNeighbour mesh r e s → (o : Option ℕ) → o ≡ option_map (λ (a : ℕ × Edge × Bool). a.0) (across_of mesh r e) → o ≡ Some s
+only_neighbour mesh valid r e hr s n o is =
+    let a = across_all mesh valid r s e n.edge hr n.inside (λ h. n.other (sym h)) n.shares in
+    is ∙ ap (option_map (λ (a : ℕ × Edge × Bool). a.0)) a.1

@@ -1,3 +1,4 @@
+mod Numbers
 mod Walks
 mod Owners
 mod Sharing
@@ -10,7 +11,6 @@ mod Sorted3
 mod TwinKeys
 mod Lists
 mod Pairings
-mod Numbers
 mod Across
 mod Valid
 mod Hanging

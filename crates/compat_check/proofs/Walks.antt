@@ -6,29 +6,28 @@ use mathlib.Core.Bool.{beq}
 use Rattle.mesh_names.specs.Names.{Name, depth}
 use Rattle.mesh_names.specs.Triangles.{Shape, size, level}
 use Rattle.mesh_names.specs.Partners.{Across, Tells, partner, half_partner, PartnersPair}
-use Rattle.compat_check.specs.Meshes.{Mesh, edge_of, edge_number, shape_of}
+use Rattle.compat_check.specs.Meshes.{Mesh, across_in, edge_of, shape_of}
 use Rattle.compat_check.specs.Sides.{IsStored, side_told}
+use Rattle.compat_check.proofs.Numbers.{number_back}
 use Rattle.compat_check.specs.Around.{IsAbove}
 use Rattle.compat_check.specs.declared.mesh.Side.{Side}
 use Rattle.compat_check.specs.declared.around.Above.{Above}
 use Rattle.compat_check.specs.declared.around.Around.{Around}
 
-same_number : (e : ℕ) → e < 3 → edge_number (edge_of e) ≡ e
-same_number zero h = refl
-same_number (suc zero) h = refl
-same_number (suc (suc zero)) h = refl
-same_number (suc (suc (suc e))) h = absurd (omega arith)
-
 pub stored_at : (m n : Mesh) (sides : List (Option Side)) → m ≡ n → IsStored m sides → IsStored n sides
 stored_at m n sides e h = subst (λ (y : Mesh). IsStored y sides) e h
+
+-- an entry of the table tells what lies across the edge
+pub read_told : (mesh : Mesh) (sides : List (Option Side)) → IsStored mesh sides → (r e : ℕ) (o d : Option Side) → e < 3 → o ≡ slice_index_or sides (r * 3 + e) d → r < size (shape_of mesh) → side_told o ≡ across_in mesh r (edge_of e)
+read_told mesh sides stored r e o d h at hr =
+    let inside : r * 3 + e < length sides = omega (arith, stored.three, hr, h) in
+    ap side_told (at ∙ get_or_default sides (r * 3 + e) d None inside) ∙ (λ i. side_told (slice_index_or sides (r * 3 + sym (number_back e h) i) None)) ∙ stored.told r (edge_of e) hr
 
 -- the element across an edge has a name
 pub side_within : (mesh : Mesh) (sides : List (Option Side)) → IsStored mesh sides → (r e : ℕ) (o d : Option Side) (s : Side) → e < 3 → o ≡ slice_index_or sides (r * 3 + e) d → r < size (shape_of mesh) → o ≡ Some s → s.element < 65535
 side_within mesh sides stored r e o d s h at hr is =
-    let inside : r * 3 + e < length sides = omega (arith, stored.three, hr, h) in
-    let told : side_told (slice_index_or sides (r * 3 + edge_number (edge_of e)) None) ≡ Some (s.element, edge_of s.edge, s.turned) =
-    (λ i. side_told (slice_index_or sides (r * 3 + same_number e h i) None)) ∙ ap side_told (get_or_default sides (r * 3 + e) None d inside ∙ sym at ∙ is) in
-    let low = stored.checked.tells.within r s.element (edge_of e) (edge_of s.edge) s.turned (sym (stored.told r (edge_of e) hr) ∙ told) in
+    let told = sym (read_told mesh sides stored r e o d h at hr) ∙ ap side_told is in
+    let low = stored.checked.tells.within r s.element (edge_of e) (edge_of s.edge) s.turned told in
     omega (arith, low, stored.checked.few)
 
 -- the names of partners two levels below are no longer than the level

@@ -1,7 +1,8 @@
 //! Checked macro meshes.
-ghost use Rattle.std.specs.Prelude.{◌≡◌, ◌<◌, ◌≤◌, ◌+◌, length, slice_get, slice_index_or, option_map, Some};
+ghost use Rattle.std.specs.Prelude.{◌≡◌, ℕ, IfSome, ◌<◌, ◌≤◌, ◌+◌, length, slice_get, slice_index_or, option_map, Some};
 ghost use Rattle.mesh_names.specs.Triangles.{size, level, triple_of, grade_of};
 ghost use Rattle.mesh_names.specs.Partners.{Tells, partner, top_partner, edge_word};
+ghost use Rattle.compat_check.specs.Partnership.{IsNeighbour};
 ghost use Rattle.compat_check.specs.Meshes.{IsChecked, across_in, edge_of, label_of, shape_of};
 
 use macro_file::MacroVertex;
@@ -68,11 +69,13 @@ impl MacroMesh {
         self.triples[element as usize]
     }
 
-    /// The other element that has this edge; `None` exactly on the boundary.
+    /// The other element with this edge's two vertices; `None` exactly where there is none.
     pub fn neighbour(&self, element: u32, edge: u8) -> Option<u32>
         requires element { element < size (shape_of self.now) }
         requires edge { edge < 3 }
-        ensures { result ≡ option_map (λ a. a.0) (across_in self.now element (edge_of edge)) }
+        ensures across { result ≡ option_map (λ a. a.0) (across_in self.now element (edge_of edge)) }
+        ensures shares { IfSome result (IsNeighbour (shape_of self.now) element (edge_of edge)) }
+        ensures only { (s : ℕ) → IsNeighbour (shape_of self.now) element (edge_of edge) s → result ≡ Some s }
     {
         match self.sides[element as usize * 3 + edge as usize] {
             None => None,
