@@ -44,10 +44,9 @@ pub fn run_words<R: Threads + Sync>(
     rt: &R,
     alloc: Global,
     line: &str,
-    files: &[(&str, &str)],
+    mut shelf: MemShelf,
 ) -> Result<Ran, AllocError> {
     let words = words(alloc, line)?;
-    let mut shelf = shelf(alloc, files)?;
     let mut out = sink(alloc, 1 << 20, Vec::new(alloc))?;
     let mut err = sink(alloc, 1 << 20, Vec::new(alloc))?;
     let status = adapt(rt, alloc, &words, &mut shelf, &mut out, &mut err, &NoGate);
@@ -62,5 +61,8 @@ pub fn run<R: Threads + Sync>(
     rows: &str,
 ) -> Result<Ran, AllocError> {
     let marks = format!(in alloc; "round,what,where,number\n{rows}")?;
-    run_words(rt, alloc, "run q m", &[("q", macro_text), ("m", &marks)])
+    let mut held = Vec::new(alloc);
+    held.push(("q".to_string(alloc)?, macro_text.as_bytes().to_vec(alloc)?))?;
+    held.push(("m".to_string(alloc)?, marks.as_bytes().to_vec(alloc)?))?;
+    run_words(rt, alloc, "run q m", MemShelf::new(held, Vec::new(alloc)))
 }

@@ -169,7 +169,7 @@ fn words_and_missing_files_are_told(rt: HostRuntime) -> Result<(), Fail> {
     ];
     for (line, status, want) in cases {
         let files = [("q", SQUARE), ("m", "round,what,where,number\n"), ("e", "")];
-        let ran = run_words(&rt, rt.alloc(), line, &files)?;
+        let ran = run_words(&rt, rt.alloc(), line, shelf(rt.alloc(), &files)?)?;
         assert!(rt; ran.err.bytes() == want.as_bytes(), "{line}");
         assert_eq!(rt; ran.status, status, "{line}");
         assert_eq!(rt; ran.out.bytes().len(), 0, "{line}");
