@@ -13,6 +13,8 @@ mod grading;
 pub mod mesh;
 mod parts;
 pub mod refusal;
+#[cfg(test)]
+mod tests;
 mod triples;
 mod twins;
 

@@ -1,0 +1,95 @@
+//! What a checked mesh tells: the square of two triangles, and the same with one of them turned.
+use crate::{MacroMesh, check};
+use macro_file::read_macro;
+use mesh_names::name::ElemName;
+use mesh_names::patch::{PatchName, VertexKey};
+use std::alloc::{AllocError, Global};
+use std::test::Fail;
+
+/// The square, with values and without labels.
+const SQUARE: &str = "number of vertices: 4
+number of elements: 2
+vertex coordinates: 0 0 1 0 1 1 0 1
+element vertices: 2 0 1 0 2 3
+vertex values: 3 0 -4 0
+element values: -7 9
+";
+
+/// The square with element 1 turned, and with labels.
+const TURNED_SQUARE: &str = "number of vertices: 4
+number of elements: 2
+vertex coordinates: 0 0 1 0 1 1 0 1
+element vertices: 2 0 1 2 3 0
+element boundaries: 5 6 0 7 0 -8
+";
+
+fn mesh_of(alloc: Global, text: &str) -> Result<MacroMesh, AllocError> {
+    if text.len() > 1000 {
+        return Err(AllocError);
+    }
+    let text = read_macro(alloc, text.as_bytes()).map_err(|_| AllocError)?;
+    check(alloc, text).map_err(|_| AllocError)
+}
+
+#[test]
+fn a_square_tells_its_elements_and_vertices(rt: HostRuntime) -> Result<(), Fail> {
+    let mesh = mesh_of(rt.alloc(), SQUARE)?;
+    assert_eq!(rt; mesh.element_count(), 2);
+    assert_eq!(rt; mesh.vertex_count(), 4);
+    assert_eq!(rt; mesh.triangle(1), [0, 2, 3]);
+    assert_eq!(rt; mesh.neighbour(0, 2), Some(1));
+    assert_eq!(rt; mesh.neighbour(0, 0), None);
+    assert_eq!(rt; mesh.label(0, 0), 1);
+    assert_eq!(rt; mesh.label(0, 2), 0);
+    assert_eq!(rt; mesh.element_value(0), -7);
+    let corner = mesh.vertex(2);
+    assert_eq!(rt;
+        (corner.x, corner.y),
+        (40_960_000_000_000, 40_960_000_000_000)
+    );
+    assert_eq!(rt; corner.value, -4);
+    Ok(())
+}
+
+#[test]
+fn given_labels_and_grades_are_told(rt: HostRuntime) -> Result<(), Fail> {
+    let mesh = mesh_of(rt.alloc(), TURNED_SQUARE)?;
+    assert_eq!(rt; mesh.element_count(), 2);
+    assert_eq!(rt; mesh.label(0, 1), 6);
+    assert_eq!(rt; mesh.label(1, 2), -8);
+    assert_eq!(rt; (mesh.grade(0), mesh.grade(1)), (1, 0));
+    assert_eq!(rt; mesh.level(ElemName::top(0)), 1);
+    assert_eq!(rt; mesh.level(ElemName::top(1).child(0)), 1);
+    Ok(())
+}
+
+#[test]
+fn the_partner_on_a_turned_square_is_a_child(rt: HostRuntime) -> Result<(), Fail> {
+    let mesh = mesh_of(rt.alloc(), TURNED_SQUARE)?;
+    assert_eq!(rt; mesh.element_count(), 2);
+    let top = ElemName::top(0);
+    assert!(rt; mesh.level(top) <= 24);
+    let child = ElemName::top(1).child(0);
+    assert_eq!(rt; mesh.partner(top), Some(child));
+    let patch = PatchName {
+        first: top,
+        second: Some(child),
+    };
+    assert_eq!(rt; mesh.patch(top), patch);
+    Ok(())
+}
+
+#[test]
+fn corners_name_the_patches_of_their_midpoints(rt: HostRuntime) -> Result<(), Fail> {
+    let mesh = mesh_of(rt.alloc(), SQUARE)?;
+    assert_eq!(rt; mesh.element_count(), 2);
+    let name = ElemName::top(1).child(0).child(1);
+    assert!(rt; mesh.level(name) <= 24);
+    let corners = [
+        VertexKey::Macro(0),
+        VertexKey::Patch(ElemName::top(0)),
+        VertexKey::Patch(ElemName::top(1).child(0)),
+    ];
+    assert_eq!(rt; mesh.corners(name), corners);
+    Ok(())
+}
