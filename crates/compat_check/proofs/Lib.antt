@@ -25,3 +25,6 @@ mod Whole
 mod Firsts
 mod OneGrading
 mod Causes
+mod Halving
+mod Placing
+mod Exact

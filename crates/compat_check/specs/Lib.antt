@@ -13,3 +13,5 @@ pub mod Tables
 pub mod Partnership
 pub mod Checks
 pub mod Passes
+pub mod Points
+pub mod Within

@@ -10,8 +10,10 @@ pub mod checking;
 mod earlier;
 mod edges;
 mod grading;
+pub mod laws;
 pub mod mesh;
 mod parts;
+mod points;
 pub mod refusal;
 #[cfg(test)]
 mod tests;

@@ -93,3 +93,25 @@ fn corners_name_the_patches_of_their_midpoints(rt: HostRuntime) -> Result<(), Fa
     assert_eq!(rt; mesh.corners(name), corners);
     Ok(())
 }
+
+#[test]
+fn midpoints_lie_halfway_and_are_rounded_down(rt: HostRuntime) -> Result<(), Fail> {
+    let text = "number of vertices: 3
+number of elements: 1
+vertex coordinates: 0.33333333333333331 -0.33333333333333331 1 0 0 1
+element vertices: 0 1 2
+element boundaries: 5 6 7
+";
+    let mesh = mesh_of(rt.alloc(), text)?;
+    assert_eq!(rt; mesh.element_count(), 1);
+    let child = ElemName::top(0).child(1);
+    let points = [
+        (40_960_000_000_000, 0),
+        (0, 40_960_000_000_000),
+        (27_306_666_666_666, -6_826_666_666_667),
+    ];
+    assert_eq!(rt; mesh.points(child), points);
+    assert_eq!(rt; mesh.labels(child), [0, 7, 5]);
+    assert_eq!(rt; mesh.labels(child.child(0)), [5, 0, 7]);
+    Ok(())
+}
