@@ -1,5 +1,5 @@
 -- What lies across the edges of a valid mesh, whether it has grades or not.
-use Rattle.std.proofs.Common.{◌≡◌, ℕ, ◌<◌, ◌⊎◌, Bool, true, false, cond, eqb, ◌&&◌, refl, sym, ap, ◌∙◌, subst, inl, inr, ⊎_elim, eqb-true}
+use Rattle.std.proofs.Common.{◌≡◌, ℕ, ◌<◌, Bool, true, false, cond, eqb, ◌&&◌, refl, sym, ap, ◌∙◌, subst, inl, inr, ⊎_elim, eqb-true}
 use Rattle.std.specs.Prelude.{Option, Some, None, option_map}
 use Rattle.mesh_names.specs.Triangles.{Triple, Shape, size, triple_of, corner_of}
 use Rattle.mesh_names.specs.Partners.{Edge, Edge0, Edge1, Edge2}

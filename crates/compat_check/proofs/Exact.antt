@@ -1,14 +1,14 @@
 -- No midpoint is rounded where the macro coordinates have at most ten decimals.
-use Rattle.std.proofs.Common.{◌≡◌, ℕ, zero, suc, ◌+◌, ◌*◌, ◌/◌, ◌-◌, ◌<◌, ◌≤◌, ◌^◌, Bool, true, false, cond, List, [], ◌∷◌, length, refl, sym, ap, ◌∙◌, subst, arith}
+use Rattle.std.proofs.Common.{◌≡◌, ℕ, zero, suc, ◌+◌, ◌*◌, ◌-◌, ◌^◌, Bool, true, false, List, [], ◌∷◌, length, refl, sym, ap, ◌∙◌, subst, arith}
 use native.Mathlib.Numerals.{unary_clauses}
 use Rattle.std.specs.Prelude.{ℤ, pos, negsuc, ◌+ℤ◌, nat_abs}
 use Rattle.std.proofs.lemmas.Int.{ints}
 use Rattle.macro_file.specs.declared.text.MacroVertex.{MacroVertex}
 use Rattle.mesh_names.specs.Names.{Name}
-use Rattle.mesh_names.specs.Triangles.{Triangle, Vertex, Corner, Mid, before, middle, midpoint, child_triangle, below, top_of}
-use Rattle.compat_check.specs.Meshes.{Mesh, shape_of}
+use Rattle.mesh_names.specs.Triangles.{Triangle, Vertex, middle, child_triangle, below, top_of}
+use Rattle.compat_check.specs.Meshes.{shape_of}
 use Rattle.compat_check.proofs.Placing.{middle_lies}
-use Rattle.compat_check.specs.Points.{Point, half, between, point, IsMultiple, LiesOn, IsHalfway, AreTenths, IsExact, MidpointsExact}
+use Rattle.compat_check.specs.Points.{Point, half, between, point, IsMultiple, LiesOn, IsHalfway, IsExact, MidpointsExact}
 
 -- z can be halved this many times with no rest
 abbrev Halves : ℕ → ℤ → Type 0

@@ -4,10 +4,10 @@ use Rattle.std.specs.Prelude.{ℤ, pos, ◌+ℤ◌, Option, Some, None, slice_ge
 use Rattle.std.proofs.lemmas.Int.{ints}
 use Rattle.macro_file.specs.declared.text.MacroVertex.{MacroVertex}
 use Rattle.mesh_names.specs.Names.{Name}
-use Rattle.mesh_names.specs.Triangles.{Triangle, Vertex, Corner, Mid, before, middle, triangle}
+use Rattle.mesh_names.specs.Triangles.{Vertex, Corner, Mid, before, middle, triangle}
 use Rattle.compat_check.specs.Faults.{point_of}
 use Rattle.compat_check.specs.Meshes.{Mesh, shape_of}
-use Rattle.compat_check.specs.Points.{Point, Labels, half, between, point, points, labels, labels_below}
+use Rattle.compat_check.specs.Points.{Point, half, between, point, points, labels}
 use Rattle.compat_check.specs.Within.{IsWithin, child_points, corner}
 use Rattle.compat_check.proofs.Halving.{between_within}
 

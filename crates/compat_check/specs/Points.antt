@@ -2,7 +2,7 @@
 use Rattle.std.specs.Prelude.{◌≡◌, ℕ, suc, ◌+◌, ◌*◌, ◌/◌, ◌<◌, ◌^◌, ℤ, pos, negsuc, ◌+ℤ◌, nat_abs, Bool, true, false, List, [], ◌∷◌, length}
 use Rattle.macro_file.specs.declared.text.MacroVertex.{MacroVertex}
 use Rattle.mesh_names.specs.Names.{Name}
-use Rattle.mesh_names.specs.Triangles.{Shape, Triangle, Vertex, Corner, Mid, size, triangle, midpoint}
+use Rattle.mesh_names.specs.Triangles.{Triangle, Vertex, Corner, Mid, triangle, midpoint}
 use Rattle.compat_check.specs.Faults.{point_at}
 use Rattle.compat_check.specs.Meshes.{Mesh, label_of, shape_of}
 

@@ -1,4 +1,4 @@
-use Rattle.std.proofs.Common.{◌≡◌, ◌∙◌, ℕ, Bool, ap, sym}
+use Rattle.std.proofs.Common.{◌∙◌, ℕ, Bool, ap, sym}
 use Rattle.std.specs.Prelude.{None, Some, option_map}
 use Rattle.mesh_names.specs.Partners.{Edge}
 use Rattle.compat_check.specs.Meshes.{edge_of, shape_of}
