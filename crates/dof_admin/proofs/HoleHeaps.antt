@@ -1,5 +1,5 @@
 -- The heap of holes when an index is got or given back.
-use Rattle.std.proofs.Common.{◌≡◌, ℕ, zero, suc, ◌+◌, ◌<◌, ◌≤◌, Bool, true, false, cond, List, [], ◌∷◌, ◌++◌, get_or, length, replicate, refl, ap, sym, ◌∙◌, subst, arith, true≢false, eqb}
+use Rattle.std.proofs.Common.{◌≡◌, ℕ, zero, suc, ◌+◌, ◌<◌, ◌≤◌, Bool, true, false, cond, List, [], ◌∷◌, ◌++◌, get_or, length, replicate, refl, ap, sym, ◌∙◌, arith, true≢false, eqb}
 use Rattle.std.proofs.Math.ListN.{set}
 use Rattle.std.proofs.lemmas.List.{length-set}
 use Rattle.std.proofs.lemmas.Bool.{eq-eqb, eqb-true}
@@ -7,7 +7,7 @@ use Rattle.std.proofs.lemmas.Map.Keys.{ge_from_not_lt}
 use Rattle.std.proofs.lemmas.List.Elements.{All-from_recursion}
 use Rattle.std.proofs.lemmas.List.Sums.{sum_by-cons, get_or-le-sum_by}
 use Rattle.std.proofs.lemmas.List.Sorted.{sum_by-IsPermutation}
-use Rattle.std.specs.List.{Contains, All, sum_by}
+use Rattle.std.specs.List.{Contains, sum_by}
 use Rattle.std.specs.List.Sorted.{IsPermutation}
 use Rattle.std.specs.Ordering.{nat_cmp, is_lt}
 use Rattle.std.specs.BinaryHeap.{IsHeap, KeepsHeap, PopsGreatest}
@@ -32,10 +32,10 @@ found : {X : Type 0} (f : X → ℕ) (xs : List X) (j : ℕ) → 1 ≤ sum_by (�
 found f [] j h = absurd (omega arith)
 found {X} f (x ∷ xs) j h =
     elim (eqb (f x) j) as (λ (b : Bool). eqb (f x) j ≡ b → (k : ℕ) × (k < length (x ∷ xs)) × ((d : X) → f (get_or (x ∷ xs) k d) ≡ j)) [
-      true ↦ λ (e : eqb (f x) j ≡ true). (zero, omega arith, λ d. eqb-true (f x) j e)
-    | false ↦ λ (e : eqb (f x) j ≡ false).
-        let rest = found f xs j (omega (arith, sum_by-cons (λ x. hit j (f x)) x xs, ap {B = ℕ} (λ (b : Bool). cond b 1 0) e)) in
-        (suc rest.0, omega arith, rest.2)
+      | true ↦ λ (e : eqb (f x) j ≡ true). (zero, omega arith, λ d. eqb-true (f x) j e)
+      | false ↦ λ (e : eqb (f x) j ≡ false).
+          let rest = found f xs j (omega (arith, sum_by-cons (λ x. hit j (f x)) x xs, ap {B = ℕ} (λ (b : Bool). cond b 1 0) e)) in
+          (suc rest.0, omega arith, rest.2)
     ] refl
 
 pub heap-count : (flags : List Bool) (heap : List (Reverse ℕ)) → AreHoles flags heap → length heap + used_count flags ≡ length flags

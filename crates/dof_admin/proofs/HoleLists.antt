@@ -1,9 +1,9 @@
 -- The list of the holes when an index is used, given back, or added.
-use Rattle.std.proofs.Common.{◌≡◌, ℕ, zero, suc, ◌+◌, ◌<◌, Bool, true, false, List, [], ◌∷◌, ◌++◌, get_or, length, map, refl, ap, sym, ◌∙◌, subst, arith, cond, replicate, true≢false, take, drop, add-one}
+use Rattle.std.proofs.Common.{◌≡◌, ℕ, zero, suc, ◌+◌, ◌<◌, Bool, true, false, List, [], ◌∷◌, ◌++◌, get_or, length, refl, ap, sym, ◌∙◌, arith, cond, replicate, true≢false, take, drop, add-one}
 use Rattle.std.proofs.Math.ListN.{set}
 use Rattle.std.proofs.lemmas.List.{set-set, set-get_or, length-set, get_or-set_same}
 use Rattle.std.proofs.lemmas.List.Sums.{sum_by-cons}
-use Rattle.std.specs.List.{count_by, sum_by, Contains, AllByRecursion}
+use Rattle.std.specs.List.{sum_by, Contains}
 use Rattle.dof_admin.specs.Administration.{used_count, with_used}
 use Rattle.dof_admin.specs.Holes.{holes_from}
 

@@ -1,6 +1,6 @@
 -- Compression, index by index.
-use Rattle.std.proofs.Common.{◌≡◌, ℕ, zero, suc, ◌+◌, ◌<◌, ◌≤◌, Bool, true, false, List, [], ◌∷◌, ◌++◌, get_or, length, take, replicate, refl, ap, sym, ◌∙◌, subst, arith, true≢false, ◌⊎◌, inl, inr, ⊎_elim, length-append}
-use Rattle.std.proofs.lemmas.List.{get_or_append_left, get_or_push, take-append-le, take_more, length-replicate}
+use Rattle.std.proofs.Common.{◌≡◌, ℕ, zero, suc, ◌+◌, ◌<◌, Bool, true, false, List, [], ◌∷◌, ◌++◌, get_or, length, take, replicate, refl, ap, sym, ◌∙◌, subst, arith, true≢false, ◌⊎◌, ⊎_elim, length-append}
+use Rattle.std.proofs.lemmas.List.{get_or_append_left, get_or_push, take-append-le, take_more}
 use Rattle.dof_admin.specs.Administration.{IsRenumbering, used_count}
 use Rattle.dof_admin.proofs.HoleLists.{used_count-cons}
 use Rattle.dof_admin.proofs.HoleHeaps.{used-within}
@@ -22,20 +22,20 @@ renumbered-next fs u moved x h used hole =
           let within : i < length fs + 1 = omega (arith, used-within (fs ++ u ∷ []) i is, size) in
           ⊎_elim
           (λ (before : i < length fs).
-            let same : get_or fs i false ≡ true = sym (get_or_append_left fs (u ∷ []) false i before) ∙ is in
-            get_or_append_left moved (x ∷ []) 0 i (omega (arith, h.whole)) ∙ h.used i same ∙ ap used_count (sym (take-append-le i fs (u ∷ []) (omega arith))))
+          let same : get_or fs i false ≡ true = sym (get_or_append_left fs (u ∷ []) false i before) ∙ is in
+          get_or_append_left moved (x ∷ []) 0 i (omega (arith, h.whole)) ∙ h.used i same ∙ ap used_count (sym (take-append-le i fs (u ∷ []) (omega arith))))
           (λ (last : i ≡ length fs).
-            let here : u ≡ true = sym (get_or_push fs u false i (sym last)) ∙ is in
-            get_or_push moved x 0 i (omega (arith, h.whole)) ∙ used here ∙ ap used_count (sym (take-front fs (u ∷ []) i (sym last))))
+          let here : u ≡ true = sym (get_or_push fs u false i (sym last)) ∙ is in
+          get_or_push moved x 0 i (omega (arith, h.whole)) ∙ used here ∙ ap used_count (sym (take-front fs (u ∷ []) i (sym last))))
           (last_or_before i (length fs) within);
       hole = λ i below is.
           ⊎_elim
           (λ (before : i < length fs).
-            let same : get_or fs i false ≡ false = sym (get_or_append_left fs (u ∷ []) false i before) ∙ is in
-            get_or_append_left moved (x ∷ []) 0 i (omega (arith, h.whole)) ∙ h.hole i before same)
+          let same : get_or fs i false ≡ false = sym (get_or_append_left fs (u ∷ []) false i before) ∙ is in
+          get_or_append_left moved (x ∷ []) 0 i (omega (arith, h.whole)) ∙ h.hole i before same)
           (λ (last : i ≡ length fs).
-            let here : u ≡ false = sym (get_or_push fs u false i (sym last)) ∙ is in
-            get_or_push moved x 0 i (omega (arith, h.whole)) ∙ hole here)
+          let here : u ≡ false = sym (get_or_push fs u false i (sym last)) ∙ is in
+          get_or_push moved x 0 i (omega (arith, h.whole)) ∙ hole here)
           (last_or_before i (length fs) (omega (arith, size)));
     }
 

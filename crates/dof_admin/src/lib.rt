@@ -6,6 +6,8 @@
 mod admin;
 mod refusal;
 mod renumber;
+#[cfg(test)]
+mod tests;
 
 pub use admin::DofAdmin;
 pub use refusal::DofRefusal;

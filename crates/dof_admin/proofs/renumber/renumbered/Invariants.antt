@@ -1,5 +1,5 @@
 use Rattle.std.proofs.Common.{take}
-use Rattle.std.proofs.Common.{◌≡◌, ◌≤◌}
+use Rattle.std.proofs.Common.{◌≡◌}
 use Rattle.dof_admin.specs.Administration.{IsRenumbering, used_count}
 use Rattle.dof_admin.proofs.renumber.renumbered.Given as goal
 

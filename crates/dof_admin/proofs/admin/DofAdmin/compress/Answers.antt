@@ -1,4 +1,4 @@
-use Rattle.std.proofs.Common.{◌≡◌, ap, ◌∙◌, sym, subst, arith, Bool, true, false, List, [], ℕ, length, refl, replicate}
+use Rattle.std.proofs.Common.{◌≡◌, ap, ◌∙◌, sym, subst, arith, Bool, true, List, ℕ, length, replicate}
 use Rattle.std.proofs.lemmas.List.{length-replicate}
 use Rattle.std.specs.Vec.{vec_len}
 use Rattle.std.specs.BinaryHeap.{heap_items}
@@ -18,13 +18,15 @@ filled c =
     c.fill.ensures.items (λ y e. e) ∙ ap (λ (n : ℕ). replicate n true) size
 
 pub invariant_of-self : goal.invariant_of-self
-invariant_of-self c =
-    (subst (λ (l : List Bool). AreHoles l (heap_items c.clear.new.self)) (sym (filled c)) (heap-all_used _ _ c.clear.ensures.items c.clear.ensures.heap_order), record {
-      within = omega (arith, ap length (filled c), length-replicate (used_count c.self.inside.flags.items) true, heap-count c.self.inside.flags.items _ c.self.invariant.0);
-      numbered = omega arith;
-      flags = omega arith;
-      holes = omega arith;
-    })
+invariant_of-self c = (
+  subst (λ (l : List Bool). AreHoles l (heap_items c.clear.new.self)) (sym (filled c)) (heap-all_used _ _ c.clear.ensures.items c.clear.ensures.heap_order),
+  record {
+    within = omega (arith, ap length (filled c), length-replicate (used_count c.self.inside.flags.items) true, heap-count c.self.inside.flags.items _ c.self.invariant.0);
+    numbered = omega arith;
+    flags = omega arith;
+    holes = omega arith;
+  },
+)
 
 pub returns-clause-flags : goal.returns-clause-flags
 returns-clause-flags c = filled c ∙ ap (λ (a : Administration). replicate (used_count a.flags) true) c.self.view_is

@@ -11,10 +11,12 @@ unwrap-requires c =
 
 pub invariant_of-self : goal.invariant_of-self
 invariant_of-self c =
-    let used : get_or c.self.inside.flags.items c.args.index false ≡ true = ap (λ (a : Administration). get_or a.flags c.args.index false) c.self.view_is ∙ c.requires in
-    (heap-given c.self.inside.flags.items _ _ (record { 0 = c.args.index }) c.self.invariant.0 (used-within _ _ used) used (rw c.unwrap.ensures at c.push.ensures.permutation) (rw c.unwrap.ensures at c.push.ensures.heap_order), record {
-      within = omega (arith, length-set c.self.inside.flags.items c.args.index false);
-      numbered = omega arith;
-      flags = omega arith;
-      holes = omega arith;
-    })
+    let used : get_or c.self.inside.flags.items c.args.index false ≡ true = ap (λ (a : Administration). get_or a.flags c.args.index false) c.self.view_is ∙ c.requires in (
+      heap-given c.self.inside.flags.items _ _ (record { 0 = c.args.index }) c.self.invariant.0 (used-within _ _ used) used (rw c.unwrap.ensures at c.push.ensures.permutation) (rw c.unwrap.ensures at c.push.ensures.heap_order),
+      record {
+        within = omega (arith, length-set c.self.inside.flags.items c.args.index false);
+        numbered = omega arith;
+        flags = omega arith;
+        holes = omega arith;
+      },
+    )
