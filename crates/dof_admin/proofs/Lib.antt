@@ -1,0 +1,3 @@
+pub mod HoleLists
+pub mod HoleHeaps
+pub mod Renumbering
