@@ -12,3 +12,9 @@ pub mod LookupLemmas
 pub mod AssemblyLemmas
 pub mod ReaderLemmas
 pub mod WriterLemmas
+pub mod PlainLines
+pub mod WrittenWords
+pub mod WrittenNumbers
+pub mod Remade
+pub mod ReadingBack
+pub mod Texts

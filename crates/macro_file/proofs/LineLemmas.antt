@@ -1,8 +1,8 @@
 -- The lines of a file, one by one from the front, and the key lines among them.
-use Rattle.std.proofs.Common.{◌≡◌, ℕ, zero, suc, List, [], ◌∷◌, ◌++◌, Bool, true, false, ◌==◌, ◌&&◌, ◌||◌, cond, length, take, drop, ◌+◌, ◌<◌, ◌≤◌, Some, None, ◌∙◌, ⊎_elim, refl, sym, ap, subst, arith, append_assoc}
+use Rattle.std.proofs.Common.{◌≡◌, ℕ, suc, List, [], ◌∷◌, ◌++◌, Bool, true, false, ◌==◌, ◌&&◌, ◌||◌, cond, length, take, drop, ◌+◌, ◌<◌, ◌≤◌, Some, None, ◌∙◌, ⊎_elim, refl, sym, ap, subst, arith, append_assoc}
 use Rattle.std.specs.List.{position_or_len, onto_first}
 use Rattle.std.proofs.lemmas.Bool.{cases_Bool, eqb-true, or_parts, or_cases, and_right, false≢true, true≢false}
-use Rattle.std.proofs.lemmas.List.{append-nil, take-append-drop, drop-drop, take_all}
+use Rattle.std.proofs.lemmas.List.{append-nil, take-append-drop, drop-drop}
 use Rattle.macro_file.specs.Lines.{lines, at_newline, before, after}
 use Rattle.macro_file.specs.Sections.{Token, Block, tokens, add_line, blocks}
 use Rattle.macro_file.specs.Walks.{tokens_of_lines, tokens_from, ends_key, at_colon, blocks_after}

@@ -1,5 +1,5 @@
 -- Text that is appended piece by piece.
-use Rattle.std.proofs.Common.{◌≡◌, ℕ, zero, suc, ℤ, List, [], ◌∷◌, ◌++◌, length, get_or, take, drop, ◌+◌, ◌<◌, ◌≤◌, ◌^◌, ◌∙◌, refl, sym, ap, arith, append_assoc}
+use Rattle.std.proofs.Common.{◌≡◌, ℕ, zero, suc, ℤ, List, [], ◌∷◌, ◌++◌, length, get_or, take, ◌+◌, ◌<◌, ◌≤◌, ◌^◌, ◌∙◌, refl, sym, ap, arith, append_assoc}
 use Rattle.std.specs.Prelude.{map, codes, pos}
 use Rattle.std.specs.Fmt.{decimal, signed_decimal}
 use Rattle.macro_file.specs.Meaning.{Vertex, Element, Macro}

@@ -10,4 +10,5 @@ pub mod Meaning
 pub mod Places
 pub mod Text
 pub mod Written
+pub mod ReadBack
 pub mod Examples

@@ -1,5 +1,5 @@
 -- How large the numbers of a macro text may be.
-use Rattle.std.specs.Prelude.{ℕ, ℤ, pos, neg_ℤ, nat_abs, ◌≤◌, ◌≤ℤ◌, ◌^◌}
+use Rattle.std.specs.Prelude.{◌≡◌, ℕ, ℤ, pos, neg_ℤ, nat_abs, ◌≤◌, ◌≤ℤ◌, ◌^◌, Bool, false, List, [], ◌∷◌, All}
 use Rattle.macro_file.specs.declared.keyword.Keyword.{Keyword}
 use Rattle.macro_file.specs.declared.keyword.Keyword.TheVariants.{Dim, DimOfWorld, VertexCount, ElementCount, Coordinates, Triples, Labels, Neighbours, VertexValues, ElementValues}
 
@@ -23,3 +23,7 @@ InRange Labels z = Between (neg_ℤ (pos 128)) (pos 127) z
 InRange Neighbours z = Between (neg_ℤ (pos 1)) (pos 65535) z
 InRange VertexValues z = AtMost (2 ^ 31) z
 InRange ElementValues z = AtMost (2 ^ 55) z
+
+-- a list of three a row that was not given holds 0
+abbrev pub ZeroUnless : {A : Type 0} → Bool → List A → (A → List ℤ) → Type 0
+ZeroUnless given items row = given ≡ false → All (λ x. row x ≡ pos 0 ∷ pos 0 ∷ pos 0 ∷ []) items

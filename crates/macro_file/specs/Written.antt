@@ -3,7 +3,7 @@ use Rattle.std.specs.Prelude.{ℕ, ℤ, pos, List, [], ◌∷◌, ◌++◌, map,
 use Rattle.std.specs.List.{flat_map, join_with_byte}
 use Rattle.std.specs.Fmt.{decimal, signed_decimal}
 use Rattle.mesh_io.specs.Decimals.{written_units}
-use Rattle.macro_file.specs.Meaning.{Vertex, Element, Macro}
+use Rattle.macro_file.specs.Meaning.{Vertex, Macro}
 
 -- these lines, each with its newline
 abbrev pub lines_text : List (List ℕ) → List ℕ

@@ -43,7 +43,8 @@ fn corners_at(numbers: &[i64], e: usize) -> [u32; 3]
 
 fn label_at(numbers: &[i64], i: usize) -> i8
     requires { All (Between (neg_ℤ (pos 128)) (pos 127)) numbers.now }
-    ensures { result ≡ number_at_index numbers.now i }
+    ensures value { result ≡ number_at_index numbers.now i }
+    ensures range { Between (neg_ℤ (pos 128)) (pos 127) result }
 {
     number_at(numbers, i) as i8
 }
@@ -59,7 +60,8 @@ fn neighbour_at(numbers: &[i64], i: usize) -> i32
 fn labels_at(numbers: &[i64], e: usize) -> [i8; 3]
     requires numbers { All (Between (neg_ℤ (pos 128)) (pos 127)) numbers.now }
     requires index { e < 2 ^ 32 }
-    ensures { result ≡ three numbers.now e }
+    ensures value { result ≡ three numbers.now e }
+    ensures range { All (Between (neg_ℤ (pos 128)) (pos 127)) result }
 {
     [
         label_at(numbers, 3 * e),

@@ -1,5 +1,5 @@
-ghost use Rattle.std.specs.Prelude.{◌≤◌, ◌^◌, All, pos, neg_ℤ, vec_len};
-ghost use Rattle.macro_file.specs.Limits.{AtMost, Between};
+ghost use Rattle.std.specs.Prelude.{◌≡◌, ◌≤◌, ◌^◌, All, length, pos, neg_ℤ, vec_len};
+ghost use Rattle.macro_file.specs.Limits.{AtMost, Between, ZeroUnless};
 
 /// A vertex of a macro text: its coordinates in fine units, of which 40,960,000,000,000 are 1, and its
 /// value.
@@ -19,7 +19,9 @@ pub struct MacroElem {
     pub labels: [i8; 3],
     pub neighbours: [i32; 3],
     pub value: i64,
+    ghost three: { (length corners ≡ 3) × (length labels ≡ 3) × (length neighbours ≡ 3) },
     ghost corners_in_range: { All (λ c. c ≤ 65535) corners },
+    ghost labels_in_range: { All (Between (neg_ℤ (pos 128)) (pos 127)) labels },
     ghost neighbours_in_range: { All (Between (neg_ℤ (pos 1)) (pos 65535)) neighbours },
     ghost value_in_range: { AtMost (2 ^ 55) value },
 }
@@ -34,4 +36,6 @@ pub struct MacroText {
     pub neighbours_given: bool,
     ghost some_vertices: { (1 ≤ vec_len vertices) × (vec_len vertices ≤ 65535) },
     ghost some_elements: { (1 ≤ vec_len elements) × (vec_len elements ≤ 65535) },
+    ghost labels_zero: { ZeroUnless labels_given elements.items (λ e. e.labels) },
+    ghost neighbours_zero: { ZeroUnless neighbours_given elements.items (λ e. e.neighbours) },
 }

@@ -1,6 +1,7 @@
-ghost use Rattle.std.specs.Prelude.{◌≡◌, ◌++◌, ◌∷◌, [], ◌≤◌, ◌<◌, ◌^◌, length, map, pos, codes, OnOk, IfOk, IfErr};
+ghost use Rattle.std.specs.Prelude.{◌≡◌, ◌++◌, ◌∷◌, [], ◌≤◌, ◌<◌, ◌^◌, length, map, pos, codes, OnOk, IfOk, IfErr, Ok};
 ghost use Rattle.std.specs.Fmt.{signed_decimal};
 ghost use Rattle.mesh_io.specs.Decimals.{written_units};
+ghost use Rattle.macro_file.specs.Meaning.{meaning};
 ghost use Rattle.macro_file.specs.Text.{vertex_of, element_of, macro_of};
 ghost use Rattle.macro_file.specs.Written.{lines_text, numbers_line, point_line, list_lines, head_lines, label_lines, neighbour_lines, macro_bytes};
 
@@ -206,6 +207,7 @@ fn put_given_neighbours(to: &mut Vec<u8>, text: &MacroText) -> Result<(), MacroR
 /// The bytes of a macro text: read again, they are the same text.
 pub fn put_macro(alloc: Global, text: &MacroText) -> Result<Vec<u8>, MacroRefusal>
     ensures ok { IfOk result (λ v. v.items ≡ macro_bytes (macro_of text.now)) }
+    ensures again { IfOk result (λ v. meaning v.items ≡ Ok (macro_of text.now)) }
     ensures err { IfErr result (λ r. r ≡ MacroRefusal.Memory) }
 {
     let vertices = text.vertices.as_slice();

@@ -1,4 +1,4 @@
-use Rattle.std.proofs.Common.{◌≡◌, ◌+◌, ◌-◌, ◌∙◌, sym, ap, take, drop, false, arith}
+use Rattle.std.proofs.Common.{◌≡◌, ◌+◌, ◌-◌, ◌∙◌, sym, ap, take, drop, arith}
 use Rattle.std.specs.List.{list_any}
 use Rattle.macro_file.specs.Walks.{ends_key}
 use Rattle.macro_file.proofs.Cuts.{any_piece}

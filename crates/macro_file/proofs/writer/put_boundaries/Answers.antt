@@ -4,7 +4,7 @@ use Rattle.std.proofs.lemmas.Result.{on_ok_weaker}
 use Rattle.macro_file.specs.Meaning.{Element}
 use Rattle.macro_file.specs.Text.{element_of}
 use Rattle.macro_file.specs.Written.{numbers_line}
-use Rattle.macro_file.proofs.WriterLemmas.{line_more, put_section, put_all}
+use Rattle.macro_file.proofs.WriterLemmas.{line_more, put_section}
 use Rattle.macro_file.proofs.writer.put_boundaries.Goals as goal
 
 pub loop-element-preserved : goal.loop-element-preserved

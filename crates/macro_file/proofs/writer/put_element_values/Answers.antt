@@ -1,14 +1,12 @@
 use Rattle.std.proofs.Common.{◌++◌, ◌∷◌, [], ◌∙◌, ap, arith, rules}
 use Rattle.std.specs.Prelude.{codes}
 use Rattle.std.specs.Fmt.{signed_decimal}
-use Rattle.std.proofs.lemmas.Result.{on_ok_weaker}
 use Rattle.std.proofs.lemmas.Int.{to_z-of_z}
 use mir.Val.{SFits}
 use mir.Syntax.{w64}
 use Rattle.macro_file.specs.Meaning.{Element}
 use Rattle.macro_file.specs.Text.{element_of}
-use Rattle.macro_file.specs.Written.{numbers_line}
-use Rattle.macro_file.proofs.WriterLemmas.{line_more, put_section, put_all}
+use Rattle.macro_file.proofs.WriterLemmas.{line_more, put_all}
 use Rattle.macro_file.proofs.writer.put_element_values.Goals as goal
 
 pub loop-element-preserved : goal.loop-element-preserved

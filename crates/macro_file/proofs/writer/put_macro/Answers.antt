@@ -2,9 +2,11 @@ use Rattle.std.proofs.Common.{◌≡◌, ◌∷◌, ◌++◌, ◌∙◌, sym, ap
 use Rattle.std.specs.Prelude.{pos, codes}
 use Rattle.std.specs.Fmt.{signed_decimal}
 use Rattle.std.proofs.lemmas.List.{length-map}
-use Rattle.macro_file.specs.Meaning.{Vertex, Element}
+use Rattle.macro_file.specs.Meaning.{Vertex, Element, meaning}
 use Rattle.macro_file.specs.Text.{vertex_of, element_of, macro_of}
 use Rattle.macro_file.specs.Written.{lines_text, numbers_line, point_line, list_lines, head_lines}
+use Rattle.macro_file.proofs.ReadingBack.{written_back}
+use Rattle.macro_file.proofs.Texts.{text_is_macro}
 use Rattle.macro_file.proofs.WriterLemmas.{all_text}
 use Rattle.macro_file.proofs.writer.put_macro.Goals as goal
 
@@ -23,3 +25,6 @@ returns-clause-ok c =
     c.in_ok-put_given_neighbours.ensures.ok
     (c.in_ok-put_vertex_values.ensures.ok ∙ ap (λ xs. c.put_given_neighbours.new.to.items ++ lines_text (list_lines (codes "vertex values:") (λ (v : Vertex). signed_decimal v.value) (map vertex_of xs))) v)
     (c.in_ok-put_element_values.ensures.ok ∙ ap (λ xs. c.put_vertex_values.new.to.items ++ lines_text (codes "element values:" ∷ map (λ (e : Element). signed_decimal e.value) (map element_of xs))) e)
+
+pub returns-clause-again : goal.returns-clause-again
+returns-clause-again c = let m = macro_of c.args.text.now in ap meaning (returns-clause-ok c) ∙ written_back m (text_is_macro c.args.text.now)

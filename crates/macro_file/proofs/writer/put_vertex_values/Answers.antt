@@ -7,8 +7,7 @@ use mir.Val.{SFits}
 use mir.Syntax.{w64}
 use Rattle.macro_file.specs.Meaning.{Vertex}
 use Rattle.macro_file.specs.Text.{vertex_of}
-use Rattle.macro_file.specs.Written.{numbers_line}
-use Rattle.macro_file.proofs.WriterLemmas.{line_more, put_section, put_all}
+use Rattle.macro_file.proofs.WriterLemmas.{line_more, put_section}
 use Rattle.macro_file.proofs.writer.put_vertex_values.Goals as goal
 
 pub loop-vertex-preserved : goal.loop-vertex-preserved
