@@ -23,6 +23,10 @@ pub record Setup : Type 0 where
   -- 1 where the name leads its patch
   pub leads : ℕ → ℕ
 
+-- how many places there are
+abbrev pub places : Setup → ℕ
+places s = s.elements + 4 * s.pool
+
 -- the laws of the names: different elements have different names, a patch has one first member, which is no second one, and 0 is no name that leads
 pub record NamesApart (s : Setup) : Type 0 where
   pub top_one : (i j : ℕ) → s.top i ≡ s.top j → i ≡ j
