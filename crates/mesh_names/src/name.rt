@@ -1,10 +1,10 @@
 //! Names of elements.
-ghost use Rattle.std.specs.Prelude.{◌≡◌, ◌<◌, ◌≤◌, [], ◌∷◌, MatchOption, option_map};
+ghost use Rattle.std.specs.Prelude.{◌≡◌, ◌<◌, ◌≤◌, ◌^◌, [], ◌∷◌, MatchOption, option_map};
 ghost use Rattle.std.proofs.Common.{rules};
 ghost use Rattle.std.specs.Cmp.{partial_order_from_own_ties};
 ghost use Rattle.std.specs.Cmp.Rules.{comparing};
 ghost use Rattle.std.specs.Ordering.{as_partial_cmp};
-ghost use Rattle.mesh_names.specs.Names.{child_name, depth, name_cmp, name_eq, parent_of};
+ghost use Rattle.mesh_names.specs.Names.{bits_of, child_name, depth, letters, name_cmp, name_eq, parent_of};
 
 use std::cmp::Ordering;
 use std::marker::Model;
@@ -63,6 +63,26 @@ impl ElemName {
         ensures small { result ≤ 24 }
     {
         self.level
+    }
+
+    /// The letters as bits, of which the lowest is the last letter.
+    pub fn bits(self) -> u32
+        ensures bits { result ≡ bits_of self.1 }
+        ensures small { result < 2 ^ depth self }
+    {
+        self.bits
+    }
+
+    /// The name of an element by its index, the number of its letters, and its letters as bits.
+    pub fn of_bits(root: u32, depth: u8, bits: u32) -> ElemName
+        requires { (root < 65535) × (depth ≤ 24) × (bits < 2 ^ depth) }
+        ensures { result ≡ (root, letters depth bits) }
+    {
+        ElemName {
+            root,
+            level: depth,
+            bits,
+        }
     }
 
     /// Child 0 or child 1.

@@ -1,0 +1,192 @@
+-- What is found before a step is found after it.
+use Rattle.std.proofs.Common.{◌≡◌, ℕ, ◌+◌, ◌<◌, ◌≤◌, Bool, true, false, List, [], ◌∷◌, ◌⊎◌, refl, sym, ap, ◌∙◌, subst, inl, inr, ⊎_elim, arith}
+use Rattle.mesh_words.specs.Setup.{Setup}
+use Rattle.mesh_words.specs.Words.{Node}
+use Rattle.mesh_words.specs.Places.{member_of, child_place}
+use Rattle.mesh_words.specs.Views.{Walk, Still, At, Past, Read}
+use Rattle.mesh_words.specs.Entries.{HasEntry}
+use Rattle.mesh_state.specs.Ghosts.{Life, Free, Loose, Placed, Undone, chained, stands}
+use Rattle.mesh_state.specs.Chains.{Covers, Finds, Reaches, IsPlace}
+use Rattle.mesh_state.specs.Bisections.{IsPlaceOf, Fits, IsSound, MayRead, IsPatch, NamesRule}
+use Rattle.mesh_state.specs.Readers.{Walks, ReaderRule}
+
+pub one_more : (a b : ℕ) → a + 1 ≡ b + 1 → a ≡ b
+one_more a b e = omega arith
+
+pub member_one : (b c : ℕ) (s t : Bool) → member_of b s ≡ member_of c t → (b ≡ c) × (s ≡ t)
+member_one b c true true e = (omega arith, refl)
+member_one b c true false e = absurd (omega arith)
+member_one b c false true e = absurd (omega arith)
+member_one b c false false e = (omega arith, refl)
+
+pub child_one : (e b c : ℕ) (s t u v : Bool) → child_place e b s t ≡ child_place e c u v → (b ≡ c) × (s ≡ u) × (t ≡ v)
+child_one e b c true true true true h = (omega arith, refl, refl)
+child_one e b c true true true false h = absurd (omega arith)
+child_one e b c true true false true h = absurd (omega arith)
+child_one e b c true true false false h = absurd (omega arith)
+child_one e b c true false true true h = absurd (omega arith)
+child_one e b c true false true false h = (omega arith, refl, refl)
+child_one e b c true false false true h = absurd (omega arith)
+child_one e b c true false false false h = absurd (omega arith)
+child_one e b c false true true true h = absurd (omega arith)
+child_one e b c false true true false h = absurd (omega arith)
+child_one e b c false true false true h = (omega arith, refl, refl)
+child_one e b c false true false false h = absurd (omega arith)
+child_one e b c false false true true h = absurd (omega arith)
+child_one e b c false false true false h = absurd (omega arith)
+child_one e b c false false false true h = absurd (omega arith)
+child_one e b c false false false false h = (omega arith, refl, refl)
+
+pub child_outside : (e b : ℕ) (s c : Bool) → child_place e b s c < e → ⊥
+child_outside e b s c l = omega arith
+
+-- a half in a chain stands there, and its block is placed
+pub placed : (l : Life) (t : Bool) (x : ℕ) → chained l t ≡ x + 1 → (y : ℕ) × (m : ℕ) × (l ≡ Placed y m)
+placed Free t x e = absurd (omega arith)
+placed (Loose u) t x e = absurd (omega arith)
+placed (Placed y m) t x e = (y, m, refl)
+placed (Undone y m) t x e = absurd (omega arith)
+
+pub chained_stands : (l : Life) (t : Bool) (x : ℕ) → chained l t ≡ x + 1 → stands l t ≡ x + 1
+chained_stands Free t x e = e
+chained_stands (Loose u) t x e = e
+chained_stands (Placed y m) t x e = e
+chained_stands (Undone y m) t x e = absurd (omega arith)
+
+pub stood : (l : Life) (t : Bool) (x : ℕ) → chained l t ≡ x + 1 → (y : ℕ) × (stands l false ≡ y + 1)
+stood l t x e = let p = placed l t x e in (p.0, ap (λ (k : Life). stands k false) p.2)
+
+pub placed_chained : (l : Life) (t : Bool) (x y m : ℕ) → l ≡ Placed y m → stands l t ≡ x + 1 → chained l t ≡ x + 1
+placed_chained l t x y m p u = ap (λ (k : Life). chained k t) p ∙ sym (ap (λ (k : Life). stands k t) p) ∙ u
+
+-- a half that stands somewhere is of a placed block or of one that was taken back
+pub standing : (l : Life) (t : Bool) (x : ℕ) → stands l t ≡ x + 1 → ((y : ℕ) × (m : ℕ) × (l ≡ Placed y m)) ⊎ ((y : ℕ) × (m : ℕ) × (l ≡ Undone y m))
+standing Free t x e = absurd (omega arith)
+standing (Loose u) t x e = absurd (omega arith)
+standing (Placed y m) t x e = inl (y, m, refl)
+standing (Undone y m) t x e = inr (y, m, refl)
+
+module _ (hist hist' : ℕ → Node) (born died born' died' : ℕ → ℕ) (life life' : ℕ → Life) (q x : ℕ) where
+  pub finds_on : (P : ℕ → Bool → Type 0)
+      → ((b : ℕ) (t : Bool) → P b t → stands (life b) t ≡ x + 1 → (stands (life' b) t ≡ x + 1) × (hist' (member_of b t) ≡ hist (member_of b t)))
+      → ((b : ℕ) (t : Bool) (c : ℕ) (u : Bool) → P b t → stands (life b) t ≡ x + 1 → (hist (member_of b t)).block ≡ c + 1 → stands (life c) u ≡ x + 1 → P c u)
+      → (c : ℕ) → ((t : Bool) → stands (life c) t ≡ x + 1 → Covers born died q c → Covers born' died' q c)
+      → (ts : List (ℕ × Bool)) (l : Node) → ((b : ℕ) (t : Bool) → l.block ≡ b + 1 → stands (life b) t ≡ x + 1 → P b t) → Finds hist born died life q x c l ts → Finds hist' born' died' life' q x c l ts
+  finds_on P on step c end [] l first h = absurd h
+  finds_on P on step c end (t ∷ ts) l first h = let p = first t.0 t.1 h.0 h.1 in let o = on t.0 t.1 p h.1 in (
+    h.0,
+    o.0,
+    ⊎_elim (λ k. inl (k.0, end t.1 (subst (λ (y : ℕ). stands (life y) t.1 ≡ x + 1) k.0 h.1) k.1))
+        (λ r. inr (subst (λ (m : Node). Finds hist' born' died' life' q x c m ts) (sym o.1) (finds_on P on step c end ts (hist (member_of t.0 t.1)) (λ b u e s. step t.0 t.1 b u p h.1 e s) r)))
+        h.2,
+  )
+
+  -- where every half that stands at the place keeps its history word
+  pub reach_on : ((b : ℕ) (t : Bool) → stands (life b) t ≡ x + 1 → (stands (life' b) t ≡ x + 1) × (hist' (member_of b t) ≡ hist (member_of b t)))
+      → (c : ℕ) → ((t : Bool) → stands (life c) t ≡ x + 1 → Covers born died q c → Covers born' died' q c) → (l : Node) → Reaches hist born died life q x c l → Reaches hist' born' died' life' q x c l
+  reach_on on c end l h = (h.0, finds_on (λ b t. stands (life b) t ≡ x + 1) (λ b t p s. on b t s) (λ b t c u p s e v. v) c end h.0 l (λ b t e s. s) h.1)
+
+-- the block that is found bisects
+pub found_covers : (hist : ℕ → Node) (born died : ℕ → ℕ) (life : ℕ → Life) (q x c : ℕ) (ts : List (ℕ × Bool)) (l : Node) → Finds hist born died life q x c l ts → Covers born died q c
+found_covers hist born died life q x c [] l h = absurd h
+found_covers hist born died life q x c (t ∷ ts) l h = ⊎_elim (λ k. k.1) (λ r. found_covers hist born died life q x c ts (hist (member_of t.0 t.1)) r) h.2
+
+-- from a word that names no block nothing is found
+pub none_found : (hist : ℕ → Node) (born died : ℕ → ℕ) (life : ℕ → Life) (q x c : ℕ) (l : Node) → l.block ≡ 0 → Reaches hist born died life q x c l → ⊥
+none_found hist born died life q x c l z h = empty h.0 h.1
+  where
+    empty : (ts : List (ℕ × Bool)) → Finds hist born died life q x c l ts → ⊥
+    empty [] f = f
+    empty (t ∷ ts) f = let e : 0 ≡ t.0 + 1 = sym z ∙ f.0 in absurd (omega arith)
+
+-- a word that names a block leads to it, or on along its history word
+pub first_block : (hist : ℕ → Node) (born died : ℕ → ℕ) (life : ℕ → Life) (q x c b : ℕ) (l : Node) → l.block ≡ b + 1 → Reaches hist born died life q x c l
+    → (t : Bool) × (stands (life b) t ≡ x + 1) × (((b ≡ c) × Covers born died q c) ⊎ Reaches hist born died life q x c (hist (member_of b t)))
+first_block hist born died life q x c b l n h = go h.0 h.1
+  where
+    go : (ts : List (ℕ × Bool)) → Finds hist born died life q x c l ts → (t : Bool) × (stands (life b) t ≡ x + 1) × (((b ≡ c) × Covers born died q c) ⊎ Reaches hist born died life q x c (hist (member_of b t)))
+    go [] f = absurd f
+    go (t ∷ ts) f = let same : t.0 ≡ b = one_more t.0 b (sym f.0 ∙ n) in (
+      t.1,
+      subst (λ (y : ℕ). stands (life y) t.1 ≡ x + 1) same f.1,
+      ⊎_elim (λ k. inl (sym same ∙ k.0, k.1)) (λ r. inr (ts, subst (λ (y : ℕ). Finds hist born died life q x c (hist (member_of y t.1)) ts) same r)) f.2,
+    )
+
+-- What a step on the chains keeps of the rounds K, and of the blocks A to which a reader of the round has gone
+pub record Moves (K : ℕ → Type 0) (A : ℕ → ℕ → Type 0) (e round : ℕ) (head hist head' hist' : ℕ → Node) (born died born' died' : ℕ → ℕ) (life life' : ℕ → Life) : Type 0 where
+  pub heads : (q x c : ℕ) → K q → IsPlace e life x → Reaches hist born died life q x c (head x) → Reaches hist' born' died' life' q x c (head' x)
+  pub hists : (q b : ℕ) (t : Bool) (x c : ℕ) → K q → A q b → stands (life b) t ≡ x + 1 → Reaches hist born died life q x c (hist (member_of b t)) → Reaches hist' born' died' life' q x c (hist' (member_of b t))
+  pub on : (q b : ℕ) (t : Bool) (x : ℕ) → K q → stands (life b) t ≡ x + 1 → Covers born died q b → Covers born' died' q b
+  pub back : (q b : ℕ) (t : Bool) (x : ℕ) → K q → chained (life b) t ≡ x + 1 → Covers born' died' q b → Covers born died q b
+  pub stays : (q b : ℕ) (t : Bool) (x : ℕ) → K q → Covers born died q b → chained (life b) t ≡ x + 1 → chained (life' b) t ≡ x + 1
+  pub fresh : (q b : ℕ) (t : Bool) (x : ℕ) → K q → Covers born' died' q b → chained (life' b) t ≡ x + 1 → chained (life b) t ≡ x + 1
+  pub stand : (q b : ℕ) (t : Bool) (x : ℕ) → K q → A q b → stands (life b) t ≡ x + 1 → stands (life' b) t ≡ x + 1
+  pub alive : (q b : ℕ) (t : Bool) (x : ℕ) → q ≤ round → stands (life b) t ≡ x + 1 → (died b ≡ 0) ⊎ (q < died b) → (died' b ≡ 0) ⊎ (q < died' b)
+
+-- the names of placed blocks stay
+abbrev pub SameNames : (ℕ → Life) → (ℕ → ℕ) → (ℕ → ℕ) → Type 0
+SameNames life name name' = (b : ℕ) (t u : Bool) (x : ℕ) → chained (life b) u ≡ x + 1 → name' (member_of b t) ≡ name (member_of b t)
+
+module _ (s : Setup) (name name' : ℕ → ℕ) (head hist head' hist' : ℕ → Node) (born died born' died' : ℕ → ℕ) (life life' : ℕ → Life) (same : SameNames life name name') where
+  pub seen_on : (who : ℕ → ℕ) (q x n : ℕ) → Fits s name head hist born died life who q → IsPlaceOf s name who x n → IsPlaceOf s name' who x n
+  seen_on who q x n f (inl a) = inl a
+  seen_on who q x n f (inr k) = let b = k.0 in let t = k.1 in let h = f.found (name (member_of b t)) b k.4 in let e : name' (member_of b t) ≡ name (member_of b t) = same b t h.0 h.1 h.3 in
+      inr (b, t, k.2, k.3, ap who e ∙ k.4, k.5 ∙ ap (λ (y : ℕ). s.child y k.2) (sym e))
+
+  pub seen_live : (who : ℕ → ℕ) (q x n : ℕ) → Fits s name head hist born died life who q → IsPlaceOf s name who x n → IsPlace s.elements life x
+  seen_live who q x n f (inl a) = inl a.0
+  seen_live who q x n f (inr k) = let h = f.found (name (member_of k.0 k.1)) k.0 k.4 in let t = stood (life k.0) h.0 h.1 h.3 in inr (k.0, k.1, k.2, t.0, k.3, t.1)
+
+  module _ (round phase : ℕ) (who : ℕ → ℕ → ℕ) (read : ℕ → Read) (K : ℕ → Type 0) (A : ℕ → ℕ → Type 0) (m : Moves K A s.elements round head hist head' hist' born died born' died' life life') where
+    pub fits_on : (q : ℕ) → K q → Fits s name head hist born died life (who q) q → Fits s name' head' hist' born' died' life' (who q) q
+    fits_on q k f = record {
+      found = λ n b w. let h = f.found n b w in let c = found_covers hist born died life q h.1 b h.5.0 (head h.1) h.5.1 in
+          (h.0, h.1, same b h.0 h.0 h.1 h.3 ∙ h.2, m.stays q b h.0 h.1 k c h.3, seen_on (who q) q h.1 n f h.4, m.heads q h.1 b k (seen_live (who q) q h.1 n f h.4) h.5);
+      both = λ b y t u w e. both_on b y t u w e;
+    }
+      where
+        both_on : (b y : ℕ) (t u : Bool) → who q (name' (member_of b t)) ≡ b + 1 → chained (life' b) u ≡ y + 1 → who q (name' (member_of b u)) ≡ b + 1
+        both_on b y t u w e = let h = f.found (name' (member_of b t)) b w in let c = found_covers hist born died life q h.1 b h.5.0 (head h.1) h.5.1 in
+            let e' : chained (life b) u ≡ y + 1 = m.fresh q b u y k (m.on q b h.0 h.1 k (chained_stands (life b) h.0 h.1 h.3) c) e in
+            ap (who q) (same b u u y e') ∙ f.both b y t u (ap (who q) (sym (same b t u y e')) ∙ w) e'
+
+    pub sound_on : (q : ℕ) → K q → Fits s name head hist born died life (who q) q → IsSound s name born died life (who q) q → IsSound s name' born' died' life' (who q) q
+    sound_on q k f h b t x e c = let e' = m.fresh q b t x k c e in let u = h b t x e' (m.back q b t x k e' c) in let n : name' (member_of b t) ≡ name (member_of b t) = same b t t x e' in
+        (ap (who q) n ∙ u.0, subst (λ (y : ℕ). IsPlaceOf s name' (who q) x y) (sym n) (seen_on (who q) q x _ f u.1))
+
+    -- where no round's bisection changes
+    pub names_on : ((q : ℕ) → MayRead round phase read q → K q) → ((b x m : ℕ) → life' b ≡ Placed x m → IsPatch s name' b m)
+        → ((b x m : ℕ) → (phase ≡ 2 → ⊥) × (phase ≡ 3 → ⊥) → life' b ≡ Placed x m → died' b ≤ round) → NamesRule s round phase name head hist born died life who read → NamesRule s round phase name' head' hist' born' died' life' who read
+    names_on all patch calm n = record {
+      fits = λ q r. fits_on q (all q r) (n.fits q r);
+      sound = λ q r. sound_on q (all q r) (n.fits q r) (n.sound q r);
+      patch = patch;
+      calm = calm;
+      grows = n.grows;
+      fresh = n.fresh;
+    }
+
+    pub goes_on : ((j q : ℕ) → (read j).pin ≡ q + 1 → K q × (q ≤ round)) → ((j q b : ℕ) → (read j).pin ≡ q + 1 → HasEntry (read j).went b → (died b ≡ 0) ⊎ (q < died b) → A q b) → ((q : ℕ) → K q → Fits s name head hist born died life (who q) q) → (j : ℕ) → ReaderRule s round name hist born died life who (read j) → ReaderRule s round name' hist' born' died' life' who (read j)
+    goes_on pinned gone fits j g = record {
+      went = λ q b p h. let t = g.went q b p h in let k = pinned j q p in ((t.0.0, t.0.1, m.stand q b t.0.0 t.0.1 k.0 (gone j q b p h t.1) t.0.2), m.alive q b t.0.0 t.0.1 k.1 t.0.2 t.1);
+      walk = λ q p. walk_on q p (read j).walk (g.walk q p);
+      yes_notes = g.yes_notes;
+      no_notes = g.no_notes;
+    }
+      where
+        walk_on : (q : ℕ) → (read j).pin ≡ q + 1 → (v : Walk) → Walks s name hist born died life (who q) q (read j).went v → Walks s name' hist' born' died' life' (who q) q (read j).went v
+        walk_on q p Still h = tt
+        walk_on q p (At x n b t) h = let k = pinned j q p in let a = g.went q b p h.0 in
+            (h.0, m.stand q b t x k.0 (gone j q b p h.0 a.1) h.1, seen_on (who q) q x n (fits q k.0) h.2, λ c w. ⊎_elim (λ z. inl (z.0, subst (Covers born' died' q) z.0 (m.on q b t x k.0 h.1 (subst (Covers born died q) (sym z.0) z.1)))) (λ z. inr (m.hists q b t x c k.0 (gone j q b p h.0 a.1) h.1 z)) (h.3 c w))
+        walk_on q p (Past x n b t) h = let k = pinned j q p in let a = g.went q b p h.0 in
+            (h.0, m.stand q b t x k.0 (gone j q b p h.0 a.1) h.1, seen_on (who q) q x n (fits q k.0) h.2, λ c w. m.hists q b t x c k.0 (gone j q b p h.0 a.1) h.1 (h.3 c w))
+
+-- readers see the finished rounds only
+pub goes_who : (s : Setup) (round : ℕ) (name : ℕ → ℕ) (hist : ℕ → Node) (born died : ℕ → ℕ) (life : ℕ → Life) (who who' : ℕ → ℕ → ℕ) → ((q : ℕ) → q ≤ round → who' q ≡ who q) → (v : Read) → ((q : ℕ) → v.pin ≡ q + 1 → q ≤ round)
+    → ReaderRule s round name hist born died life who v → ReaderRule s round name hist born died life who' v
+goes_who s round name hist born died life who who' same v low g = record {
+  went = g.went;
+  walk = λ q p. subst (λ (f : ℕ → ℕ). Walks s name hist born died life f q v.went v.walk) (sym (same q (low q p))) (g.walk q p);
+  yes_notes = λ n q h. let t = g.yes_notes n q h in (t.0, (t.1.0, ap (λ (f : ℕ → ℕ). f n) (same q t.0) ∙ t.1.1));
+  no_notes = λ n q h. let t = g.no_notes n q h in (t.0, ap (λ (f : ℕ → ℕ). f n) (same q t.0) ∙ t.1);
+}

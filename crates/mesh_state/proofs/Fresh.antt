@@ -1,0 +1,83 @@
+-- The fresh table meets the rule, and names that are apart exist.
+use Rattle.std.proofs.Common.{◌≡◌, ℕ, zero, suc, ◌+◌, ◌≤◌, cond, Bool, ◌<◌, lt-ltb, refl, sym, ap, ◌∙◌, inl, inr, arith, ne_eqb}
+use Rattle.mesh_words.specs.Entries.{Noted}
+use Rattle.mesh_words.specs.Setup.{Setup, NamesApart, setup_of}
+use Rattle.mesh_words.proofs.CodedNames.{codes_apart}
+use Rattle.mesh_state.specs.Sure.{SureRule}
+use Rattle.mesh_state.specs.Fresh.{noted_below, fresh_words, fresh_kind, fresh_sure, fresh_views, fresh_ghost, FreshIsLawful}
+use Rattle.mesh_words.specs.Sums.{sum_below, one_where}
+use Rattle.mesh_words.specs.Words.{node}
+use Rattle.mesh_state.specs.Ghosts.{Open, Free, Placed}
+use Rattle.mesh_state.specs.Rule.{Rule}
+use Rattle.mesh_state.proofs.HeldClaims.{not_open}
+
+noted_is : (n : ℕ) (f : ℕ → ℕ) (i a : ℕ) → Noted (noted_below n f) i a → (i < n) × (f i ≡ a)
+noted_is zero f i a h = absurd h
+noted_is (suc n) f i a (inl t) = let e = t.0 in (omega arith, ap f (sym t.0) ∙ t.1)
+noted_is (suc n) f i a (inr t) = let r = noted_is n f i a t.1 in let l = r.0 in (omega arith, r.1)
+
+row_is : (pool i : ℕ) → i < pool → (fresh_words pool).row i ≡ i
+row_is pool i l = ap (λ (t : Bool). cond t i 0) (lt-ltb i pool l)
+
+none_in : (n : ℕ) → ◌≡◌ {A = ℕ} (sum_below n (λ _. 0)) 0
+none_in zero = refl
+none_in (suc n) = let a = none_in n in omega arith
+
+not_two : (j : ℕ) → fresh_kind j ≡ 2 → ⊥
+not_two zero e = omega arith
+not_two (suc j) e = omega arith
+
+pub starts : (s : Setup) → NamesApart s → Rule s (fresh_words s.pool) 1 (fresh_views s.pool) fresh_ghost
+starts s a = record {
+  names_apart = a;
+  claims = record {
+    held = λ j x m p h. absurd h;
+    holds = λ j x m p h. absurd (not_open j m p (sym h));
+    bits = λ x. refl;
+    inside = λ x l. refl;
+    mates = λ x j y p h. absurd (not_open j (y + 1) p (sym h));
+    shape = λ x j m p h. absurd (not_open j m p (sym h));
+    kept = λ b x m u e o. absurd (free_not x m u);
+    half = λ b x m u e. absurd (free_not x m u);
+    rows = λ i l m. (refl, refl);
+    apart = λ i k a l b m e. sym (row_is s.pool i l) ∙ e ∙ row_is s.pool k m;
+    drawn = λ e. absurd (omega arith);
+    living = λ x j m p h e. absurd (omega arith);
+    none = λ x e. refl;
+  };
+  labels = λ x j m p h e. absurd (omega arith);
+  chains = record { heads = λ x l. inl refl; hists = λ b t x h. absurd (omega arith); borns = λ b. omega arith; dieds = λ b x m u l. absurd (omega arith); undone = λ b x m u. refl; sides = λ b t u x h. absurd (omega arith) };
+  names = record {
+    fits = λ q k. record { found = λ i b e. absurd (omega arith); both = λ b y t u e. absurd (omega arith) };
+    sound = λ q k b t x e. absurd (omega arith);
+    patch = λ b x m u. absurd (free_not x m u);
+    calm = λ b x m l u. omega arith;
+    grows = λ i b l e. absurd (omega arith);
+    fresh = λ i e. refl;
+  };
+  pins = record { now = refl; later = λ q l. (refl, refl); count = λ q. let z : one_where 0 (q + 1) ≡ 0 = ap (λ (t : Bool). cond {A = ℕ} t 1 0) (ne_eqb 0 (q + 1) (λ (e : 0 ≡ q + 1). omega arith)) in omega arith; past = λ j q e. absurd (omega arith); few = λ j l. few j l; readers = λ j o. (refl, refl); bit = λ j. omega arith; bound = omega arith };
+  works = λ j. record { only = λ _ _. (refl, refl, refl, refl); found = λ x k h. absurd h; known = λ k h. absurd h; open_ = λ k h. absurd h; given = λ b k h. absurd h };
+  sure = sure_is;
+  goes = λ j. record { went = λ q b p h. absurd h; walk = λ q p. tt; yes_notes = λ k q h. absurd h; no_notes = λ k q h. absurd h };
+  rules = record { owner = (refl, omega arith); one = λ j e. only j e; workers = refl; readers = refl; few_readers = omega arith; halves = λ _ _. refl; clear = λ q h. absurd h };
+  holders = λ x j m p h. absurd (not_open j m p (sym h));
+  hand = λ b h. ((λ e. omega arith), refl);
+}
+  where
+    sure_is : (j : ℕ) → SureRule s.elements 0 (λ _. node 0 0) (λ _. node 0 0) (λ _. 0) (λ _. 0) (λ _. 0) (fresh_words s.pool).row (λ _. Open) j (fresh_sure s.pool j)
+    sure_is zero = record { head_is = λ z l f h. absurd f; hist_is = λ b t l f h. absurd f; died_is = λ b k f h. absurd f; name_is = λ b t k f h. absurd f; born_is = λ b k f h i. (noted_is s.pool (λ _. 0) b k f).1; row_is = λ b k f h i. let t = noted_is s.pool (λ i. i) b k f in row_is s.pool b t.0 ∙ t.1 }
+    sure_is (suc j) = record { head_is = λ z l f h. absurd f; hist_is = λ b t l f h. absurd f; died_is = λ b k f h. absurd f; name_is = λ b t k f h. absurd f; born_is = λ b k f h i. absurd f; row_is = λ b k f h i. absurd f }
+
+    free_not : (x m : ℕ) → Free ≡ Placed x m → ⊥
+    free_not x m e = cc
+
+    few : (j : ℕ) → 1 ≤ j → fresh_kind j ≡ 0
+    few zero l = absurd (omega arith)
+    few (suc j) l = refl
+
+    only : (j : ℕ) → fresh_kind j ≡ 3 → j ≡ 0
+    only zero e = refl
+    only (suc j) e = absurd (omega arith)
+
+pub fresh_is_lawful : FreshIsLawful
+fresh_is_lawful mesh across tells l passes = starts (setup_of mesh across l passes) (codes_apart mesh across l passes tells)

@@ -1,0 +1,84 @@
+-- A reader's pass ends, and the owner has its notes.
+use Rattle.std.proofs.Common.{◌≡◌, ◌≢◌, ℕ, ◌+◌, ◌<◌, ◌≤◌, cond, Bool, [], ◌++◌, refl, sym, ap, ◌∙◌, inl, inr, ⊎_elim, arith, eq-eqb, ne_eqb}
+use mathlib.Core.Logic.{dite}
+use native.Mathlib.Decide.{ℕ_discrete, dec_lt}
+use Rattle.mesh_words.specs.Setup.{Setup}
+use Rattle.mesh_words.specs.Functions.{update}
+use Rattle.mesh_words.specs.Sums.{sum_below, one_where}
+use Rattle.mesh_words.specs.Words.{Words}
+use Rattle.mesh_words.specs.Views.{Views, Read}
+use Rattle.mesh_words.proofs.Functions.{update_same, update_at, update_other, update_cases}
+use Rattle.mesh_words.proofs.Sums.{sum_update, sum_same, sum_le}
+use Rattle.mesh_words.proofs.Entries.{entry_of_both}
+use Rattle.mesh_state.specs.Bisections.{MayRead}
+use Rattle.mesh_state.specs.Readers.{ReaderRule}
+use Rattle.mesh_state.specs.Ghosts.{Ghost}
+use Rattle.mesh_state.specs.Rule.{Rule}
+use Rattle.mesh_state.specs.Fresh.{blank}
+
+module _ (s : Setup) (w : Words) (n : ℕ) (v : Views) (g : Ghost) (r : Rule s w n v g) (j : ℕ) (far : j ≢ 0) (kind : v.kind j ≡ 2) (none : (v.read j).pin ≡ 0) where
+  abbrev own : Read
+  own = record (v.read 0) { notes = (v.read 0).notes ++ (v.read j).notes }
+
+  abbrev read' : ℕ → Read
+  read' = update (update v.read 0 (record (v.read 0) { notes = (v.read 0).notes ++ (v.read j).notes })) j (blank [])
+
+  -- each view has its pin, and none is ready that was not
+  pin_is : (i : ℕ) → (read' i).pin ≡ (v.read i).pin
+  pin_is = update_cases (λ i u. u.pin ≡ (v.read i).pin) (update v.read 0 own) j (blank []) (sym none) (λ i _. update_cases (λ i u. u.pin ≡ (v.read i).pin) v.read 0 own refl (λ _ _. refl) i)
+
+  ready_le : (i : ℕ) → (read' i).ready ≤ (v.read i).ready
+  ready_le = update_cases (λ i u. u.ready ≤ (v.read i).ready) (update v.read 0 own) j (blank []) (omega arith) (λ i _. update_cases (λ i u. u.ready ≤ (v.read i).ready) v.read 0 own (omega arith) (λ _ _. omega arith) i)
+
+  inside : j < n
+  inside = elim (dec_lt j n) [ yes l ↦ l | no o ↦ let z = r.pins.few j (omega arith) in absurd (omega arith) ]
+
+  kind_sum : (k : ℕ) → sum_below n (λ i. one_where (update v.kind j 0 i) k) + one_where (v.kind j) k ≡ sum_below n (λ i. one_where (v.kind i) k) + one_where 0 k
+  kind_sum k = sum_update n (λ i. one_where (v.kind i) k) (λ i. one_where (update v.kind j 0 i) k) j inside (λ i o. ap (λ (x : ℕ). one_where x k) (update_other v.kind j i 0 o)) ∙ ap (λ (x : ℕ). sum_below n (λ i. one_where (v.kind i) k) + one_where x k) (update_same v.kind j 0)
+
+  back : (q : ℕ) → MayRead w.round v.ruling.phase read' q → MayRead w.round v.ruling.phase v.read q
+  back q (inr k) = inr k
+  back q (inl (inl e)) = inl (inl e)
+  back q (inl (inr t)) = inl (inr (t.0, sym (pin_is t.0) ∙ t.1))
+
+  was : (i k : ℕ) → k ≢ 0 → update v.kind j 0 i ≡ k → v.kind i ≡ k
+  was i k z e = dite (ℕ_discrete i j) (λ f. absurd (z (sym e ∙ update_at v.kind j i 0 f))) (λ f. sym (update_other v.kind j i 0 f) ∙ e)
+
+  pub leaves : (readers : ℕ) → v.ruling.readers ≡ readers + 1
+      → Rule s w n (record v { kind = update v.kind j 0; read = update (update v.read 0 (record (v.read 0) { notes = (v.read 0).notes ++ (v.read j).notes })) j (blank []); ruling = record v.ruling { readers = readers } }) g
+  leaves readers one = record {
+    names_apart = r.names_apart;
+    claims = r.claims;
+    labels = r.labels;
+    chains = r.chains;
+    names = record { fits = λ q k. r.names.fits q (back q k); sound = λ q k. r.names.sound q (back q k); patch = r.names.patch; calm = r.names.calm; grows = r.names.grows; fresh = r.names.fresh };
+    pins = record {
+      now = r.pins.now;
+      later = r.pins.later;
+      count = λ q. r.pins.count q ∙ ap (λ (x : ℕ). w.released q + x) (sym (sum_same n (λ i. one_where (v.read i).pin (q + 1)) (λ i. one_where (read' i).pin (q + 1)) (λ i _. ap (λ (x : ℕ). one_where x (q + 1)) (pin_is i))));
+      past = λ i q e. r.pins.past i q (sym (pin_is i) ∙ e);
+      few = update_cases (λ i x. n ≤ i → x ≡ 0) v.kind j 0 (λ _. refl) (λ i _. r.pins.few i);
+      readers = λ i o. dite (ℕ_discrete i j) (λ e. let u = update_at (update v.read 0 own) j i (blank []) e in (ap (λ (x : Read). x.pin) u, ap (λ (x : Read). x.ready) u))
+          (λ f. let t = r.pins.readers i (λ k. o (update_other v.kind j i 0 f ∙ k)) in let l = ready_le i in let t1 = t.1 in (pin_is i ∙ t.0, omega arith));
+      bit = λ i. let a = ready_le i in let b = r.pins.bit i in omega arith;
+      bound = let a = sum_le n (λ i. (read' i).ready) (λ i. (v.read i).ready) ready_le in let b = r.pins.bound in omega arith;
+    };
+    works = λ i. let t = r.works i in record { only = λ o z. t.only (λ k. o (dite (ℕ_discrete i j) (λ e. let y : v.kind i ≡ v.kind j = ap v.kind e in absurd (omega arith)) (λ f. update_other v.kind j i 0 f ∙ k))) z; found = t.found; known = t.known; open_ = t.open_; given = t.given };
+    sure = r.sure;
+    goes = update_cases (λ _ u. ReaderRule s w.round w.name w.hist w.born w.died g.life g.who u) (update v.read 0 own) j (blank [])
+        record { went = λ q b p f. absurd f; walk = λ q p. tt; yes_notes = λ k q h. absurd h; no_notes = λ k q h. absurd h }
+        (λ i _. update_cases (λ _ u. ReaderRule s w.round w.name w.hist w.born w.died g.life g.who u) v.read 0 own
+        (let a = r.goes 0 in let b = r.goes j in record { went = a.went; walk = a.walk; yes_notes = λ k q h. ⊎_elim (λ t. a.yes_notes k q t) (λ t. b.yes_notes k q t) (entry_of_both (v.read 0).notes (v.read j).notes _ h); no_notes = λ k q h. ⊎_elim (λ t. a.no_notes k q t) (λ t. b.no_notes k q t) (entry_of_both (v.read 0).notes (v.read j).notes _ h) })
+        (λ i _. r.goes i) i);
+    rules = record {
+      owner = (update_other v.kind j 0 0 (λ e. far (sym e)) ∙ r.rules.owner.0, r.rules.owner.1);
+      one = λ i e. r.rules.one i (was i 3 (λ z. omega arith) e);
+      workers = let a = kind_sum 1 in let b = r.rules.workers in let c : one_where (v.kind j) 1 ≡ 0 = ap (λ (x : Bool). cond {A = ℕ} x 1 0) (ne_eqb (v.kind j) 1 (λ e. omega arith)) in omega arith;
+      readers = let a = kind_sum 2 in let b = r.rules.readers in let c : one_where (v.kind j) 2 ≡ 1 = ap (λ (x : Bool). cond {A = ℕ} x 1 0) (eq-eqb (v.kind j) 2 kind) in omega arith;
+      few_readers = let a = r.rules.few_readers in omega arith;
+      halves = r.rules.halves;
+      clear = r.rules.clear;
+    };
+    holders = λ x i m p h. ⊎_elim inl (λ k. inr (dite (ℕ_discrete i j) (λ e. let y : v.kind i ≡ v.kind j = ap v.kind e in absurd (omega arith)) (λ f. update_other v.kind j i 0 f ∙ k))) (r.holders x i m p h);
+    hand = r.hand;
+  }

@@ -1,0 +1,146 @@
+-- A worker's pass ends, and the owner has its claims and what it knows.
+use Rattle.std.proofs.Common.{◌≡◌, ◌≢◌, ℕ, ◌+◌, ◌<◌, ◌≤◌, ◌==◌, cond, Bool, [], ◌++◌, ◌⊎◌, refl, sym, ap, ◌∙◌, inl, inr, ⊎_elim, arith, eq-eqb, ne_eqb}
+use mathlib.Core.Logic.{dite}
+use native.Mathlib.Decide.{ℕ_discrete, dec_lt}
+use Rattle.mesh_words.specs.Setup.{Setup, places}
+use Rattle.mesh_words.specs.Functions.{update}
+use Rattle.mesh_words.specs.Sums.{sum_below, one_where}
+use Rattle.mesh_words.specs.Words.{Words}
+use Rattle.mesh_words.specs.Views.{Views, Work, unsure}
+use Rattle.mesh_words.specs.Claims.{Progress, Drawn, Half, Whole, Living, claim}
+use Rattle.mesh_words.specs.Entries.{HasEntry}
+use Rattle.mesh_words.proofs.Functions.{update_same, update_at, update_other, update_cases}
+use Rattle.mesh_words.proofs.Sums.{sum_update, sum_same}
+use Rattle.mesh_words.proofs.Entries.{entry_of_both, entry_left, entry_right}
+use Rattle.mesh_state.specs.Ghosts.{Stage, Open, Held, Ghost}
+use Rattle.mesh_state.specs.Claims.{draws_of, bit_of}
+use Rattle.mesh_state.specs.Work.{WorkRule}
+use Rattle.mesh_state.specs.Sure.{GuardsBlock, GuardsHead, SureRule}
+use Rattle.mesh_state.specs.Rule.{Rule}
+use Rattle.mesh_state.proofs.HeldClaims.{not_open, held_one}
+use Rattle.mesh_state.specs.Fresh.{idle}
+
+abbrev pub moved : ℕ → Stage → Stage
+moved j Open = Open
+moved j (Held i m p) = Held (cond (i == j) 0 i) m p
+
+moved_bit : (j : ℕ) (t : Stage) → bit_of (moved j t) ≡ bit_of t
+moved_bit j Open = refl
+moved_bit j (Held i m p) = refl
+
+moved_draws : (j : ℕ) (t : Stage) → draws_of (moved j t) ≡ draws_of t
+moved_draws j Open = refl
+moved_draws j (Held i m p) = refl
+
+moved_back : (j : ℕ) (t : Stage) (i m : ℕ) (p : Progress) → moved j t ≡ Held i m p → ((i ≢ j) × (t ≡ Held i m p)) ⊎ ((i ≡ 0) × (t ≡ Held j m p))
+moved_back j Open i m p e = absurd (not_open i m p (sym e))
+moved_back j (Held a b q) i m p e = dite (ℕ_discrete a j)
+    (λ f. let t = held_one 0 i b m q p ((λ k. Held (sym (ap (λ (x : Bool). cond {A = ℕ} x 0 a) (eq-eqb a j f)) k) b q) ∙ e) in inr (sym t.0, λ k. Held (f k) (t.1 k) (t.2 k)))
+    (λ o. let t = held_one a i b m q p ((λ k. Held (sym (ap (λ (x : Bool). cond {A = ℕ} x 0 a) (ne_eqb a j o)) k) b q) ∙ e) in inl ((λ (k : i ≡ j). o (t.0 ∙ k)), λ k. Held (t.0 k) (t.1 k) (t.2 k)))
+
+moved_open : (j : ℕ) (t : Stage) → t ≡ Open → moved j t ≡ Open
+moved_open j t e = ap (moved j) e
+
+moved_to : (j i m : ℕ) (p : Progress) (t : Stage) → t ≡ Held i m p → i ≡ j → moved j t ≡ Held 0 m p
+moved_to j i m p t e f = ap (moved j) e ∙ (λ k. Held (ap (λ (x : Bool). cond {A = ℕ} x 0 i) (eq-eqb i j f) k) m p)
+
+moved_not : (j i m : ℕ) (p : Progress) (t : Stage) → t ≡ Held i m p → i ≢ j → moved j t ≡ Held i m p
+moved_not j i m p t e o = ap (moved j) e ∙ (λ k. Held (ap (λ (x : Bool). cond {A = ℕ} x 0 i) (ne_eqb i j o) k) m p)
+
+module _ (s : Setup) (w : Words) (n : ℕ) (v : Views) (g : Ghost) (r : Rule s w n v g) (j : ℕ) (far : j ≢ 0) (kind : v.kind j ≡ 1) where
+  abbrev stage' : ℕ → Stage
+  stage' x = moved j (g.stage x)
+
+  -- a claim before, whosever it is now
+  was : (x i m : ℕ) (p : Progress) → stage' x ≡ Held i m p → (k : ℕ) × (g.stage x ≡ Held k m p)
+  was x i m p h = ⊎_elim (λ t. (i, t.1)) (λ t. (j, t.1)) (moved_back j (g.stage x) i m p h)
+
+  now : (x i m : ℕ) (p : Progress) → g.stage x ≡ Held i m p → (k : ℕ) × (stage' x ≡ Held k m p)
+  now x i m p h = dite (ℕ_discrete i j) (λ e. (0, moved_to j i m p (g.stage x) h e)) (λ o. (i, moved_not j i m p (g.stage x) h o))
+
+  two_at : {B : Type 0} (P : ℕ → B → Type 0) (f : ℕ → B) (a b : B) → P 0 a → P j b → ((i : ℕ) → i ≢ 0 → i ≢ j → P i (f i)) → (i : ℕ) → P i (update (update f 0 a) j b i)
+  two_at P f a b p0 pj others = update_cases P (update f 0 a) j b pj (λ i o. update_cases (λ i x. i ≢ j → P i x) f 0 a (λ _. p0) (λ i z o. others i z o) i o)
+
+  inside : j < n
+  inside = elim (dec_lt j n) [ yes l ↦ l | no o ↦ let z = r.pins.few j (omega arith) in absurd (omega arith) ]
+
+  kind_sum : (k : ℕ) → sum_below n (λ i. one_where (update v.kind j 0 i) k) + one_where (v.kind j) k ≡ sum_below n (λ i. one_where (v.kind i) k) + one_where 0 k
+  kind_sum k = sum_update n (λ i. one_where (v.kind i) k) (λ i. one_where (update v.kind j 0 i) k) j inside (λ i o. ap (λ (x : ℕ). one_where x k) (update_other v.kind j i 0 o)) ∙ ap (λ (x : ℕ). sum_below n (λ i. one_where (v.kind i) k) + one_where x k) (update_same v.kind j 0)
+
+  joined : Work
+  joined = record { found = (v.work 0).found ++ (v.work j).found; known = (v.work 0).known ++ (v.work j).known; open_ = (v.work 0).open_ ++ (v.work j).open_; given = (v.work 0).given ++ (v.work j).given }
+
+  -- the owner has the claims and the knowledge of both, and is sure of no word
+  pub joins : (workers : ℕ) → v.ruling.workers ≡ workers + 1
+      → Rule s w n (record v { kind = update v.kind j 0; claims = update (update v.claims 0 (v.claims 0 ++ v.claims j)) j []; work = update (update v.work 0 record { found = (v.work 0).found ++ (v.work j).found; known = (v.work 0).known ++ (v.work j).known; open_ = (v.work 0).open_ ++ (v.work j).open_; given = (v.work 0).given ++ (v.work j).given }) j idle; sure = update (update v.sure 0 unsure) j unsure; ruling = record v.ruling { workers = workers } }) (record g { stage = λ x. moved j (g.stage x) })
+  joins workers one = record {
+    names_apart = r.names_apart;
+    claims = record {
+      held = two_at (λ i cs. (x m : ℕ) (p : Progress) → HasEntry cs (claim x m p) → stage' x ≡ Held i m p) v.claims (v.claims 0 ++ v.claims j) []
+          (λ x m p h. ⊎_elim (λ t. moved_not j 0 m p (g.stage x) (r.claims.held 0 x m p t) (λ e. far (sym e))) (λ t. moved_to j j m p (g.stage x) (r.claims.held j x m p t) refl) (entry_of_both (v.claims 0) (v.claims j) (claim x m p) h))
+          (λ x m p h. absurd h) (λ i a b x m p h. moved_not j i m p (g.stage x) (r.claims.held i x m p h) b);
+      holds = two_at (λ i cs. (x m : ℕ) (p : Progress) → stage' x ≡ Held i m p → HasEntry cs (claim x m p)) v.claims (v.claims 0 ++ v.claims j) []
+          (λ x m p h. ⊎_elim (λ t. entry_left (v.claims 0) (v.claims j) (claim x m p) (r.claims.holds 0 x m p t.1)) (λ t. entry_right (v.claims 0) (v.claims j) (claim x m p) (r.claims.holds j x m p t.1)) (moved_back j (g.stage x) 0 m p h))
+          (λ x m p h. ⊎_elim (λ t. absurd (t.0 refl)) (λ t. absurd (far t.0)) (moved_back j (g.stage x) j m p h))
+          (λ i a b x m p h. ⊎_elim (λ t. r.claims.holds i x m p t.1) (λ t. absurd (a t.0)) (moved_back j (g.stage x) i m p h));
+      bits = λ x. r.claims.bits x ∙ sym (moved_bit j (g.stage x));
+      inside = λ x l. moved_open j (g.stage x) (r.claims.inside x l);
+      mates = λ x i y p h. let k = was x i (y + 1) p h in let t = r.claims.mates x k.0 y p k.1 in (moved_open j (g.stage y) t.0, λ z a q u. let b = was z a (y + 1) q u in t.1 z b.0 q b.1);
+      shape = λ x i m p h. let k = was x i m p h in r.claims.shape x k.0 m p k.1;
+      kept = λ b x m u e o. let t = r.claims.kept b x m u e o in now x t.0 m (Living b) t.1;
+      half = λ b x m u e. let t = r.claims.half b x m u e in ⊎_elim (λ h. let k = now x t.0 m (Half b) h in (k.0, inl k.1)) (λ h. let k = now x t.0 m (Whole b) h in (k.0, inr k.1)) t.1;
+      rows = r.claims.rows;
+      apart = r.claims.apart;
+      drawn = λ e. r.claims.drawn e ∙ sym (sum_same (places s) (λ x. draws_of (g.stage x)) (λ x. draws_of (stage' x)) (λ x _. moved_draws j (g.stage x)));
+      living = λ x i m p h. let k = was x i m p h in r.claims.living x k.0 m p k.1;
+      none = λ x e. moved_open j (g.stage x) (r.claims.none x e);
+    };
+    labels = λ x i m p h. let k = was x i m p h in r.labels x k.0 m p k.1;
+    chains = r.chains;
+    names = r.names;
+    pins = record { now = r.pins.now; later = r.pins.later; count = r.pins.count; past = r.pins.past; few = λ i l. update_cases (λ i x. n ≤ i → x ≡ 0) v.kind j 0 (λ _. refl) (λ i _. r.pins.few i) i l; readers = λ i o. r.pins.readers i (λ k. o (update_other v.kind j i 0 (λ (e : i ≡ j). let z : v.kind i ≡ v.kind j = ap v.kind e in omega arith) ∙ k)); bit = r.pins.bit; bound = r.pins.bound };
+    works = λ i. let K : ℕ → ℕ = update v.kind j 0 in two_at (λ i u. WorkRule s w.round v.ruling.phase w.name w.born w.died g.life (g.who (w.round + 1)) (K i) i u) v.work _ idle
+        (let a = r.works 0 in let b = r.works j in record {
+          only = λ _ z. absurd (z refl);
+          found = λ x k h. ⊎_elim (λ t. a.found x k t) (λ t. b.found x k t) (entry_of_both (v.work 0).found (v.work j).found (x, k) h);
+          known = λ k h. ⊎_elim (λ t. a.known k t) (λ t. b.known k t) (entry_of_both (v.work 0).known (v.work j).known k h);
+          open_ = λ k h. ⊎_elim (λ t. a.open_ k t) (λ t. b.open_ k t) (entry_of_both (v.work 0).open_ (v.work j).open_ k h);
+          given = λ c k h. ⊎_elim (λ t. a.given c k t) (λ t. b.given c k t) (entry_of_both (v.work 0).given (v.work j).given (c, k) h);
+        })
+        record { only = λ _ _. (refl, refl, refl, refl); found = λ x k h. absurd h; known = λ k h. absurd h; open_ = λ k h. absurd h; given = λ c k h. absurd h }
+        (λ i a b. let t = r.works i in record { only = λ o. t.only (λ k. o (update_other v.kind j i 0 b ∙ k)); found = t.found; known = t.known; open_ = t.open_; given = t.given }) i;
+    sure = two_at (λ i u. SureRule s.elements workers w.head w.hist w.born w.died w.name w.row stage' i u) v.sure unsure unsure (nothing_sure 0) (nothing_sure j) (λ i a b. let t = r.sure i in record {
+      head_is = λ z l f h. t.head_is z l f (head_was i a z h);
+      hist_is = λ c u l f h. t.hist_is c u l f (block_was i a c h);
+      died_is = λ c k f h. t.died_is c k f (block_was i a c h);
+      name_is = λ c u k f h. t.name_is c u k f (block_was i a c h);
+      born_is = λ c k f z _. absurd (a z);
+      row_is = λ c k f z _. absurd (a z);
+    });
+    goes = r.goes;
+    rules = record {
+      owner = (update_other v.kind j 0 0 (λ e. far (sym e)) ∙ r.rules.owner.0, r.rules.owner.1);
+      one = λ i e. dite (ℕ_discrete i j) (λ f. let z = update_at v.kind j i 0 f in absurd (omega arith)) (λ o. r.rules.one i (sym (update_other v.kind j i 0 o) ∙ e));
+      workers = let a = kind_sum 1 in let b = r.rules.workers in let c : one_where (v.kind j) 1 ≡ 1 = ap (λ (x : Bool). cond {A = ℕ} x 1 0) (eq-eqb (v.kind j) 1 kind) in omega arith;
+      readers = let a = kind_sum 2 in let b = r.rules.readers in let c : one_where (v.kind j) 2 ≡ 0 = ap (λ (x : Bool). cond {A = ℕ} x 1 0) (ne_eqb (v.kind j) 2 (λ e. omega arith)) in omega arith;
+      few_readers = r.rules.few_readers;
+      halves = λ a b. let z = r.rules.halves a b in omega arith;
+      clear = r.rules.clear;
+    };
+    holders = λ x i m p h. ⊎_elim (λ t. ⊎_elim inl (λ k. inr (update_other v.kind j i 0 t.0 ∙ k)) (r.holders x i m p t.1)) (λ t. inl t.0) (moved_back j (g.stage x) i m p h);
+    hand = r.hand;
+  }
+    where
+      nothing_sure : (i : ℕ) → SureRule s.elements workers w.head w.hist w.born w.died w.name w.row stage' i unsure
+      nothing_sure i = record { head_is = λ z l f h. absurd f; hist_is = λ b t l f h. absurd f; died_is = λ b k f h. absurd f; name_is = λ b t k f h. absurd f; born_is = λ b k f h i. absurd f; row_is = λ b k f h i. absurd f }
+
+      stage_was : (i : ℕ) → i ≢ 0 → (x m : ℕ) (p : Progress) → stage' x ≡ Held i m p → g.stage x ≡ Held i m p
+      stage_was i a x m p h = ⊎_elim (λ t. t.1) (λ t. absurd (a t.0)) (moved_back j (g.stage x) i m p h)
+
+      block_was : (i : ℕ) → i ≢ 0 → (c : ℕ) → GuardsBlock workers stage' i c → GuardsBlock v.ruling.workers g.stage i c
+      block_was i a c (inl t) = absurd (a t.0)
+      block_was i a c (inr t) = inr (t.0, t.1, ⊎_elim (λ h. inl (stage_was i a t.0 t.1 (Drawn c) h)) (λ h. inr (stage_was i a t.0 t.1 (Half c) h)) t.2)
+
+      head_was : (i : ℕ) → i ≢ 0 → (z : ℕ) → GuardsHead s.elements workers stage' i z → GuardsHead s.elements v.ruling.workers g.stage i z
+      head_was i a z (inl t) = absurd (a t.0)
+      head_was i a z (inr t) = inr (t.0, t.1, t.2, ⊎_elim (λ h. inl (stage_was i a t.0 t.1 (Drawn t.2) h.0, h.1)) (λ h. inr (stage_was i a t.0 t.1 (Half t.2) h.0, h.1)) t.3)

@@ -1,0 +1,262 @@
+-- The phases of a round, and its end.
+use Rattle.std.proofs.Common.{◌≡◌, ℕ, zero, suc, ◌+◌, ◌<◌, ◌≤◌, Bool, List, [], ◌∷◌, refl, sym, ap, ◌∙◌, subst, inl, inr, ⊎_elim, arith}
+use native.Mathlib.Decide.{dec_lt}
+use Rattle.mesh_words.specs.Setup.{Setup, places}
+use Rattle.mesh_words.specs.Functions.{update}
+use Rattle.mesh_words.specs.Sums.{sum_below}
+use Rattle.mesh_words.specs.Words.{Words, Node}
+use Rattle.mesh_words.specs.Views.{Views}
+use Rattle.mesh_words.specs.Claims.{Progress, Living, Claim, claim}
+use Rattle.mesh_words.specs.Places.{member_of}
+use Rattle.mesh_words.specs.Entries.{HasEntry}
+use Rattle.mesh_words.proofs.Functions.{update_same, update_other, update_cases}
+use Rattle.mesh_state.specs.Ghosts.{Free, Stage, Open, Held, Life, Placed, chained, Ghost}
+use Rattle.mesh_state.specs.Chains.{Covers, Finds, Reaches, IsPlace}
+use Rattle.mesh_state.specs.Claims.{ClaimsRule, draws_of}
+use Rattle.mesh_state.specs.Bisections.{Fits, IsSound, IsKept, MayRead, NamesRule}
+use Rattle.mesh_state.specs.Work.{WorkRule}
+use Rattle.mesh_state.specs.Fresh.{idle}
+use Rattle.mesh_state.specs.Rule.{Labels, Rule}
+use Rattle.mesh_state.proofs.FoundAgain.{placed, goes_who}
+use Rattle.mesh_state.proofs.BlockSteps.{ends_round}
+use Rattle.mesh_state.proofs.HeldClaims.{not_open}
+use Rattle.mesh_state.proofs.Across.{Went, low, some_worker}
+
+module _ (s : Setup) (w : Words) (n : ℕ) (v : Views) (g : Ghost) (r : Rule s w n v g) where
+  abbrev d : ℕ
+  d = w.round + 1
+
+  -- no pass is at work
+  abbrev pub Home : Type 0
+  Home = v.ruling.workers ≡ 0
+
+  not_work : Home → (j : ℕ) → v.kind j ≡ 1 → ⊥
+  not_work h j k = let a = some_worker s w n v g r j k in omega arith
+
+  pub home_claims : Home → (x j m : ℕ) (p : Progress) → g.stage x ≡ Held j m p → j ≡ 0
+  home_claims h x j m p e = ⊎_elim (λ z. z) (λ k. absurd (not_work h j k)) (r.holders x j m p e)
+
+  -- what the owner's view alone tells of all stages
+  pub all_open : Home → v.claims 0 ≡ [] → (x : ℕ) → g.stage x ≡ Open
+  all_open h none x = by (g.stage x) refl
+    where
+      by : (t : Stage) → g.stage x ≡ t → g.stage x ≡ Open
+      by Open e = e
+      by (Held j m p) e = let z = home_claims h x j m p e in absurd (subst (λ (cs : List Claim). HasEntry cs (claim x m p)) none (subst (λ (i : ℕ). HasEntry (v.claims i) (claim x m p)) z (r.claims.holds j x m p e)))
+
+  idle_works : Home → (round p : ℕ) (name born died : ℕ → ℕ) (life : ℕ → Life) (who : ℕ → ℕ) (j : ℕ) → WorkRule s round p name born died life who (v.kind j) j (update v.work 0 idle j)
+  idle_works h round p name born died life who = update_cases (λ j u. WorkRule s round p name born died life who (v.kind j) j u) v.work 0 idle
+      record { only = λ _ _. (refl, refl, refl, refl); found = λ x i f. absurd f; known = λ i f. absurd f; open_ = λ i f. absurd f; given = λ b i f. absurd f }
+      (λ j ne. let e = (r.works j).only (not_work h j) ne in record {
+        only = (r.works j).only;
+        found = λ x i f. absurd (subst (λ l. HasEntry l (x, i)) e.0 f);
+        known = λ i f. absurd (subst (λ l. HasEntry l i) e.1 f);
+        open_ = λ i f. absurd (subst (λ l. HasEntry l i) e.2 f);
+        given = λ b i f. absurd (subst (λ l. HasEntry l (b, i)) e.3 f);
+      })
+
+  -- the owner goes on to another phase of the same round, and forgets what held in this one
+  pub rephases : Home → (p : ℕ) (who : ℕ → ℕ → ℕ) (hand : List ℕ) → ((b : ℕ) → HasEntry hand b → (p ≡ 1 → ⊥) × (g.life b ≡ Free)) → ((q : ℕ) → q ≤ w.round → who q ≡ g.who q)
+      → ClaimsRule s w.round w.cursor w.free p w.row w.claimed w.head w.born g.life g.stage v.claims → Labels s w.round p w.name g.stage who → NamesRule s w.round p w.name w.head w.hist w.born w.died g.life who v.read
+      → Rule s w n (record v { work = update v.work 0 idle; ruling = record v.ruling { phase = p; hand = hand } }) (record g { who = who })
+  rephases h p who hand free old claims labels names = record {
+    names_apart = r.names_apart;
+    claims = claims;
+    labels = labels;
+    chains = r.chains;
+    names = names;
+    pins = r.pins;
+    works = idle_works h w.round p w.name w.born w.died g.life (who d);
+    sure = r.sure;
+    goes = λ i. goes_who s w.round w.name w.hist w.born w.died g.life g.who who old (v.read i) (λ q e. r.pins.past i q e) (r.goes i);
+    rules = record { owner = r.rules.owner; one = r.rules.one; workers = r.rules.workers; readers = r.rules.readers; few_readers = r.rules.few_readers; halves = λ _ _. h; clear = r.rules.clear };
+    holders = r.holders;
+    hand = free;
+  }
+
+  zero_total : (k : ℕ) (f : ℕ → ℕ) → ((i : ℕ) → f i ≡ 0) → sum_below k f ≡ 0
+  zero_total zero f z = refl
+  zero_total (suc k) f z = let a = zero_total k f z in let b = z k in omega arith
+
+  -- claims do not read the phase but where they say so
+  claims_phase : (p : ℕ) → ((p ≡ 3 → ⊥) → v.ruling.phase ≡ 3 → ⊥) → (p ≡ 1 → w.cursor ≡ sum_below (places s) (λ x. draws_of (g.stage x))) → ((x j m : ℕ) (q : Progress) → g.stage x ≡ Held j m q → p ≡ 2 → (b : ℕ) × (q ≡ Living b)) → ((x : ℕ) → p ≡ 0 → g.stage x ≡ Open)
+      → ClaimsRule s w.round w.cursor w.free p w.row w.claimed w.head w.born g.life g.stage v.claims
+  claims_phase p three one two zero_ = record {
+    held = r.claims.held;
+    holds = r.claims.holds;
+    bits = r.claims.bits;
+    inside = r.claims.inside;
+    mates = r.claims.mates;
+    shape = r.claims.shape;
+    kept = λ b x m u e o. r.claims.kept b x m u e (three o);
+    half = r.claims.half;
+    rows = r.claims.rows;
+    apart = r.claims.apart;
+    drawn = one;
+    living = two;
+    none = zero_;
+  }
+
+  names_phase : (p : ℕ) → (p < 4 → v.ruling.phase < 4) → (((p ≡ 2 → ⊥) × (p ≡ 3 → ⊥)) → (v.ruling.phase ≡ 2 → ⊥) × (v.ruling.phase ≡ 3 → ⊥)) → (p < 2 → v.ruling.phase < 2) → (p ≡ 0 → v.ruling.phase ≡ 0) → NamesRule s w.round p w.name w.head w.hist w.born w.died g.life g.who v.read
+  names_phase p said calm grows fresh = record {
+    fits = λ q k. r.names.fits q (back q k);
+    sound = λ q k. r.names.sound q (back q k);
+    patch = r.names.patch;
+    calm = λ b x m l. r.names.calm b x m (calm l);
+    grows = λ i b l. r.names.grows i b (grows l);
+    fresh = λ i z. r.names.fresh i (fresh z);
+  }
+    where
+      back : (q : ℕ) → MayRead w.round p v.read q → MayRead w.round v.ruling.phase v.read q
+      back q (inl k) = inl k
+      back q (inr k) = inr (k.0, said k.1)
+
+  -- the first half begins
+  pub begins : v.ruling.phase ≡ 0 → w.cursor ≡ 0 → Rule s w n (record v { work = update v.work 0 idle; ruling = record v.ruling { phase = 1; hand = [] } }) (record g { who = g.who })
+  begins z c = rephases (r.rules.halves (λ e. omega arith) (λ e. omega arith)) 1 g.who [] (λ b f. absurd f) (λ _ _. refl)
+      (claims_phase 1 (λ o e. omega arith) (λ _. c ∙ sym (zero_total (places s) (λ x. draws_of (g.stage x)) (λ x. ap draws_of (r.claims.none x z)))) (λ x j m q h e. absurd (not_open j m q (sym h ∙ r.claims.none x z))) (λ x e. absurd (omega arith)))
+      (λ x j m q h e. absurd (not_open j m q (sym h ∙ r.claims.none x z)))
+      (names_phase 1 (λ _. omega arith) (λ _. ((λ e. omega arith), λ e. omega arith)) (λ _. omega arith) (λ e. absurd (omega arith)))
+
+  -- the second half is planned: by the owner's view each claim has a living block
+  pub plans : v.ruling.phase ≡ 1 → Home → ((x m : ℕ) (p : Progress) → HasEntry (v.claims 0) (claim x m p) → (b : ℕ) × (p ≡ Living b)) → Rule s w n (record v { work = update v.work 0 idle; ruling = record v.ruling { phase = 2 } }) (record g { who = g.who })
+  plans one h lives = rephases h 2 g.who v.ruling.hand (λ b f. ((λ e. absurd (omega arith)), (r.hand b f).1)) (λ _ _. refl)
+      (claims_phase 2 (λ o e. omega arith) (λ e. absurd (omega arith)) (λ x j m q e _. lives x m q (subst (λ (i : ℕ). HasEntry (v.claims i) (claim x m q)) (home_claims h x j m q e) (r.claims.holds j x m q e))) (λ x e. absurd (omega arith)))
+      (λ x j m q e f. absurd (omega arith)) (names_phase 2 (λ _. omega arith) (λ l. absurd (l.0 refl)) (λ l. absurd (omega arith)) (λ e. absurd (omega arith)))
+
+  pub closes : v.ruling.phase ≡ 2 → Home → Rule s w n (record v { work = update v.work 0 idle; ruling = record v.ruling { phase = 3 } }) (record g { who = g.who })
+  closes two h = rephases h 3 g.who v.ruling.hand (λ b f. ((λ e. absurd (omega arith)), (r.hand b f).1)) (λ _ _. refl) (claims_phase 3 (λ o e. o refl) (λ e. absurd (omega arith)) (λ x j m q e f. absurd (omega arith)) (λ x e. absurd (omega arith)))
+      (λ x j m q e f. absurd (omega arith)) (names_phase 3 (λ _. omega arith) (λ l. absurd (l.1 refl)) (λ l. absurd (omega arith)) (λ e. absurd (omega arith)))
+
+  -- the round is refused
+  pub refuses : v.ruling.phase ≡ 1 → Home → Rule s w n (record v { work = update v.work 0 idle; ruling = record v.ruling { phase = 4 } }) (record g { who = g.who })
+  refuses one h = rephases h 4 g.who v.ruling.hand (λ b f. ((λ e. absurd (omega arith)), (r.hand b f).1)) (λ _ _. refl) (claims_phase 4 (λ o e. omega arith) (λ e. absurd (omega arith)) (λ x j m q e f. absurd (omega arith)) (λ x e. absurd (omega arith)))
+      (λ x j m q e f. absurd (omega arith)) (names_phase 4 (λ l. absurd (omega arith)) (λ _. ((λ e. omega arith), λ e. omega arith)) (λ l. absurd (omega arith)) (λ e. absurd (omega arith)))
+
+  -- the next round reads as this one, while nothing is born or retired in it
+  module _ (q : ℕ) (same_ : (b : ℕ) (t : Bool) (x : ℕ) → chained (g.life b) t ≡ x + 1 → (Covers w.born w.died q b → Covers w.born w.died (q + 1) b) × (Covers w.born w.died (q + 1) b → Covers w.born w.died q b)) (who : ℕ → ℕ) where
+    refits : Fits s w.name w.head w.hist w.born w.died g.life who q → Fits s w.name w.head w.hist w.born w.died g.life who (q + 1)
+    refits f = record {
+      found = λ i b e. let h = f.found i b e in (h.0, h.1, h.2, h.3, h.4, later q h.1 b (λ k. (same_ b h.0 h.1 h.3).0 k) h.5.0 (w.head h.1) h.5.1);
+      both = f.both;
+    }
+      where
+        later : (q x c : ℕ) → (Covers w.born w.died q c → Covers w.born w.died (q + 1) c) → (ts : List (ℕ × Bool)) (l : Node) → Finds w.hist w.born w.died g.life q x c l ts → Reaches w.hist w.born w.died g.life (q + 1) x c l
+        later q x c k [] l h = absurd h
+        later q x c k (t ∷ ts) l h = ⊎_elim (λ z. (t ∷ [], (h.0, h.1, inl (z.0, k z.1)))) (λ z. let u = later q x c k ts (w.hist (member_of t.0 t.1)) z in (t ∷ u.0, (h.0, h.1, inr u.1))) h.2
+
+    resounds : IsSound s w.name w.born w.died g.life who q → IsSound s w.name w.born w.died g.life who (q + 1)
+    resounds h b t x c k = h b t x c ((same_ b t x c).1 k)
+
+  no_unborn : Home → v.claims 0 ≡ [] → (b x m : ℕ) → g.life b ≡ Placed x m → w.born b ≡ 0 → ⊥
+  no_unborn h none b x m u z = let t = r.claims.half b x m u z in let o = all_open h none x in ⊎_elim (λ e. not_open _ _ _ (sym e ∙ o)) (λ e. not_open _ _ _ (sym e ∙ o)) t.1
+
+  -- the round is taken back: its claims have ended, and the round in work is again as the last
+  pub restores : v.ruling.phase ≡ 4 → v.claims 0 ≡ [] → Rule s w n (record v { work = update v.work 0 idle; ruling = record v.ruling { phase = 0 } }) (record g { who = update g.who d (g.who w.round) })
+  restores four none = rephases home 0 who' v.ruling.hand (λ b f. ((λ e. absurd (omega arith)), (r.hand b f).1)) old
+      (claims_phase 0 (λ o e. omega arith) (λ e. absurd (omega arith)) (λ x j m q e f. absurd (omega arith)) (λ x _. all_open home none x)) (λ x j m q e f. absurd (omega arith))
+      record {
+        fits = λ q k. ⊎_elim (λ e. subst (λ (f : ℕ → ℕ). Fits s w.name w.head w.hist w.born w.died g.life f q) (sym (old q (low s w n v g r q e))) (r.names.fits q (inl e)))
+            (λ e. subst (λ (i : ℕ). Fits s w.name w.head w.hist w.born w.died g.life (who' i) i) (sym e.0) (subst (λ (f : ℕ → ℕ). Fits s w.name w.head w.hist w.born w.died g.life f d) (sym (update_same g.who d (g.who w.round))) (refits w.round same_ (g.who w.round) (r.names.fits w.round (inl (inl refl)))))) k;
+        sound = λ q k. ⊎_elim (λ e. subst (λ (f : ℕ → ℕ). IsSound s w.name w.born w.died g.life f q) (sym (old q (low s w n v g r q e))) (r.names.sound q (inl e)))
+            (λ e. subst (λ (i : ℕ). IsSound s w.name w.born w.died g.life (who' i) i) (sym e.0) (subst (λ (f : ℕ → ℕ). IsSound s w.name w.born w.died g.life f d) (sym (update_same g.who d (g.who w.round))) (resounds w.round same_ (g.who w.round) (r.names.sound w.round (inl (inl refl)))))) k;
+        patch = r.names.patch;
+        calm = λ b x m l u. r.names.calm b x m ((λ e. omega arith), λ e. omega arith) u;
+        grows = λ i b l e. ap (λ (f : ℕ → ℕ). f i) (update_same g.who d (g.who w.round)) ∙ (sym (ap (λ (f : ℕ → ℕ). f i) (old w.round (omega arith))) ∙ e);
+        fresh = λ i z. ap (λ (f : ℕ → ℕ). f i) (update_same g.who d (g.who w.round)) ∙ sym (ap (λ (f : ℕ → ℕ). f i) (old w.round (omega arith)));
+      }
+    where
+      home : Home
+      home = r.rules.halves (λ e. omega arith) (λ e. omega arith)
+
+      who' : ℕ → ℕ → ℕ
+      who' = update g.who d (g.who w.round)
+
+      old : (q : ℕ) → q ≤ w.round → update g.who d (g.who w.round) q ≡ g.who q
+      old q l = update_other g.who d q (g.who w.round) (λ (e : q ≡ w.round + 1). omega arith)
+
+      same_ : (b : ℕ) (t : Bool) (x : ℕ) → chained (g.life b) t ≡ x + 1 → (Covers w.born w.died w.round b → Covers w.born w.died d b) × (Covers w.born w.died d b → Covers w.born w.died w.round b)
+      same_ b t x c = let p = placed (g.life b) t x c in let calm = r.names.calm b p.0 p.1 ((λ e. omega arith), λ e. omega arith) p.2 in (
+        (λ k. let k1 = k.1 in (k.0, omega arith, ⊎_elim inl (λ l. absurd (omega arith)) k.2)),
+        λ k. let k1 = k.1 in (k.0, elim (dec_lt w.round (w.born b)) [ yes l ↦ absurd (let a = r.claims.kept b p.0 p.1 p.2 (omega arith) (λ e. omega arith) in not_open a.0 p.1 (Living b) (sym a.1 ∙ all_open home none p.0)) | no o ↦ omega arith ], ⊎_elim inl (λ l. inr (omega arith)) k.2),
+      )
+
+  -- the round is finished
+  pub advances : v.ruling.phase ≡ 3 → v.claims 0 ≡ [] → ((x b : ℕ) → IsPlace s.elements g.life x → (w.head x).block ≡ b + 1 → (w.head x).died ≡ 0 → w.died b ≡ 0)
+      → Rule s (record w { round = d; taken = 0 }) n (record v { work = update v.work 0 idle; ruling = record v.ruling { phase = 0 } }) (record g { who = update g.who (d + 1) (g.who d) })
+  advances three none stamped = record {
+    names_apart = r.names_apart;
+    claims = record {
+      held = r.claims.held;
+      holds = r.claims.holds;
+      bits = r.claims.bits;
+      inside = r.claims.inside;
+      mates = r.claims.mates;
+      shape = λ x j m p e. absurd (not_open j m p (sym e ∙ open_ x));
+      kept = λ b x m u e o. let l = r.chains.borns b in absurd (omega arith);
+      half = r.claims.half;
+      rows = r.claims.rows;
+      apart = r.claims.apart;
+      drawn = λ e. absurd (omega arith);
+      living = λ x j m q e f. absurd (omega arith);
+      none = λ x _. open_ x;
+    };
+    labels = λ x j m q e f. absurd (omega arith);
+    chains = ends_round (λ _. Unit {0}) (Went w.died v.read) s.elements w.round w.head w.hist w.born w.died g.life r.chains stamped;
+    names = record {
+      fits = λ q k. ⊎_elim (λ e. kept_fits q e)
+          (λ e. subst (λ (i : ℕ). Fits s w.name w.head w.hist w.born w.died g.life (who' i) i) (sym e.0) (subst (λ (f : ℕ → ℕ). Fits s w.name w.head w.hist w.born w.died g.life f (d + 1)) (sym (update_same g.who (d + 1) (g.who d))) (refits d same_ (g.who d) (r.names.fits d said)))) k;
+      sound = λ q k. ⊎_elim (λ e. kept_sound q e)
+          (λ e. subst (λ (i : ℕ). IsSound s w.name w.born w.died g.life (who' i) i) (sym e.0) (subst (λ (f : ℕ → ℕ). IsSound s w.name w.born w.died g.life f (d + 1)) (sym (update_same g.who (d + 1) (g.who d))) (resounds d same_ (g.who d) (r.names.sound d said)))) k;
+      patch = r.names.patch;
+      calm = λ b x m l u. elim (dec_lt 0 (w.died b)) [ yes p ↦ (r.chains.dieds b x m u p).2 | no o ↦ omega arith ];
+      grows = λ i b l e. ap (λ (f : ℕ → ℕ). f i) (update_same g.who (d + 1) (g.who d)) ∙ (sym (ap (λ (f : ℕ → ℕ). f i) (old d (omega arith))) ∙ e);
+      fresh = λ i z. ap (λ (f : ℕ → ℕ). f i) (update_same g.who (d + 1) (g.who d)) ∙ sym (ap (λ (f : ℕ → ℕ). f i) (old d (omega arith)));
+    };
+    pins = record {
+      now = (r.pins.later d (omega arith)).0;
+      later = λ q l. r.pins.later q (omega arith);
+      count = r.pins.count;
+      past = λ j q e. let l = r.pins.past j q e in omega arith;
+      few = r.pins.few;
+      readers = r.pins.readers;
+      bit = r.pins.bit;
+      bound = let b = r.pins.bound in omega arith;
+    };
+    works = idle_works home d 0 w.name w.born w.died g.life (who' (d + 1));
+    sure = r.sure;
+    goes = λ i. let t = goes_who s w.round w.name w.hist w.born w.died g.life g.who who' (λ q l. old q (omega arith)) (v.read i) (λ q e. r.pins.past i q e) (r.goes i) in
+        record { went = t.went; walk = t.walk; yes_notes = λ k q h. let a = t.yes_notes k q h in let a0 = a.0 in (omega arith, a.1); no_notes = λ k q h. let a = t.no_notes k q h in let a0 = a.0 in (omega arith, a.1) };
+    rules = record { owner = r.rules.owner; one = r.rules.one; workers = r.rules.workers; readers = r.rules.readers; few_readers = r.rules.few_readers; halves = λ _ _. home; clear = λ q h. let t = r.rules.clear q h in let t0 = t.0 in (omega arith, t.1) };
+    holders = r.holders;
+    hand = λ b f. ((λ e. absurd (omega arith)), (r.hand b f).1);
+  }
+    where
+      home : Home
+      home = r.rules.halves (λ e. omega arith) (λ e. omega arith)
+
+      open_ : (x : ℕ) → g.stage x ≡ Open
+      open_ x = all_open home none x
+
+      who' : ℕ → ℕ → ℕ
+      who' = update g.who (d + 1) (g.who d)
+
+      old : (q : ℕ) → q ≤ w.round + 1 → update g.who (w.round + 1 + 1) (g.who (w.round + 1)) q ≡ g.who q
+      old q l = update_other g.who (d + 1) q (g.who d) (λ (e : q ≡ w.round + 1 + 1). omega arith)
+
+      said : MayRead w.round v.ruling.phase v.read (w.round + 1)
+      said = inr (refl, omega arith)
+
+      kept_fits : (q : ℕ) → IsKept (w.round + 1) v.read q → Fits s w.name w.head w.hist w.born w.died g.life (who' q) q
+      kept_fits q (inl e) = subst (λ (i : ℕ). Fits s w.name w.head w.hist w.born w.died g.life (who' i) i) (sym e) (subst (λ (f : ℕ → ℕ). Fits s w.name w.head w.hist w.born w.died g.life f (w.round + 1)) (sym (old (w.round + 1) (omega arith))) (r.names.fits (w.round + 1) said))
+      kept_fits q (inr t) = let l = r.pins.past t.0 q t.1 in subst (λ (f : ℕ → ℕ). Fits s w.name w.head w.hist w.born w.died g.life f q) (sym (old q (omega arith))) (r.names.fits q (inl (inr t)))
+
+      kept_sound : (q : ℕ) → IsKept (w.round + 1) v.read q → IsSound s w.name w.born w.died g.life (who' q) q
+      kept_sound q (inl e) = subst (λ (i : ℕ). IsSound s w.name w.born w.died g.life (who' i) i) (sym e) (subst (λ (f : ℕ → ℕ). IsSound s w.name w.born w.died g.life f (w.round + 1)) (sym (old (w.round + 1) (omega arith))) (r.names.sound (w.round + 1) said))
+      kept_sound q (inr t) = let l = r.pins.past t.0 q t.1 in subst (λ (f : ℕ → ℕ). IsSound s w.name w.born w.died g.life f q) (sym (old q (omega arith))) (r.names.sound q (inl (inr t)))
+
+      same_ : (b : ℕ) (t : Bool) (x : ℕ) → chained (g.life b) t ≡ x + 1 → (Covers w.born w.died d b → Covers w.born w.died (d + 1) b) × (Covers w.born w.died (d + 1) b → Covers w.born w.died d b)
+      same_ b t x c = let p = placed (g.life b) t x c in let l = r.chains.borns b in let m : w.died b ≤ w.round + 1 = elim (dec_lt 0 (w.died b)) [ yes z ↦ (r.chains.dieds b p.0 p.1 p.2 z).2 | no o ↦ omega arith ] in (
+        (λ k. let k1 = k.1 in (k.0, omega arith, ⊎_elim inl (λ z. absurd (omega arith)) k.2)),
+        λ k. (k.0, omega arith, ⊎_elim inl (λ z. absurd (omega arith)) k.2),
+      )

@@ -1,0 +1,218 @@
+-- Pins, the readers' bound, and a reader's walk.
+use Rattle.std.proofs.Common.{◌≡◌, ℕ, ◌+◌, ◌<◌, ◌≤◌, Bool, true, false, List, [], ◌∷◌, ◌⊎◌, refl, sym, ap, ◌∙◌, subst, inl, inr, ⊎_elim, arith}
+use mathlib.Core.Logic.{dite}
+use native.Mathlib.Decide.{ℕ_discrete, dec_lt}
+use Rattle.mesh_words.specs.Setup.{Setup}
+use Rattle.mesh_words.specs.Functions.{update}
+use Rattle.mesh_words.specs.Sums.{sum_below, one_where}
+use Rattle.mesh_words.specs.Words.{Words, Node}
+use Rattle.mesh_words.specs.Views.{Views, Walk, Still, At, Past, Note, Read}
+use Rattle.mesh_words.specs.Places.{member_of}
+use Rattle.mesh_words.specs.Entries.{HasEntry}
+use Rattle.mesh_words.proofs.Functions.{update_same, update_at, update_other, update_cases}
+use Rattle.mesh_words.proofs.Sums.{one_if, none_if, sum_update, sum_le}
+use Rattle.mesh_state.specs.Ghosts.{chained, stands, Ghost}
+use Rattle.mesh_state.specs.Chains.{Reaches, IsHead}
+use Rattle.mesh_state.specs.Bisections.{IsPlaceOf, IsKept, MayRead}
+use Rattle.mesh_state.specs.Pins.{PinsRule}
+use Rattle.mesh_state.specs.Readers.{Walks, ReaderRule}
+use Rattle.mesh_state.specs.Rule.{Rule}
+use Rattle.mesh_state.proofs.FoundAgain.{one_more, chained_stands, placed_chained, standing, none_found, first_block, seen_live}
+use Rattle.mesh_state.proofs.ChainSteps.{named, older_head, dead_end}
+use Rattle.mesh_state.proofs.Across.{Went, no_pin, zero_or_more, place_one, name_one}
+
+module _ (s : Setup) (w : Words) (n : ℕ) (v : Views) (g : Ghost) (r : Rule s w n v g) where
+  -- what a step of a reader's view is to show
+  pub rereads : (j taken : ℕ) (released pins : ℕ → ℕ) (u : Read) → PinsRule s w.round taken released n v.kind (update v.read j u) pins → ((q : ℕ) → HasEntry v.ruling.clear q → (q < w.round) × (released q ≡ pins q))
+      → ((q : ℕ) → u.pin ≡ q + 1 → IsKept w.round v.read q) → ReaderRule s w.round w.name w.hist w.born w.died g.life g.who u
+      → Rule s (record w { taken = taken; released = released }) n (record v { read = update v.read j u }) (record g { pins = pins })
+  rereads j taken released pins u p clear kept goes = record {
+    names_apart = r.names_apart;
+    claims = r.claims;
+    labels = r.labels;
+    chains = r.chains;
+    names = record { fits = λ q k. r.names.fits q (back q k); sound = λ q k. r.names.sound q (back q k); patch = r.names.patch; calm = r.names.calm; grows = r.names.grows; fresh = r.names.fresh };
+    pins = p;
+    works = r.works;
+    sure = r.sure;
+    goes = update_cases (λ _ x. ReaderRule s w.round w.name w.hist w.born w.died g.life g.who x) v.read j u goes (λ i _. r.goes i);
+    rules = record { owner = r.rules.owner; one = r.rules.one; workers = r.rules.workers; readers = r.rules.readers; few_readers = r.rules.few_readers; halves = r.rules.halves; clear = clear };
+    holders = r.holders;
+    hand = r.hand;
+  }
+    where
+      back : (q : ℕ) → MayRead w.round v.ruling.phase (update v.read j u) q → MayRead w.round v.ruling.phase v.read q
+      back q (inr k) = inr k
+      back q (inl (inl e)) = inl (inl e)
+      back q (inl (inr t)) = dite (ℕ_discrete t.0 j) (λ e. inl (kept q (sym (ap (λ (x : Read). x.pin) (update_at v.read j t.0 u e)) ∙ t.1))) (λ o. inl (inr (t.0, sym (ap (λ (x : Read). x.pin) (update_other v.read j t.0 u o)) ∙ t.1)))
+
+  inside : (j : ℕ) → v.kind j ≡ 2 → j < n
+  inside j k = elim (dec_lt j n) [ yes l ↦ l | no o ↦ let z = r.pins.few j (omega arith) in absurd (omega arith) ]
+
+  -- sums over the seats, with one view changed
+  pin_sum : (j q : ℕ) (u : Read) → j < n → sum_below n (λ i. one_where (update v.read j u i).pin (q + 1)) + one_where (v.read j).pin (q + 1) ≡ sum_below n (λ i. one_where (v.read i).pin (q + 1)) + one_where u.pin (q + 1)
+  pin_sum j q u l = sum_update n (λ i. one_where (v.read i).pin (q + 1)) (λ i. one_where (update v.read j u i).pin (q + 1)) j l (λ i o. ap (λ (x : Read). one_where x.pin (q + 1)) (update_other v.read j i u o)) ∙ ap (λ (x : Read). sum_below n (λ i. one_where (v.read i).pin (q + 1)) + one_where x.pin (q + 1)) (update_same v.read j u)
+
+  ready_sum : (j : ℕ) (u : Read) → j < n → sum_below n (λ i. (update v.read j u i).ready) + (v.read j).ready ≡ sum_below n (λ i. (v.read i).ready) + u.ready
+  ready_sum j u l = sum_update n (λ i. (v.read i).ready) (λ i. (update v.read j u i).ready) j l (λ i o. ap (λ (x : Read). x.ready) (update_other v.read j i u o)) ∙ ap (λ (x : Read). sum_below n (λ i. (v.read i).ready) + x.ready) (update_same v.read j u)
+
+  -- at most as many views are ready as readers are out
+  few_ready : (f : ℕ → ℕ) → ((i : ℕ) → f i ≤ 1) → ((i : ℕ) → (v.kind i ≡ 2 → ⊥) → f i ≡ 0) → sum_below n f ≤ s.passes + 1
+  few_ready f b z = let a = sum_le n f (λ i. one_where (v.kind i) 2) (λ i. dite (ℕ_discrete (v.kind i) 2) (λ e. let x = b i in let y = one_if (v.kind i) 2 e in omega arith) (λ o. let x = z i o in omega arith)) in let c = r.rules.readers in let e = r.rules.few_readers in omega arith
+
+  -- a reader's view in which the pin stays
+  pub same_pin : (j : ℕ) (u : Read) → v.kind j ≡ 2 → u.pin ≡ (v.read j).pin → u.ready ≤ 1 → w.taken + sum_below n (λ i. (update v.read j u i).ready) ≤ s.limit + s.passes + 1 → PinsRule s w.round w.taken w.released n v.kind (update v.read j u) g.pins
+  same_pin j u k e b bound = record {
+    now = r.pins.now;
+    later = r.pins.later;
+    count = λ q. let a = r.pins.count q in let z = pin_sum j q u (inside j k) in let y : one_where u.pin (q + 1) ≡ one_where (v.read j).pin (q + 1) = ap (λ (x : ℕ). one_where x (q + 1)) e in omega arith;
+    past = update_cases (λ i x. (q : ℕ) → x.pin ≡ q + 1 → q ≤ w.round) v.read j u (λ q h. r.pins.past j q (sym e ∙ h)) (λ i _. r.pins.past i);
+    few = r.pins.few;
+    readers = update_cases (λ i x. (v.kind i ≡ 2 → ⊥) → (x.pin ≡ 0) × (x.ready ≡ 0)) v.read j u (λ o. absurd (o k)) (λ i _. r.pins.readers i);
+    bit = update_cases (λ _ x. x.ready ≤ 1) v.read j u b (λ i _. r.pins.bit i);
+    bound = bound;
+  }
+
+  -- ROUND is loaded: the view is ready where fewer pins than the limit were shown
+  pub shows_round : (j : ℕ) → v.kind j ≡ 2 → (ready : ℕ) → ((ready ≡ 1) × (w.taken < s.limit)) ⊎ (ready ≡ 0) → Rule s w n (record v { read = update v.read j (record (v.read j) { ready = ready }) }) g
+  shows_round j k ready how = let u : Read = record (v.read j) { ready = ready } in let g0 = r.goes j in rereads j w.taken w.released g.pins u
+      (same_pin j u k refl (⊎_elim (λ t. let e = t.0 in omega arith) (λ e. omega arith) how) (⊎_elim
+      (λ t. let l = t.1 in let e = t.0 in let f = few_ready (λ i. (update v.read j u i).ready) (update_cases (λ _ x. x.ready ≤ 1) v.read j u (omega arith) (λ i _. r.pins.bit i)) (update_cases (λ i x. (v.kind i ≡ 2 → ⊥) → x.ready ≡ 0) v.read j u (λ o. absurd (o k)) (λ i _ o. (r.pins.readers i o).1)) in omega arith)
+      (λ e. let a = ready_sum j u (inside j k) in let b = r.pins.bound in omega arith) how))
+      r.rules.clear (λ q h. inr (j, h)) record { went = g0.went; walk = g0.walk; yes_notes = g0.yes_notes; no_notes = g0.no_notes }
+
+  -- a pin is taken: the bound holds
+  pub pins : (j : ℕ) → v.kind j ≡ 2 → (v.read j).pin ≡ 0 → (v.read j).ready ≡ 1
+      → Rule s (record w { taken = w.taken + 1; released = w.released }) n (record v { read = update v.read j record { pin = w.round + 1; ready = 0; went = []; walk = Still; notes = (v.read j).notes } }) (record g { pins = update g.pins w.round (g.pins w.round + 1) })
+  pins j k none ready = let u : Read = record { pin = w.round + 1; ready = 0; went = []; walk = Still; notes = (v.read j).notes } in let p' : ℕ → ℕ = update g.pins w.round (g.pins w.round + 1) in
+      rereads j (w.taken + 1) w.released p' u
+      record {
+        now = let a = r.pins.now in let b : p' w.round ≡ g.pins w.round + 1 = update_same g.pins w.round (g.pins w.round + 1) in omega arith;
+        later = λ q l. let t = r.pins.later q l in (update_other g.pins w.round q (g.pins w.round + 1) (λ (e : q ≡ w.round). omega arith) ∙ t.0, t.1);
+        count = λ q. let a = r.pins.count q in let z = pin_sum j q u (inside j k) in let y : one_where (v.read j).pin (q + 1) ≡ 0 = none_if (v.read j).pin (q + 1) (λ (e : (v.read j).pin ≡ q + 1). omega arith) in dite (ℕ_discrete q w.round)
+            (λ e. let x : one_where (w.round + 1) (q + 1) ≡ 1 = one_if (w.round + 1) (q + 1) (omega arith) in let b : p' q ≡ g.pins w.round + 1 = update_at g.pins w.round q (g.pins w.round + 1) e in let c : g.pins q ≡ g.pins w.round = ap g.pins e in omega arith)
+            (λ o. let x : one_where (w.round + 1) (q + 1) ≡ 0 = none_if (w.round + 1) (q + 1) (λ (e : w.round + 1 ≡ q + 1). o (omega arith)) in let b : p' q ≡ g.pins q = update_other g.pins w.round q (g.pins w.round + 1) o in omega arith);
+        past = update_cases (λ i x. (q : ℕ) → x.pin ≡ q + 1 → q ≤ w.round) v.read j u (λ q h. omega arith) (λ i _. r.pins.past i);
+        few = r.pins.few;
+        readers = update_cases (λ i x. (v.kind i ≡ 2 → ⊥) → (x.pin ≡ 0) × (x.ready ≡ 0)) v.read j u (λ o. absurd (o k)) (λ i _. r.pins.readers i);
+        bit = update_cases (λ _ x. x.ready ≤ 1) v.read j u (omega arith) (λ i _. r.pins.bit i);
+        bound = let a = ready_sum j u (inside j k) in let b = r.pins.bound in omega arith;
+      }
+      (λ q h. let t = r.rules.clear q h in let l = t.0 in (t.0, t.1 ∙ sym (update_other g.pins w.round q (g.pins w.round + 1) (λ (e : q ≡ w.round). omega arith))))
+      (λ q h. inl (omega arith)) record { went = λ q b h m. absurd m; walk = λ q h. tt; yes_notes = (r.goes j).yes_notes; no_notes = (r.goes j).no_notes }
+
+  -- a pin is given back
+  pub unpins : (j q0 : ℕ) → v.kind j ≡ 2 → (v.read j).pin ≡ q0 + 1
+      → Rule s (record w { taken = w.taken; released = update w.released q0 (w.released q0 + 1) }) n (record v { read = update v.read j record { pin = 0; ready = (v.read j).ready; went = []; walk = Still; notes = (v.read j).notes } }) (record g { pins = g.pins })
+  unpins j q0 k had = let u : Read = record { pin = 0; ready = (v.read j).ready; went = []; walk = Still; notes = (v.read j).notes } in let low_ = r.pins.past j q0 had in
+      rereads j w.taken (update w.released q0 (w.released q0 + 1)) g.pins u
+      record {
+        now = r.pins.now;
+        later = λ q l. let t = r.pins.later q l in (t.0, update_other w.released q0 q (w.released q0 + 1) (λ (e : q ≡ q0). omega arith) ∙ t.1);
+        count = λ q. let a = r.pins.count q in let z = pin_sum j q u (inside j k) in let y : one_where 0 (q + 1) ≡ 0 = none_if 0 (q + 1) (λ (e : 0 ≡ q + 1). omega arith) in dite (ℕ_discrete q q0)
+            (λ e. let x : one_where (v.read j).pin (q + 1) ≡ 1 = one_if (v.read j).pin (q + 1) (omega arith) in let b : update w.released q0 (w.released q0 + 1) q ≡ w.released q0 + 1 = update_at w.released q0 q (w.released q0 + 1) e in let c : w.released q ≡ w.released q0 = ap w.released e in omega arith)
+            (λ o. let x : one_where (v.read j).pin (q + 1) ≡ 0 = none_if (v.read j).pin (q + 1) (λ (e : (v.read j).pin ≡ q + 1). o (omega arith)) in let b : update w.released q0 (w.released q0 + 1) q ≡ w.released q = update_other w.released q0 q (w.released q0 + 1) o in omega arith);
+        past = update_cases (λ i x. (q : ℕ) → x.pin ≡ q + 1 → q ≤ w.round) v.read j u (λ q h. absurd (omega arith)) (λ i _. r.pins.past i);
+        few = r.pins.few;
+        readers = update_cases (λ i x. (v.kind i ≡ 2 → ⊥) → (x.pin ≡ 0) × (x.ready ≡ 0)) v.read j u (λ o. absurd (o k)) (λ i _. r.pins.readers i);
+        bit = update_cases (λ _ x. x.ready ≤ 1) v.read j u (r.pins.bit j) (λ i _. r.pins.bit i);
+        bound = let a = ready_sum j u (inside j k) in let b = r.pins.bound in omega arith;
+      }
+      (λ q h. let t = r.rules.clear q h in (t.0, update_other w.released q0 q (w.released q0 + 1) (λ (e : q ≡ q0). no_pin s w n v g r q h j (had ∙ ap (λ (x : ℕ). x + 1) (sym e))) ∙ t.1))
+      (λ q h. absurd (omega arith)) record { went = λ q b h m. absurd m; walk = λ q h. absurd (omega arith); yes_notes = (r.goes j).yes_notes; no_notes = (r.goes j).no_notes }
+
+  -- a walk goes on: the reader's pin stays
+  module _ (j q0 : ℕ) (kind : v.kind j ≡ 2) (pinned : (v.read j).pin ≡ q0 + 1) where
+    low_q : q0 ≤ w.round
+    low_q = r.pins.past j q0 pinned
+
+    can : MayRead w.round v.ruling.phase v.read q0
+    can = inl (inr (j, pinned))
+
+    same_q : (q : ℕ) → (v.read j).pin ≡ q + 1 → q0 ≡ q
+    same_q q p = one_more q0 q (sym pinned ∙ p)
+
+    abbrev walked : List ℕ → Walk → List Note → Read
+    walked went walk notes = record (v.read j) { went = went; walk = walk; notes = notes }
+
+    walks_on : (went : List ℕ) (walk : Walk) (notes : List Note) → ((b : ℕ) → HasEntry went b → ((t : Bool) × (x : ℕ) × (stands (g.life b) t ≡ x + 1)) × ((w.died b ≡ 0) ⊎ (q0 < w.died b)))
+        → Walks s w.name w.hist w.born w.died g.life (g.who q0) q0 went walk
+        → ((i q : ℕ) → HasEntry notes record { round = q; name = i; bisected = true } → (q ≤ w.round) × ((b : ℕ) × (g.who q i ≡ b + 1))) → ((i q : ℕ) → HasEntry notes record { round = q; name = i; bisected = false } → (q ≤ w.round) × (g.who q i ≡ 0))
+        → Rule s w n (record v { read = update v.read j (walked went walk notes) }) g
+    walks_on went walk notes ok here yes_ no_ = rereads j w.taken w.released g.pins (walked went walk notes) (same_pin j (walked went walk notes) kind refl (r.pins.bit j) (let a = ready_sum j (walked went walk notes) (inside j kind) in let b = r.pins.bound in omega arith))
+        r.rules.clear (λ q h. inr (j, h))
+        record { went = λ q b p h. subst (λ (x : ℕ). ((t : Bool) × (y : ℕ) × (stands (g.life b) t ≡ y + 1)) × ((w.died b ≡ 0) ⊎ (x < w.died b))) (same_q q p) (ok b h); walk = λ q p. subst (λ (x : ℕ). Walks s w.name w.hist w.born w.died g.life (g.who x) x went walk) (same_q q p) here; yes_notes = yes_; no_notes = no_ }
+
+    went_ok : (b : ℕ) → HasEntry (v.read j).went b → ((t : Bool) × (x : ℕ) × (stands (g.life b) t ≡ x + 1)) × ((w.died b ≡ 0) ⊎ (q0 < w.died b))
+    went_ok b h = (r.goes j).went q0 b pinned h
+
+    note_yes : (k b : ℕ) → g.who q0 k ≡ b + 1 → (i q : ℕ) → HasEntry (record { round = q0; name = k; bisected = true } ∷ (v.read j).notes) record { round = q; name = i; bisected = true } → (q ≤ w.round) × ((b : ℕ) × (g.who q i ≡ b + 1))
+    note_yes k b e i q h = ⊎_elim (λ x. let a : q ≡ q0 = ap (λ (y : Note). y.round) x in let c : i ≡ k = ap (λ (y : Note). y.name) x in (subst (λ (y : ℕ). y ≤ w.round) (sym a) low_q, (b, ap (λ (y : ℕ × ℕ). g.who y.0 y.1) (λ t. (a t, c t)) ∙ e))) (λ u. (r.goes j).yes_notes i q u) h
+
+    note_yes_no : (k : ℕ) → (i q : ℕ) → HasEntry (record { round = q0; name = k; bisected = true } ∷ (v.read j).notes) record { round = q; name = i; bisected = false } → (q ≤ w.round) × (g.who q i ≡ 0)
+    note_yes_no k i q h = ⊎_elim (λ x. absurd (clash (ap (λ (y : Note). y.bisected) x))) (λ u. (r.goes j).no_notes i q u) h
+      where
+        clash : false ≡ true → ⊥
+        clash e = cc
+
+    note_no : (k : ℕ) → g.who q0 k ≡ 0 → (i q : ℕ) → HasEntry (record { round = q0; name = k; bisected = false } ∷ (v.read j).notes) record { round = q; name = i; bisected = false } → (q ≤ w.round) × (g.who q i ≡ 0)
+    note_no k e i q h = ⊎_elim (λ x. let a : q ≡ q0 = ap (λ (y : Note). y.round) x in let c : i ≡ k = ap (λ (y : Note). y.name) x in (subst (λ (y : ℕ). y ≤ w.round) (sym a) low_q, ap (λ (y : ℕ × ℕ). g.who y.0 y.1) (λ t. (a t, c t)) ∙ e)) (λ u. (r.goes j).no_notes i q u) h
+
+    note_no_yes : (k : ℕ) → (i q : ℕ) → HasEntry (record { round = q0; name = k; bisected = false } ∷ (v.read j).notes) record { round = q; name = i; bisected = true } → (q ≤ w.round) × ((b : ℕ) × (g.who q i ≡ b + 1))
+    note_no_yes k i q h = ⊎_elim (λ x. absurd (clash (ap (λ (y : Note). y.bisected) x))) (λ u. (r.goes j).yes_notes i q u) h
+      where
+        clash : true ≡ false → ⊥
+        clash e = cc
+
+    -- from the place's head, and from the history word of a block that is passed by, the round's block is found
+    abbrev pub Leads : ℕ → ℕ → Node → Type 0
+    Leads x k l = IsHead w.round w.died g.life x l × IsPlaceOf s w.name (g.who q0) x k × ((c : ℕ) → g.who q0 k ≡ c + 1 → Reaches w.hist w.born w.died g.life q0 x c l)
+
+    pub first_word : (x k : ℕ) → IsPlaceOf s w.name (g.who q0) x k → Leads x k (w.head x)
+    first_word x k h = let f = r.names.fits q0 can in (
+      r.chains.heads x (seen_live s w.name w.name w.head w.hist w.head w.hist w.born w.died w.born w.died g.life g.life (λ _ _ _ _ _. refl) (g.who q0) q0 x k f h),
+      h,
+      λ c e. let t = f.found k c e in subst (λ (y : ℕ). Reaches w.hist w.born w.died g.life q0 y c (w.head y)) (place_one s w n v g r q0 can t.1 x k t.4 h) t.5,
+    )
+
+    pub next_word : (x k b : ℕ) (t : Bool) → (v.read j).walk ≡ Past x k b t → Leads x k (w.hist (member_of b t))
+    next_word x k b t at = let h = subst (Walks s w.name w.hist w.born w.died g.life (g.who q0) q0 (v.read j).went) at ((r.goes j).walk q0 pinned) in
+        (older_head (λ _. Unit {0}) (Went w.died v.read) s.elements w.round w.head w.hist w.born w.died g.life r.chains x (w.born b) (w.hist (member_of b t)) (r.chains.hists b t x h.1), h.2, h.3)
+
+    -- the word stops the walk: the name is not bisected
+    pub ends : (x k : ℕ) (l : Node) → Leads x k l → (l.block ≡ 0) ⊎ ((0 < l.died) × (l.died ≤ q0)) → Rule s w n (record v { read = update v.read j (walked (v.read j).went Still (record { round = q0; name = k; bisected = false } ∷ (v.read j).notes)) }) g
+    ends x k l f stop = let z : g.who q0 k ≡ 0 = ⊎_elim (λ e. e) (λ t. absurd (none t.0 (f.2 t.0 t.1) stop f.0)) (zero_or_more (g.who q0 k)) in
+        walks_on (v.read j).went Still (record { round = q0; name = k; bisected = false } ∷ (v.read j).notes) went_ok tt (note_no_yes k) (note_no k z)
+      where
+        none : (c : ℕ) → Reaches w.hist w.born w.died g.life q0 x c l → (l.block ≡ 0) ⊎ ((0 < l.died) × (l.died ≤ q0)) → IsHead w.round w.died g.life x l → ⊥
+        none c h (inl e) o = none_found w.hist w.born w.died g.life q0 x c l e h
+        none c h (inr e) (inl o) = none_found w.hist w.born w.died g.life q0 x c l (ap (λ (m : Node). m.block) o) h
+        none c h (inr e) (inr o) = let dd = o.4 e.0 in let e0 = e.0 in let e1 = e.1 in dead_end (λ _. Unit {0}) (Went w.died v.read) s.elements w.round w.head w.hist w.born w.died g.life r.chains q0 x c h.0 l o.0 o.1 o.2 o.3 (omega arith) (omega arith) h.1
+
+    -- the word leads to a block, and the walk goes there
+    pub goes_to : (x k b : ℕ) (l : Node) → Leads x k l → l.block ≡ b + 1 → (l.died ≡ 0) ⊎ (q0 < l.died) → (t : Bool) × Rule s w n (record v { read = update v.read j (walked (b ∷ (v.read j).went) (At x k b t) (v.read j).notes) }) g
+    goes_to x k b l f is may = let o = named (λ _. Unit {0}) (Went w.died v.read) s.elements w.round w.head w.hist w.born w.died g.life r.chains x b l f.0 is in let st = chained_stands (g.life b) o.0 x o.1 in let al = alive may f.0 in (
+      o.0,
+      walks_on (b ∷ (v.read j).went) (At x k b o.0) (v.read j).notes
+          (λ c h. ⊎_elim (λ e. subst (λ (y : ℕ). ((t : Bool) × (x : ℕ) × (stands (g.life y) t ≡ x + 1)) × ((w.died y ≡ 0) ⊎ (q0 < w.died y))) (sym e) ((o.0, x, st), al)) (went_ok c) h)
+          (inl refl, st, f.1, λ c e. let h = first_block w.hist w.born w.died g.life q0 x c b l is (f.2 c e) in ⊎_elim inl (λ y. inr (subst (λ (i : Bool). Reaches w.hist w.born w.died g.life q0 x c (w.hist (member_of b i))) (r.chains.sides b h.0 o.0 x h.1 st) y)) h.2)
+          (λ i q h. (r.goes j).yes_notes i q h) (λ i q h. (r.goes j).no_notes i q h),
+    )
+      where
+        alive : (l.died ≡ 0) ⊎ (q0 < l.died) → IsHead w.round w.died g.life x l → (w.died b ≡ 0) ⊎ (q0 < w.died b)
+        alive m (inl z) = let y : 0 ≡ b + 1 = sym (ap (λ (i : Node). i.block) z) ∙ is in absurd (omega arith)
+        alive (inl z) (inr o) = let e : w.died o.0 ≡ w.died b = ap w.died (one_more o.0 b (sym o.2 ∙ is)) in let y = low_q in ⊎_elim (λ a. inl (sym e ∙ a)) (λ a. inr (omega arith)) (o.5 z)
+        alive (inr m) (inr o) = let e : w.died o.0 ≡ w.died b = ap w.died (one_more o.0 b (sym o.2 ∙ is)) in let y : l.died ≡ w.died o.0 = o.4 (omega arith) in inr (omega arith)
+
+    -- BORN of the block: the name is bisected
+    pub finds_it : (x k b : ℕ) (t : Bool) → (v.read j).walk ≡ At x k b t → 0 < w.born b → w.born b ≤ q0 → Rule s w n (record v { read = update v.read j (walked (v.read j).went Still (record { round = q0; name = k; bisected = true } ∷ (v.read j).notes)) }) g
+    finds_it x k b t at p l = let h = subst (Walks s w.name w.hist w.born w.died g.life (g.who q0) q0 (v.read j).went) at ((r.goes j).walk q0 pinned) in
+        let c : chained (g.life b) t ≡ x + 1 = ⊎_elim (λ y. placed_chained (g.life b) t x y.0 y.1 y.2 h.1) (λ y. let z = r.chains.undone b y.0 y.1 y.2 in absurd (omega arith)) (standing (g.life b) t x h.1) in
+        let u = r.names.sound q0 can b t x c (p, l, (went_ok b h.0).1) in let e = name_one s w n v g r q0 x (w.name (member_of b t)) k u.1 h.2 in
+        walks_on (v.read j).went Still (record { round = q0; name = k; bisected = true } ∷ (v.read j).notes) went_ok tt (note_yes k b (ap (g.who q0) (sym e) ∙ u.0)) (note_yes_no k)
+
+    -- or the block is passed by
+    pub passes : (x k b : ℕ) (t : Bool) → (v.read j).walk ≡ At x k b t → (w.born b ≡ 0) ⊎ (q0 < w.born b) → Rule s w n (record v { read = update v.read j (walked (v.read j).went (Past x k b t) (v.read j).notes) }) g
+    passes x k b t at not = let h = subst (Walks s w.name w.hist w.born w.died g.life (g.who q0) q0 (v.read j).went) at ((r.goes j).walk q0 pinned) in
+        walks_on (v.read j).went (Past x k b t) (v.read j).notes went_ok (h.0, h.1, h.2, λ c e. ⊎_elim (λ y. let z : w.born b ≡ w.born c = ap w.born y.0 in let y0 = y.1.0 in let y1 = y.1.1 in absurd (omega arith)) (λ y. y) (h.3 c e))
+        (λ i q u. (r.goes j).yes_notes i q u) (λ i q u. (r.goes j).no_notes i q u)

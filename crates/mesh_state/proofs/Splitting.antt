@@ -1,0 +1,127 @@
+-- A pass is made, and a pass ends.
+use Rattle.std.proofs.Common.{◌≡◌, ◌≢◌, ℕ, suc, ◌+◌, ◌<◌, ◌≤◌, List, [], ◌⊎◌, refl, sym, ap, ◌∙◌, subst, inl, inr, ⊎_elim, arith}
+use mathlib.Core.Logic.{dite}
+use native.Mathlib.Decide.{ℕ_discrete}
+use Rattle.mesh_words.specs.Setup.{Setup}
+use Rattle.mesh_words.specs.Functions.{update}
+use Rattle.mesh_words.specs.Sums.{sum_below, one_where}
+use Rattle.mesh_words.specs.Words.{Words}
+use Rattle.mesh_words.specs.Views.{Views, Work, unsure, Note, Read}
+use Rattle.mesh_words.specs.Claims.{Progress, claim}
+use Rattle.mesh_words.specs.Entries.{HasEntry}
+use Rattle.mesh_words.proofs.Functions.{update_same, update_at, update_other, update_cases}
+use Rattle.mesh_words.proofs.Sums.{sum_same}
+use Rattle.mesh_state.specs.Ghosts.{Held, Ghost}
+use Rattle.mesh_state.specs.Bisections.{MayRead}
+use Rattle.mesh_state.specs.Work.{WorkRule}
+use Rattle.mesh_state.specs.Sure.{SureRule}
+use Rattle.mesh_state.specs.Readers.{ReaderRule}
+use Rattle.mesh_state.specs.Rule.{Rule}
+use Rattle.mesh_words.proofs.Sums.{one_if, none_if}
+use Rattle.mesh_state.specs.Fresh.{idle, blank}
+
+module _ (s : Setup) (w : Words) (n : ℕ) (v : Views) (g : Ghost) (r : Rule s w n v g) where
+  new_kind : v.kind n ≡ 0
+  new_kind = r.pins.few n (omega arith)
+
+  not_first : n ≢ 0
+  not_first e = let t = r.rules.owner.1 in omega arith
+
+  new_claims : (x m : ℕ) (p : Progress) → g.stage x ≡ Held n m p → ⊥
+  new_claims x m p h = ⊎_elim not_first (λ k. let z = new_kind in omega arith) (r.holders x n m p h)
+
+  -- a sum over one seat more
+  one_more_seat : (f f' : ℕ → ℕ) → ((i : ℕ) → i < n → f' i ≡ f i) → sum_below (n + 1) f' ≡ sum_below n f + f' n
+  one_more_seat f f' e = let a : sum_below (n + 1) f' ≡ sum_below n f' + f' n = succ f' in let b = sum_same n f f' e in omega arith
+    where
+      succ : (h : ℕ → ℕ) → sum_below (n + 1) h ≡ sum_below n h + h n
+      succ h = ap (λ (k : ℕ). sum_below k h) one
+        where
+          one : n + 1 ≡ suc n
+          one = omega arith
+
+  -- the seat n becomes a pass of the kind 1 or 2
+  module _ (kind workers readers : ℕ) (which : ((kind ≡ 1) × ((v.ruling.phase ≡ 1) ⊎ (v.ruling.phase ≡ 2)) × (workers ≡ v.ruling.workers + 1) × (readers ≡ v.ruling.readers)) ⊎ ((kind ≡ 2) × (v.ruling.readers ≤ s.passes) × (workers ≡ v.ruling.workers) × (readers ≡ v.ruling.readers + 1))) where
+    abbrev kind' : ℕ → ℕ
+    kind' = update v.kind n kind
+
+    kind_old : (j : ℕ) → j < n → kind' j ≡ v.kind j
+    kind_old j l = update_other v.kind n j kind (λ (e : j ≡ n). omega arith)
+
+    counted : (k : ℕ) → sum_below (n + 1) (λ j. one_where (kind' j) k) ≡ sum_below n (λ j. one_where (v.kind j) k) + one_where kind k
+    counted k = one_more_seat (λ j. one_where (v.kind j) k) (λ j. one_where (kind' j) k) (λ i l. ap (λ (x : ℕ). one_where x k) (kind_old i l)) ∙ ap (λ (x : ℕ). sum_below n (λ j. one_where (v.kind j) k) + one_where x k) (update_same v.kind n kind)
+
+    -- A pass is made: the owner is no longer sure of any word, where it is a pass at work
+    pub splits : (notes : List Note) → ((k : Note) → HasEntry notes k → HasEntry (v.read 0).notes k)
+        → Rule s w (n + 1) (record v { kind = kind'; claims = update v.claims n []; work = update v.work n idle; sure = update (update v.sure 0 unsure) n unsure; read = update v.read n (blank notes); ruling = record v.ruling { workers = workers; readers = readers } }) g
+    splits notes told = record {
+      names_apart = r.names_apart;
+      claims = record {
+        held = update_cases (λ j cs. (x m : ℕ) (p : Progress) → HasEntry cs (claim x m p) → g.stage x ≡ Held j m p) v.claims n [] (λ x m p h. absurd h) (λ j _. r.claims.held j);
+        holds = update_cases (λ j cs. (x m : ℕ) (p : Progress) → g.stage x ≡ Held j m p → HasEntry cs (claim x m p)) v.claims n [] (λ x m p h. absurd (new_claims x m p h)) (λ j _. r.claims.holds j);
+        bits = r.claims.bits;
+        inside = r.claims.inside;
+        mates = r.claims.mates;
+        shape = r.claims.shape;
+        kept = r.claims.kept;
+        half = r.claims.half;
+        rows = r.claims.rows;
+        apart = r.claims.apart;
+        drawn = r.claims.drawn;
+        living = r.claims.living;
+        none = r.claims.none;
+      };
+      labels = r.labels;
+      chains = r.chains;
+      names = record { fits = λ q k. r.names.fits q (back q k); sound = λ q k. r.names.sound q (back q k); patch = r.names.patch; calm = r.names.calm; grows = r.names.grows; fresh = r.names.fresh };
+      pins = record {
+        now = r.pins.now;
+        later = r.pins.later;
+        count = λ q. r.pins.count q ∙ ap (λ (x : ℕ). w.released q + x) (sym (sum (λ (u : Read). one_where u.pin (q + 1)) (none_if 0 (q + 1) (λ (e : 0 ≡ q + 1). omega arith))));
+        past = update_cases (λ _ u. (q : ℕ) → u.pin ≡ q + 1 → q ≤ w.round) v.read n (blank notes) (λ q e. absurd (omega arith)) (λ j _. r.pins.past j);
+        few = λ j l. update_other v.kind n j kind (λ (e : j ≡ n). omega arith) ∙ r.pins.few j (omega arith);
+        readers = λ j o. dite (ℕ_discrete j n) (λ e. let u = update_at v.read n j (blank notes) e in (ap (λ (x : Read). x.pin) u, ap (λ (x : Read). x.ready) u))
+            (λ f. subst (λ (x : Read). (x.pin ≡ 0) × (x.ready ≡ 0)) (sym (update_other v.read n j (blank notes) f)) (r.pins.readers j (λ k. o (update_other v.kind n j kind f ∙ k))));
+        bit = update_cases (λ _ u. u.ready ≤ 1) v.read n (blank notes) (omega arith) (λ j _. r.pins.bit j);
+        bound = let a = sum (λ (u : Read). u.ready) refl in let b = r.pins.bound in omega arith;
+      };
+      works = λ j. dite (ℕ_discrete j n)
+          (λ e. subst (λ (u : Work). WorkRule s w.round v.ruling.phase w.name w.born w.died g.life (g.who (w.round + 1)) (kind' j) j u) (sym (update_at v.work n j idle e))
+          record { only = λ _ _. (refl, refl, refl, refl); found = λ x i f. absurd f; known = λ i f. absurd f; open_ = λ i f. absurd f; given = λ b i f. absurd f })
+          (λ o. subst (λ (u : Work × ℕ). WorkRule s w.round v.ruling.phase w.name w.born w.died g.life (g.who (w.round + 1)) u.1 j u.0) (λ i. (sym (update_other v.work n j idle o) i, sym (update_other v.kind n j kind o) i)) (r.works j));
+      sure = update_cases (λ j u. SureRule s.elements workers w.head w.hist w.born w.died w.name w.row g.stage j u) (update v.sure 0 unsure) n unsure
+          nothing_sure
+          (λ j _. update_cases (λ j u. SureRule s.elements workers w.head w.hist w.born w.died w.name w.row g.stage j u) v.sure 0 unsure nothing_sure (λ i ne. let t = r.sure i in record {
+            head_is = λ z l f h. t.head_is z l f (⊎_elim (λ e. absurd (ne e.0)) inr h);
+            hist_is = λ b u l f h. t.hist_is b u l f (⊎_elim (λ e. absurd (ne e.0)) inr h);
+            died_is = λ b k f h. t.died_is b k f (⊎_elim (λ e. absurd (ne e.0)) inr h);
+            name_is = λ b u k f h. t.name_is b u k f (⊎_elim (λ e. absurd (ne e.0)) inr h);
+            born_is = λ b k f z _. absurd (ne z);
+            row_is = λ b k f z _. absurd (ne z);
+          }) j);
+      goes = update_cases (λ _ u. ReaderRule s w.round w.name w.hist w.born w.died g.life g.who u) v.read n (blank notes)
+          record { went = λ q b p f. absurd f; walk = λ q p. tt; yes_notes = λ k q h. (r.goes 0).yes_notes k q (told _ h); no_notes = λ k q h. (r.goes 0).no_notes k q (told _ h) }
+          (λ j _. r.goes j);
+      rules = record {
+        owner = (update_other v.kind n 0 kind (λ e. not_first (sym e)) ∙ r.rules.owner.0, omega arith);
+        one = λ j e. dite (ℕ_discrete j n) (λ f. let z = update_at v.kind n j kind f in absurd (⊎_elim (λ t. let t0 = t.0 in omega arith) (λ t. let t0 = t.0 in omega arith) which)) (λ f. r.rules.one j (sym (update_other v.kind n j kind f) ∙ e));
+        workers = let c = counted 1 in let a = r.rules.workers in ⊎_elim (λ t. let b = one_if kind 1 t.0 in let t2 = t.2 in omega arith) (λ t. let t0 = t.0 in let b = none_if kind 1 (λ (e : kind ≡ 1). omega arith) in let t2 = t.2 in omega arith) which;
+        readers = let c = counted 2 in let a = r.rules.readers in ⊎_elim (λ t. let t0 = t.0 in let b = none_if kind 2 (λ (e : kind ≡ 2). omega arith) in let t3 = t.3 in omega arith) (λ t. let b = one_if kind 2 t.0 in let t3 = t.3 in omega arith) which;
+        few_readers = let a = r.rules.few_readers in ⊎_elim (λ t. let t3 = t.3 in omega arith) (λ t. let t1 = t.1 in let t3 = t.3 in omega arith) which;
+        halves = λ a b. ⊎_elim (λ t. absurd (⊎_elim a b t.1)) (λ t. t.2 ∙ r.rules.halves a b) which;
+        clear = r.rules.clear;
+      };
+      holders = λ x j m p h. ⊎_elim inl (λ k. inr (update_other v.kind n j kind (λ (e : j ≡ n). new_claims x m p (h ∙ ap (λ (i : ℕ). Held i m p) e)) ∙ k)) (r.holders x j m p h);
+      hand = r.hand;
+    }
+      where
+        nothing_sure : {j : ℕ} → SureRule s.elements workers w.head w.hist w.born w.died w.name w.row g.stage j unsure
+        nothing_sure {j = j} = record { head_is = λ z l f h. absurd f; hist_is = λ b t l f h. absurd f; died_is = λ b k f h. absurd f; name_is = λ b t k f h. absurd f; born_is = λ b k f h i. absurd f; row_is = λ b k f h i. absurd f }
+
+        sum : (f : Read → ℕ) → f (blank notes) ≡ 0 → sum_below (n + 1) (λ j. f (update v.read n (blank notes) j)) ≡ sum_below n (λ j. f (v.read j))
+        sum f z = one_more_seat (λ j. f (v.read j)) (λ j. f (update v.read n (blank notes) j)) (λ i l. ap f (update_other v.read n i (blank notes) (λ (e : i ≡ n). omega arith))) ∙ (let a : f (update v.read n (blank notes) n) ≡ f (blank notes) = ap f (update_same v.read n (blank notes)) in omega arith)
+
+        back : (q : ℕ) → MayRead w.round v.ruling.phase (update v.read n (blank notes)) q → MayRead w.round v.ruling.phase v.read q
+        back q (inr k) = inr k
+        back q (inl (inl e)) = inl (inl e)
+        back q (inl (inr t)) = dite (ℕ_discrete t.0 n) (λ e. let z : 0 ≡ q + 1 = sym (ap (λ (x : Read). x.pin) (update_at v.read n t.0 (blank notes) e)) ∙ t.1 in absurd (omega arith)) (λ o. inl (inr (t.0, sym (ap (λ (x : Read). x.pin) (update_other v.read n t.0 (blank notes) o)) ∙ t.1)))

@@ -1,0 +1,302 @@
+-- The owner's sweeps keep the composed rule.
+use Rattle.std.proofs.Common.{◌≡◌, ◌≢◌, ℕ, ◌+◌, ◌<◌, ◌≤◌, ◌==◌, cond, Bool, true, false, List, ◌∷◌, ◌⊎◌, refl, sym, ap, ◌∙◌, subst, inl, inr, ⊎_elim, arith}
+use mathlib.Core.Logic.{dite}
+use native.Mathlib.Decide.{ℕ_discrete, dec_lt}
+use Rattle.mesh_words.specs.Setup.{Setup}
+use Rattle.mesh_words.specs.Functions.{update}
+use Rattle.mesh_words.specs.Words.{Words, Node, node}
+use Rattle.mesh_words.specs.Views.{Views, Sure}
+use Rattle.mesh_words.specs.Claims.{Progress, Drawn, Half, Claim, claim}
+use Rattle.mesh_words.specs.Places.{member_of}
+use Rattle.mesh_words.specs.Entries.{HasEntry, Noted}
+use Rattle.mesh_words.proofs.Functions.{update_same, update_at, update_other, update_cases}
+use Rattle.mesh_words.proofs.Entries.{noted_after}
+use Rattle.mesh_state.specs.Ghosts.{Stage, Held, Life, Free, Placed, Undone, chained, stands, Ghost}
+use Rattle.mesh_state.specs.Chains.{Covers, IsPlace, ChainsRule}
+use Rattle.mesh_state.specs.Claims.{ClaimsRule}
+use Rattle.mesh_state.specs.Bisections.{MayRead}
+use Rattle.mesh_state.specs.Sure.{GuardsBlock, GuardsHead, SureRule}
+use Rattle.mesh_state.specs.Rule.{Rule}
+use Rattle.mesh_state.proofs.FoundAgain.{placed, chained_stands, names_on, goes_on, Moves}
+use Rattle.mesh_state.proofs.ChainSteps.{moves_same, skips, cuts_hist}
+use Rattle.mesh_state.proofs.BlockSteps.{resets, frees}
+use Rattle.mesh_state.proofs.HeldClaims.{not_open, free_not}
+use Rattle.mesh_state.proofs.Across.{Went, some_worker, no_pin}
+
+module _ (s : Setup) (w : Words) (n : ℕ) (v : Views) (g : Ghost) (r : Rule s w n v g) where
+  abbrev d : ℕ
+  d = w.round + 1
+
+  abbrev pub A : ℕ → ℕ → Type 0
+  A = Went w.died v.read
+
+  abbrev pub Can : ℕ → Type 0
+  Can q = MayRead w.round v.ruling.phase v.read q
+
+  -- no pass is at work
+  abbrev pub Quiet : Type 0
+  Quiet = (v.ruling.phase ≡ 1 → ⊥) × (v.ruling.phase ≡ 2 → ⊥)
+
+  pub none_out : Quiet → v.ruling.workers ≡ 0
+  none_out q = r.rules.halves q.0 q.1
+
+  -- then each claim is the owner's
+  pub owners : Quiet → (x j m : ℕ) (p : Progress) → g.stage x ≡ Held j m p → j ≡ 0
+  owners q x j m p h = ⊎_elim (λ e. e) (λ k. let a = some_worker s w n v g r j k in let b = none_out q in absurd (omega arith)) (r.holders x j m p h)
+
+  -- the words that the owner is sure of, by themselves
+  pub record OwnSure (head hist : ℕ → Node) (born died name row : ℕ → ℕ) (u : Sure) : Type 0 where
+    pub heads : (z : ℕ) (l : Node) → Noted u.head z l → head z ≡ l
+    pub hists : (b : ℕ) (t : Bool) (l : Node) → Noted u.hist (member_of b t) l → hist (member_of b t) ≡ l
+    pub dieds : (b k : ℕ) → Noted u.died b k → died b ≡ k
+    pub names : (b : ℕ) (t : Bool) (k : ℕ) → Noted u.name (member_of b t) k → name (member_of b t) ≡ k
+    pub borns : (b k : ℕ) → Noted u.born b k → born b ≡ k
+    pub rows : (i b : ℕ) → Noted u.row i b → row i ≡ b
+
+  pub own_sure : Quiet → OwnSure w.head w.hist w.born w.died w.name w.row (v.sure 0)
+  own_sure q = let z = none_out q in let i = r.sure 0 in record {
+    heads = λ y l f. i.head_is y l f (inl (refl, z));
+    hists = λ b t l f. i.hist_is b t l f (inl (refl, z));
+    dieds = λ b k f. i.died_is b k f (inl (refl, z));
+    names = λ b t k f. i.name_is b t k f (inl (refl, z));
+    borns = λ b k f. i.born_is b k f refl z;
+    rows = λ a b f. i.row_is a b f refl z;
+  }
+
+  -- what a sweep is to show: the rest of the rule reads nothing that it changes
+  pub sweeps : Quiet → (cursor free : ℕ) (row claimed : ℕ → ℕ) (head hist : ℕ → Node) (born died : ℕ → ℕ) (life : ℕ → Life) (stage : ℕ → Stage) (cs : List Claim) (u : Sure) (hand : List ℕ)
+      → ClaimsRule s w.round cursor free v.ruling.phase row claimed head born life stage (update v.claims 0 cs) → ChainsRule s.elements w.round head hist born died life × Moves Can A s.elements w.round w.head w.hist head hist w.born w.died born died g.life life
+      → ((b x m : ℕ) → life b ≡ Placed x m → (g.life b ≡ Placed x m) × ((v.ruling.phase ≡ 2 → ⊥) × (v.ruling.phase ≡ 3 → ⊥) → died b ≡ w.died b)) → ((x j m : ℕ) (p : Progress) → stage x ≡ Held j m p → j ≡ 0) → OwnSure head hist born died w.name row u
+      → ((b : ℕ) → HasEntry hand b → (v.ruling.phase ≡ 1 → ⊥) × (life b ≡ Free))
+      → Rule s (record w { cursor = cursor; free = free; row = row; claimed = claimed; head = head; hist = hist; born = born; died = died }) n (record v { claims = update v.claims 0 cs; sure = update v.sure 0 u; ruling = record v.ruling { hand = hand } }) (record g { stage = stage; life = life })
+  sweeps q cursor free row claimed head hist born died life stage cs u hand claims ch back own sure hands = record {
+    names_apart = r.names_apart;
+    claims = claims;
+    labels = λ x j m p h e. absurd (q.0 e);
+    chains = ch.0;
+    names = names_on s w.name w.name w.head w.hist head hist w.born w.died born died g.life life (λ _ _ _ _ _. refl) w.round v.ruling.phase g.who v.read Can A ch.1 (λ _ k. k) (λ b x m h. r.names.patch b x m (back b x m h).0)
+        (λ b x m l h. let t = back b x m h in let e = t.1 l in let c = r.names.calm b x m l t.0 in omega arith) r.names;
+    pins = r.pins;
+    works = λ j. let k = r.works j in record {
+      only = k.only;
+      found = λ x i h. absurd (q.0 (k.found x i h).0);
+      known = λ i h. absurd (q.0 (k.known i h).0);
+      open_ = λ i h. absurd (q.1 (k.open_ i h).0);
+      given = λ b i h. absurd (q.1 (k.given b i h).0);
+    };
+    sure = update_cases (λ j y. SureRule s.elements v.ruling.workers head hist born died w.name row stage j y) v.sure 0 u
+        record {
+          head_is = λ z l f _. sure.heads z l f;
+          hist_is = λ b t l f _. sure.hists b t l f;
+          died_is = λ b k f _. sure.dieds b k f;
+          name_is = λ b t k f _. sure.names b t k f;
+          born_is = λ b k f _ _. sure.borns b k f;
+          row_is = λ i b f _ _. sure.rows i b f;
+        }
+        (λ j ne. record {
+          head_is = λ z l f h. absurd (no_head j ne z h);
+          hist_is = λ b t l f h. absurd (no_block j ne b h);
+          died_is = λ b k f h. absurd (no_block j ne b h);
+          name_is = λ b t k f h. absurd (no_block j ne b h);
+          born_is = λ b k f z _. absurd (ne z);
+          row_is = λ i b f z _. absurd (ne z);
+        });
+    goes = λ j. goes_on s w.name w.name w.head w.hist head hist w.born w.died born died g.life life (λ _ _ _ _ _. refl) w.round v.ruling.phase g.who v.read Can A ch.1 (λ i p e. (inl (inr (i, e)), r.pins.past i p e)) (λ i p b e h a. (i, e, h, a)) (λ p k. r.names.fits p k) j (r.goes j);
+    rules = record { owner = r.rules.owner; one = r.rules.one; workers = r.rules.workers; readers = r.rules.readers; few_readers = r.rules.few_readers; halves = r.rules.halves; clear = r.rules.clear };
+    holders = λ x j m p h. inl (own x j m p h);
+    hand = hands;
+  }
+    where
+      no_block : (j : ℕ) → j ≢ 0 → (b : ℕ) → GuardsBlock v.ruling.workers stage j b → ⊥
+      no_block j ne b (inl t) = ne t.0
+      no_block j ne b (inr t) = ⊎_elim (λ h. ne (own t.0 j t.1 (Drawn b) h)) (λ h. ne (own t.0 j t.1 (Half b) h)) t.2
+
+      no_head : (j : ℕ) → j ≢ 0 → (z : ℕ) → GuardsHead s.elements v.ruling.workers stage j z → ⊥
+      no_head j ne z (inl t) = ne t.0
+      no_head j ne z (inr t) = ⊎_elim (λ h. ne (own t.0 j t.1 (Drawn t.2) h.0)) (λ h. ne (own t.0 j t.1 (Half t.2) h.0)) t.3
+
+  -- before the round no place is held, so its words are said by the rows alone
+  module _ (zero_ : v.ruling.phase ≡ 0) where
+    quiet : Quiet
+    quiet = ((λ e. absurd (omega arith)), λ e. absurd (omega arith))
+
+    own : OwnSure w.head w.hist w.born w.died w.name w.row (v.sure 0)
+    own = own_sure quiet
+
+    no_stage : (x j m : ℕ) (p : Progress) → g.stage x ≡ Held j m p → ⊥
+    no_stage x j m p h = not_open j m p (sym h ∙ r.claims.none x zero_)
+
+    -- claims where only heads, rows and the lives of other blocks change
+    pub calm_claims : (cursor free : ℕ) (row : ℕ → ℕ) (head : ℕ → Node) (born : ℕ → ℕ) (life : ℕ → Life) → ((b x m : ℕ) → life b ≡ Placed x m → (g.life b ≡ Placed x m) × (born b ≡ w.born b))
+        → ((i : ℕ) → cursor ≤ i → i < free → (life (row i) ≡ Free) × (born (row i) ≡ 0)) → ((i k : ℕ) → cursor ≤ i → i < free → cursor ≤ k → k < free → row i ≡ row k → i ≡ k)
+        → ClaimsRule s w.round cursor free v.ruling.phase row w.claimed head born life g.stage (update v.claims 0 (v.claims 0))
+    calm_claims cursor free row head born life back rows apart = record {
+      held = update_cases (λ j cs. (x m : ℕ) (p : Progress) → HasEntry cs (claim x m p) → g.stage x ≡ Held j m p) v.claims 0 (v.claims 0) (r.claims.held 0) (λ j _. r.claims.held j);
+      holds = λ j x m p h. absurd (no_stage x j m p h);
+      bits = r.claims.bits;
+      inside = r.claims.inside;
+      mates = λ x j y p h. absurd (no_stage x j (y + 1) p h);
+      shape = λ x j m p h. absurd (no_stage x j m p h);
+      kept = λ b x m u e l. let t = back b x m u in r.claims.kept b x m t.0 (sym t.1 ∙ e) l;
+      half = λ b x m u e. let t = back b x m u in r.claims.half b x m t.0 (sym t.1 ∙ e);
+      rows = rows;
+      apart = apart;
+      drawn = λ e. absurd (omega arith);
+      living = λ x j m p h e. absurd (omega arith);
+      none = r.claims.none;
+    }
+
+    -- no pin is out of a round before the block's last
+    abbrev pub Clear : ℕ → Type 0
+    Clear e = (q : ℕ) → q < e → HasEntry v.ruling.clear q
+
+    -- so no round that may be read has the block
+    pub over : (b : ℕ) → 0 < w.died b → w.died b ≤ w.round → Clear (w.died b) → (q : ℕ) → Can q → (w.died b ≡ 0) ⊎ (q < w.died b) → ⊥
+    over b p l c q k = ⊎_elim (λ z. omega arith) (λ z. ⊎_elim (λ y. ⊎_elim (λ e. omega arith) (λ t. cleared q (c q z) t.0 t.1) y) (λ y. let e = y.0 in omega arith) k)
+      where
+        cleared : (q : ℕ) → HasEntry v.ruling.clear q → (j : ℕ) → (v.read j).pin ≡ q + 1 → ⊥
+        cleared q h j e = no_pin s w n v g r q h j e
+
+    not_covers : (b : ℕ) → 0 < w.died b → w.died b ≤ w.round → Clear (w.died b) → (q : ℕ) → Can q → Covers w.born w.died q b → ⊥
+    not_covers b p l c q k h = over b p l c q k h.2
+
+    add_head : (x : ℕ) (l : Node) → OwnSure (update w.head x l) w.hist w.born w.died w.name w.row (record (v.sure 0) { head = (x, l) ∷ (v.sure 0).head })
+    add_head x l = record { heads = noted_after (v.sure 0).head w.head x l own.heads; hists = own.hists; dieds = own.dieds; names = own.names; borns = own.borns; rows = own.rows }
+
+    -- a head is led past a block whose rounds are clear
+    pub cuts_head : (x b e : ℕ) (t : Bool) (l : Node) → Noted (v.sure 0).head x (node (b + 1) e) → Noted (v.sure 0).died b e → Noted (v.sure 0).hist (member_of b t) l → 0 < e → Clear e → chained (g.life b) t ≡ x + 1
+        → Rule s (record w { head = update w.head x l }) n (record v { claims = update v.claims 0 (v.claims 0); sure = update v.sure 0 (record (v.sure 0) { head = (x, l) ∷ (v.sure 0).head }) }) g
+    cuts_head x b e t l f1 f2 f3 p c at = let h = own.heads x (node (b + 1) e) f1 in let dd : w.died b ≡ e = own.dieds b e f2 in let hh = own.hists b t l f3 in let pl = placed (g.life b) t x at in let calm = r.names.calm b pl.0 pl.1 ((λ z. omega arith), λ z. omega arith) pl.2 in
+        let m = skips Can A s.elements w.round w.head w.hist w.born w.died g.life r.chains x b t (ap (λ (i : Node). i.block) h) (chained_stands (g.life b) t x at) (not_covers b (omega arith) calm (subst Clear (sym dd) c)) in
+        sweeps quiet w.cursor w.free w.row w.claimed (update w.head x l) w.hist w.born w.died g.life g.stage (v.claims 0) _ v.ruling.hand
+        (calm_claims w.cursor w.free w.row (update w.head x l) w.born g.life (λ _ _ _ u. (u, refl)) r.claims.rows r.claims.apart)
+        (subst (λ (i : Node). ChainsRule s.elements w.round (update w.head x i) w.hist w.born w.died g.life × Moves Can A s.elements w.round w.head w.hist (update w.head x i) w.hist w.born w.died w.born w.died g.life g.life) hh m)
+        (λ _ _ _ u. (u, λ _. refl)) (λ y j k p h. absurd (no_stage y j k p h)) (add_head x l) r.hand
+
+    -- a history word is
+    pub cuts_history : (a x b e : ℕ) (u t : Bool) (l : Node) → Noted (v.sure 0).hist (member_of a u) (node (b + 1) e) → Noted (v.sure 0).died b e → Noted (v.sure 0).hist (member_of b t) l → 0 < e → Clear e → stands (g.life a) u ≡ x + 1 → chained (g.life b) t ≡ x + 1
+        → Rule s (record w { hist = update w.hist (member_of a u) l }) n (record v { claims = update v.claims 0 (v.claims 0); sure = update v.sure 0 (record (v.sure 0) { hist = (member_of a u, l) ∷ (v.sure 0).hist }) }) g
+    cuts_history a x b e u t l f1 f2 f3 p c ua at = let h = own.hists a u (node (b + 1) e) f1 in let dd : w.died b ≡ e = own.dieds b e f2 in let hh = own.hists b t l f3 in let pl = placed (g.life b) t x at in let calm = r.names.calm b pl.0 pl.1 ((λ z. omega arith), λ z. omega arith) pl.2 in
+        let m = cuts_hist Can A s.elements w.round w.head w.hist w.born w.died g.life r.chains a b x u t ua (h ∙ ap (node (b + 1)) (sym dd)) at (omega arith) (not_covers b (omega arith) calm (subst Clear (sym dd) c)) in
+        sweeps quiet w.cursor w.free w.row w.claimed w.head (update w.hist (member_of a u) l) w.born w.died g.life g.stage (v.claims 0) _ v.ruling.hand
+        (calm_claims w.cursor w.free w.row w.head w.born g.life (λ _ _ _ u. (u, refl)) r.claims.rows r.claims.apart)
+        (subst (λ (i : Node). ChainsRule s.elements w.round w.head (update w.hist (member_of a u) i) w.born w.died g.life × Moves Can A s.elements w.round w.head w.hist w.head (update w.hist (member_of a u) i) w.born w.died w.born w.died g.life g.life) hh m)
+        (λ _ _ _ u. (u, λ _. refl)) (λ y j k p h. absurd (no_stage y j k p h))
+        record { heads = own.heads; hists = λ i j k f. ⊎_elim (λ y. update_at w.hist (member_of a u) (member_of i j) l (sym y.0) ∙ y.1) (λ y. update_other w.hist (member_of a u) (member_of i j) l (λ z. y.0 (sym z)) ∙ own.hists i j k y.1) f; dieds = own.dieds; names = own.names; borns = own.borns; rows = own.rows } r.hand
+
+    moves_id : ChainsRule s.elements w.round w.head w.hist w.born w.died g.life × Moves Can A s.elements w.round w.head w.hist w.head w.hist w.born w.died w.born w.died g.life g.life
+    moves_id = (r.chains, moves_same Can A s.elements w.round w.head w.hist w.born w.died g.life w.head w.hist w.born w.died (λ _ _. refl) (λ _ _ _ _. refl) (λ _ _ _ _ _ _ h. h) (λ _ _ _ _ _ _ h. h) (λ _ _ _ _ _ _ h. h))
+
+    by_bool : (x : Bool) → (x ≡ true → ⊥) → x ≡ false
+    by_bool true h = absurd (h refl)
+    by_bool false h = refl
+
+    gone_free : (gone : ℕ → Bool) (c : ℕ) → gone c ≡ true → cond (gone c) Free (g.life c) ≡ Free
+    gone_free gone c e = ap (λ (t : Bool). cond t Free (g.life c)) e
+
+    gone_not : (gone : ℕ → Bool) (c : ℕ) → gone c ≡ false → cond (gone c) Free (g.life c) ≡ g.life c
+    gone_not gone c e = ap (λ (t : Bool). cond t Free (g.life c)) e
+
+    either_free : (gone : ℕ → Bool) (c : ℕ) → g.life c ≡ Free → cond (gone c) Free (g.life c) ≡ Free
+    either_free gone c e = by (gone c) refl
+      where
+        by : (t : Bool) → gone c ≡ t → cond (gone c) Free (g.life c) ≡ Free
+        by true f = gone_free gone c f
+        by false f = gone_not gone c f ∙ e
+
+    -- All blocks of a list become free at once, where the owner has swept every word of a chain: no word is written
+    pub frees_all : (gone : ℕ → Bool) (hand : List ℕ) → ((c : ℕ) → gone c ≡ true → ((e : ℕ) × Noted (v.sure 0).died c e × (0 < e) × (e ≤ w.round) × Clear e) ⊎ ((x : ℕ) × (m : ℕ) × (g.life c ≡ Undone x m) × Clear w.round × ((j : ℕ) → (v.read j).pin ≡ w.round + 1 → HasEntry (v.read j).went c → ⊥)))
+        → ((x : ℕ) → IsPlace s.elements g.life x → (l : Node) × Noted (v.sure 0).head x l × ((c : ℕ) → l.block ≡ c + 1 → gone c ≡ false))
+        → ((b : ℕ) (t : Bool) (x : ℕ) → stands (g.life b) t ≡ x + 1 → gone b ≡ false → (l : Node) × Noted (v.sure 0).hist (member_of b t) l × ((c : ℕ) → l.block ≡ c + 1 → gone c ≡ false))
+        → ((c : ℕ) → HasEntry hand c → HasEntry v.ruling.hand c ⊎ (gone c ≡ true))
+        → Rule s w n (record v { claims = update v.claims 0 (v.claims 0); sure = update v.sure 0 (v.sure 0); ruling = record v.ruling { hand = hand } }) (record g { life = λ c. cond (gone c) Free (g.life c) })
+    frees_all gone hand clear heads hists more = sweeps quiet w.cursor w.free w.row w.claimed w.head w.hist w.born w.died _ g.stage (v.claims 0) (v.sure 0) hand
+        (calm_claims w.cursor w.free w.row w.head w.born (λ c. cond (gone c) Free (g.life c)) (λ b x m u. (back b x m u, refl)) (λ i a l. let t = r.claims.rows i a l in (either_free gone (w.row i) t.0, t.1)) r.claims.apart)
+        (frees Can A s.elements w.round w.head w.hist w.born w.died g.life r.chains gone
+        (λ c e q k. ⊎_elim (λ t. let dd = own.dieds c t.0 t.1 in let t2 = t.2 in let t3 = t.3 in let o = over c (omega arith) (omega arith) (subst Clear (sym dd) t.4) q k in ((λ _ _ _. o), λ a. o a.3)) (λ t. ((λ u y h. absurd (not_chained c u y t.0 t.1 t.2 h)), λ a. unvisited c q t.3 t.4 a)) (clear c e))
+        (λ x c l h e. let t = heads x l in clash (gone c) e (t.2 c (sym (ap (λ (i : Node). i.block) (own.heads x t.0 t.1)) ∙ h)))
+        (λ b t x c u f h e. let k = hists b t x u f in clash (gone c) e (k.2 c (sym (ap (λ (i : Node). i.block) (own.hists b t k.0 k.1)) ∙ h))))
+        (λ b x m u. (back b x m u, λ _. refl)) (λ y j k p h. absurd (no_stage y j k p h)) own
+        (λ c h. ((λ e. omega arith), ⊎_elim (λ k. either_free gone c (r.hand c k).1) (λ k. gone_free gone c k) (more c h)))
+      where
+        clash : (t : Bool) → t ≡ true → t ≡ false → ⊥
+        clash t a b = cc
+
+        not_chained : (c : ℕ) (u : Bool) (y x m : ℕ) → g.life c ≡ Undone x m → chained (g.life c) u ≡ y + 1 → ⊥
+        not_chained c u y x m e h = let z : 0 ≡ y + 1 = sym (ap (λ (l : Life). chained l u) e) ∙ h in omega arith
+
+        -- no reader of a round up to the last has gone to a block that was taken back
+        unvisited : (c q : ℕ) → Clear w.round → ((j : ℕ) → (v.read j).pin ≡ w.round + 1 → HasEntry (v.read j).went c → ⊥) → A q c → ⊥
+        unvisited c q f note a = let l = r.pins.past a.0 q a.1 in elim (dec_lt q w.round) [ yes k ↦ no_pin s w n v g r q (f q k) a.0 a.1 | no o ↦ note a.0 (let e : q ≡ w.round = omega arith in a.1 ∙ ap (λ (i : ℕ). i + 1) e) a.2 ]
+
+        back : (b x m : ℕ) → cond (gone b) Free (g.life b) ≡ Placed x m → g.life b ≡ Placed x m
+        back b x m u = sym (gone_not gone b (by_bool (gone b) (λ e. free_not x m (sym (gone_free gone b e) ∙ u)))) ∙ u
+
+    -- BORN of a free block becomes 0
+    pub zeroes : (b : ℕ) → HasEntry v.ruling.hand b → Rule s (record w { born = update w.born b 0 }) n (record v { claims = update v.claims 0 (v.claims 0); sure = update v.sure 0 (record (v.sure 0) { born = (b, 0) ∷ (v.sure 0).born }) }) g
+    zeroes b h = let fr : g.life b ≡ Free = (r.hand b h).1 in let off : (c : ℕ) → c ≢ b → update w.born b 0 c ≡ w.born c = λ c o. update_other w.born b c 0 o in
+        sweeps quiet w.cursor w.free w.row w.claimed w.head w.hist (update w.born b 0) w.died g.life g.stage (v.claims 0) _ v.ruling.hand
+        (calm_claims w.cursor w.free w.row w.head (update w.born b 0) g.life (λ c x m u. (u, off c (λ (e : c ≡ b). free_not x m (sym fr ∙ ap g.life (sym e) ∙ u)))) (λ i a l. let t = r.claims.rows i a l in (t.0, zero_at i t.1)) r.claims.apart)
+        (resets Can A s.elements w.round w.head w.hist w.born w.died g.life r.chains b (λ t. ap (λ (l : Life). chained l t) fr) w.hist (update w.born b 0) w.died (λ c o. ((λ _. refl), off c o, refl)) (let z = update_same w.born b 0 in omega arith)
+        (λ x m u. absurd (free_undone x m (sym fr ∙ u))))
+        (λ _ _ _ u. (u, λ _. refl)) (λ y j k p u. absurd (no_stage y j k p u))
+        record { heads = own.heads; hists = own.hists; dieds = own.dieds; names = own.names; borns = noted_after (v.sure 0).born w.born b 0 own.borns; rows = own.rows } r.hand
+      where
+        free_undone : (x m : ℕ) → Free ≡ Undone x m → ⊥
+        free_undone x m e = cc
+
+        zero_at : (i : ℕ) → w.born (w.row i) ≡ 0 → update w.born b 0 (w.row i) ≡ 0
+        zero_at i z = dite (ℕ_discrete (w.row i) b) (λ e. update_at w.born b (w.row i) 0 e) (λ o. update_other w.born b (w.row i) 0 o ∙ z)
+
+    -- FREE becomes 0, then CURSOR
+    pub stops : (k : ℕ) → (k ≡ 0) ⊎ (w.free ≡ 0) → Rule s (record w { cursor = cond (k == 0) w.cursor 0; free = 0 }) n (record v { claims = update v.claims 0 (v.claims 0); sure = update v.sure 0 (v.sure 0) }) g
+    stops k h = sweeps quiet (cond (k == 0) w.cursor 0) 0 w.row w.claimed w.head w.hist w.born w.died g.life g.stage (v.claims 0) (v.sure 0) v.ruling.hand
+        (calm_claims (cond (k == 0) w.cursor 0) 0 w.row w.head w.born g.life (λ _ _ _ u. (u, refl)) (λ i a l. absurd (omega arith)) (λ i j a l. absurd (omega arith))) moves_id
+        (λ _ _ _ u. (u, λ _. refl)) (λ y j k p u. absurd (no_stage y j k p u)) own r.hand
+
+    -- a row is written while FREE is 0
+    pub lays : (i b : ℕ) → w.free ≡ 0 → Rule s (record w { row = update w.row i b }) n (record v { claims = update v.claims 0 (v.claims 0); sure = update v.sure 0 (record (v.sure 0) { row = (i, b) ∷ (v.sure 0).row }) }) g
+    lays i b z = sweeps quiet w.cursor w.free (update w.row i b) w.claimed w.head w.hist w.born w.died g.life g.stage (v.claims 0) _ v.ruling.hand
+        (calm_claims w.cursor w.free (update w.row i b) w.head w.born g.life (λ _ _ _ u. (u, refl)) (λ k a l. absurd (omega arith)) (λ k j a l. absurd (omega arith))) moves_id
+        (λ _ _ _ u. (u, λ _. refl)) (λ y j k p u. absurd (no_stage y j k p u))
+        record { heads = own.heads; hists = own.hists; dieds = own.dieds; names = own.names; borns = own.borns; rows = noted_after (v.sure 0).row w.row i b own.rows } r.hand
+
+    -- FREE becomes the number of the rows
+    pub opens_rows : (k : ℕ) (at : ℕ → ℕ) → ((i : ℕ) → i < k → Noted (v.sure 0).row i (at i) × HasEntry v.ruling.hand (at i) × Noted (v.sure 0).born (at i) 0) → ((i j : ℕ) → i < k → j < k → at i ≡ at j → i ≡ j)
+        → Rule s (record w { free = k }) n (record v { claims = update v.claims 0 (v.claims 0); sure = update v.sure 0 (v.sure 0) }) g
+    opens_rows k at rows one = sweeps quiet w.cursor k w.row w.claimed w.head w.hist w.born w.died g.life g.stage (v.claims 0) (v.sure 0) v.ruling.hand
+        (calm_claims w.cursor k w.row w.head w.born g.life (λ _ _ _ u. (u, refl))
+        (λ i a l. let t = rows i l in let e : w.row i ≡ at i = own.rows i (at i) t.0 in (ap g.life e ∙ (r.hand (at i) t.1).1, ap w.born e ∙ own.borns (at i) 0 t.2))
+        (λ i j a l b m e. one i j l m (sym (own.rows i (at i) (rows i l).0) ∙ e ∙ own.rows j (at j) (rows j m).0))) moves_id
+        (λ _ _ _ u. (u, λ _. refl)) (λ y j k p u. absurd (no_stage y j k p u)) own r.hand
+
+-- the owner's claims written again
+pub again : (s : Setup) (w : Words) (n : ℕ) (v : Views) (g : Ghost) → Rule s w n v g → Rule s w n (record v { claims = update v.claims 0 (v.claims 0) }) g
+again s w n v g r = record {
+  names_apart = r.names_apart;
+  claims = let c = r.claims in record {
+    held = update_cases (λ j cs. (x m : ℕ) (p : Progress) → HasEntry cs (claim x m p) → g.stage x ≡ Held j m p) v.claims 0 (v.claims 0) (c.held 0) (λ j _. c.held j);
+    holds = update_cases (λ j cs. (x m : ℕ) (p : Progress) → g.stage x ≡ Held j m p → HasEntry cs (claim x m p)) v.claims 0 (v.claims 0) (c.holds 0) (λ j _. c.holds j);
+    bits = c.bits;
+    inside = c.inside;
+    mates = c.mates;
+    shape = c.shape;
+    kept = c.kept;
+    half = c.half;
+    rows = c.rows;
+    apart = c.apart;
+    drawn = c.drawn;
+    living = c.living;
+    none = c.none;
+  };
+  labels = r.labels;
+  chains = r.chains;
+  names = r.names;
+  pins = r.pins;
+  works = r.works;
+  sure = r.sure;
+  goes = r.goes;
+  rules = r.rules;
+  holders = r.holders;
+  hand = r.hand;
+}

@@ -1,0 +1,51 @@
+-- The fresh table: round 0 is finished with the empty forest, and free row i names block i.
+use Rattle.std.specs.Prelude.{ℕ, zero, suc, cond, ltb, List, [], ◌∷◌}
+use Rattle.mesh_names.specs.Triangles.{Shape}
+use Rattle.mesh_names.specs.Partners.{Across, Tells}
+use Rattle.mesh_words.specs.declared.layout.Layout.{Layout}
+use Rattle.mesh_words.specs.Setup.{setup_of}
+use Rattle.mesh_words.specs.Views.{Still, Note, Work, Read, Sure, unsure, Views}
+use Rattle.mesh_words.specs.Words.{Words, node}
+use Rattle.mesh_state.specs.Ghosts.{Open, Free, Ghost}
+use Rattle.mesh_state.specs.Rule.{Rule}
+
+-- the numbers below n, the greatest first
+abbrev pub numbers_below : ℕ → List ℕ
+numbers_below zero = []
+numbers_below (suc n) = n ∷ numbers_below n
+
+-- each number below n with what f gives for it
+abbrev pub noted_below : ℕ → (ℕ → ℕ) → List (ℕ × ℕ)
+noted_below zero f = []
+noted_below (suc n) f = (n, f n) ∷ noted_below n f
+
+-- a pass that knows nothing of the work
+abbrev pub idle : Work
+idle = record { found = []; known = []; open_ = []; given = [] }
+
+-- a pass without a pin
+abbrev pub blank : List Note → Read
+blank notes = record { pin = 0; ready = 0; went = []; walk = Still; notes = notes }
+
+abbrev pub fresh_words : ℕ → Words
+fresh_words pool = record { round = 0; taken = 0; cursor = 0; free = pool; released = λ _. 0; row = λ i. cond (ltb i pool) i 0; claimed = λ _. 0; head = λ _. node 0 0; hist = λ _. node 0 0; born = λ _. 0; died = λ _. 0; name = λ _. 0 }
+
+-- the owner has the first seat
+abbrev pub fresh_kind : ℕ → ℕ
+fresh_kind zero = 3
+fresh_kind (suc j) = 0
+
+-- the owner is sure of each row, and that no block is born
+abbrev pub fresh_sure : ℕ → ℕ → Sure
+fresh_sure pool zero = record unsure { born = noted_below pool (λ _. 0); row = noted_below pool (λ i. i) }
+fresh_sure pool (suc j) = unsure
+
+abbrev pub fresh_views : ℕ → Views
+fresh_views pool = record { kind = fresh_kind; claims = λ _. []; work = λ _. idle; sure = fresh_sure pool; read = λ _. blank []; ruling = record { phase = 0; workers = 0; readers = 0; clear = []; hand = numbers_below pool } }
+
+abbrev pub fresh_ghost : Ghost
+fresh_ghost = record { stage = λ _. Open; life = λ _. Free; who = λ _ _. 0; pins = λ _. 0 }
+
+-- the law that the fresh table over a mesh meets the rule
+abbrev pub FreshIsLawful : Type 0
+FreshIsLawful = (mesh : Shape) (across : Across) → Tells mesh across → (l : Layout) (passes : ℕ) → Rule (setup_of mesh across l passes) (fresh_words l.pool) 1 (fresh_views l.pool) fresh_ghost

@@ -1,0 +1,12 @@
+pub mod Ghosts
+pub mod Chains
+pub mod Claims
+pub mod Bisections
+pub mod Pins
+pub mod Work
+pub mod Sure
+pub mod Readers
+pub mod Owner
+pub mod Rule
+pub mod Fresh
+pub mod Laws

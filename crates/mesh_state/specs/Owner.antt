@@ -1,0 +1,18 @@
+-- What the owner knows.
+use Rattle.std.specs.Prelude.{◌≡◌, ℕ, ◌+◌, ◌<◌, ◌≤◌}
+use Rattle.mesh_words.specs.Entries.{HasEntry}
+use Rattle.mesh_words.specs.Sums.{sum_below, one_where}
+use Rattle.mesh_words.specs.Views.{Ruling}
+
+pub record OwnerRule (passes round : ℕ) (released pins : ℕ → ℕ) (n : ℕ) (kind : ℕ → ℕ) (v : Ruling) : Type 0 where
+  -- seat 0 is the owner's, and no other
+  pub owner : (kind 0 ≡ 3) × (0 < n)
+  pub one : (j : ℕ) → kind j ≡ 3 → j ≡ 0
+  -- it counts the passes that are out
+  pub workers : v.workers ≡ sum_below n (λ j. one_where (kind j) 1)
+  pub readers : v.readers ≡ sum_below n (λ j. one_where (kind j) 2)
+  pub few_readers : v.readers ≤ passes + 1
+  -- workers' passes are out in the two halves alone
+  pub halves : (v.phase ≡ 1 → ⊥) → (v.phase ≡ 2 → ⊥) → v.workers ≡ 0
+  -- of a clear round each pin was given back
+  pub clear : (q : ℕ) → HasEntry v.clear q → (q < round) × (released q ≡ pins q)

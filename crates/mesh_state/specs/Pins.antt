@@ -1,0 +1,18 @@
+-- Pins, and how many are taken.
+use Rattle.std.specs.Prelude.{◌≡◌, ℕ, ◌+◌, ◌<◌, ◌≤◌}
+use Rattle.mesh_words.specs.Setup.{Setup}
+use Rattle.mesh_words.specs.Sums.{sum_below, one_where}
+use Rattle.mesh_words.specs.Views.{Read}
+
+pub record PinsRule (s : Setup) (round taken : ℕ) (released : ℕ → ℕ) (n : ℕ) (kind : ℕ → ℕ) (read : ℕ → Read) (pins : ℕ → ℕ) : Type 0 where
+  pub now : pins round ≡ taken
+  pub later : (q : ℕ) → round < q → (pins q ≡ 0) × (released q ≡ 0)
+  -- the pins of a round were given back, or are in a view
+  pub count : (q : ℕ) → pins q ≡ released q + sum_below n (λ j. one_where (read j).pin (q + 1))
+  pub past : (j q : ℕ) → (read j).pin ≡ q + 1 → q ≤ round
+  pub few : (j : ℕ) → n ≤ j → kind j ≡ 0
+  -- only readers' passes have pins or are ready
+  pub readers : (j : ℕ) → (kind j ≡ 2 → ⊥) → ((read j).pin ≡ 0) × ((read j).ready ≡ 0)
+  pub bit : (j : ℕ) → (read j).ready ≤ 1
+  -- pins taken and passes that are ready to take one stay within the bound
+  pub bound : taken + sum_below n (λ j. (read j).ready) ≤ s.limit + s.passes + 1

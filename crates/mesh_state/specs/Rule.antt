@@ -1,0 +1,39 @@
+-- The rule of a shared table: there are a stage of each place, a life of each block, and a block for each round and name, of which the words and the views are what the parts say.
+use Rattle.std.specs.Prelude.{◌≡◌, ℕ, ◌+◌, ◌⊎◌, false}
+use Rattle.mesh_words.specs.Claims.{Progress}
+use Rattle.mesh_words.specs.Entries.{HasEntry}
+use Rattle.mesh_words.specs.Places.{member_of}
+use Rattle.mesh_words.specs.Setup.{Setup, NamesApart}
+use Rattle.mesh_words.specs.Views.{Views}
+use Rattle.mesh_words.specs.Words.{Words}
+use Rattle.mesh_state.specs.Ghosts.{Stage, Held, Free, Ghost}
+use Rattle.mesh_state.specs.Chains.{ChainsRule}
+use Rattle.mesh_state.specs.Claims.{linked, ClaimsRule}
+use Rattle.mesh_state.specs.Bisections.{NamesRule, IsPlaceOf}
+use Rattle.mesh_state.specs.Pins.{PinsRule}
+use Rattle.mesh_state.specs.Work.{WorkRule}
+use Rattle.mesh_state.specs.Sure.{SureRule}
+use Rattle.mesh_state.specs.Readers.{ReaderRule}
+use Rattle.mesh_state.specs.Owner.{OwnerRule}
+
+-- in the first half the members of a claim's patch stand at its places, and are not bisected at the last finished round
+abbrev pub Labels : Setup → ℕ → ℕ → (ℕ → ℕ) → (ℕ → Stage) → (ℕ → ℕ → ℕ) → Type 0
+Labels s round phase name stage who = (x j m : ℕ) (p : Progress) → stage x ≡ Held j m p → phase ≡ 1 → (n : ℕ) × (s.leads n ≡ 1) × IsPlaceOf s name (who (round + 1)) x n × (who round n ≡ 0) × ((b : ℕ) → linked p ≡ b + 1 → name (member_of b false) ≡ n)
+    × ((m ≡ 0) × (s.mate n ≡ 0) ⊎ (y : ℕ) × (k : ℕ) × (m ≡ y + 1) × (s.mate n ≡ k + 1) × IsPlaceOf s name (who (round + 1)) y (k + 1) × (who round (k + 1) ≡ 0))
+
+-- n is the number of seats that were ever made
+pub record Rule (s : Setup) (w : Words) (n : ℕ) (v : Views) (g : Ghost) : Type 0 where
+  pub names_apart : NamesApart s
+  pub claims : ClaimsRule s w.round w.cursor w.free v.ruling.phase w.row w.claimed w.head w.born g.life g.stage v.claims
+  pub labels : Labels s w.round v.ruling.phase w.name g.stage g.who
+  pub chains : ChainsRule s.elements w.round w.head w.hist w.born w.died g.life
+  pub names : NamesRule s w.round v.ruling.phase w.name w.head w.hist w.born w.died g.life g.who v.read
+  pub pins : PinsRule s w.round w.taken w.released n v.kind v.read g.pins
+  pub works : (j : ℕ) → WorkRule s w.round v.ruling.phase w.name w.born w.died g.life (g.who (w.round + 1)) (v.kind j) j (v.work j)
+  pub sure : (j : ℕ) → SureRule s.elements v.ruling.workers w.head w.hist w.born w.died w.name w.row g.stage j (v.sure j)
+  pub goes : (j : ℕ) → ReaderRule s w.round w.name w.hist w.born w.died g.life g.who (v.read j)
+  pub rules : OwnerRule s.passes w.round w.released g.pins n v.kind v.ruling
+  -- a claim is the owner's or a worker's
+  pub holders : (x j m : ℕ) (p : Progress) → g.stage x ≡ Held j m p → (j ≡ 0) ⊎ (v.kind j ≡ 1)
+  -- blocks that the owner knows as free are so, but in the first half
+  pub hand : (b : ℕ) → HasEntry v.ruling.hand b → (v.ruling.phase ≡ 1 → ⊥) × (g.life b ≡ Free)

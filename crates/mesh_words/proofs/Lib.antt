@@ -1,0 +1,10 @@
+pub mod LinkWords
+pub mod RoundWords
+pub mod NameCodes
+pub mod WordPlaces
+pub mod Functions
+pub mod Entries
+pub mod Sums
+pub mod PlaceNumbers
+pub mod Writes
+pub mod CodedNames

@@ -1,0 +1,12 @@
+pub mod Links
+pub mod Rounds
+pub mod NameWords
+pub mod Layout
+pub mod Functions
+pub mod Sums
+pub mod Entries
+pub mod Places
+pub mod Words
+pub mod Claims
+pub mod Views
+pub mod Setup

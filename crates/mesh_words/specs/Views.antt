@@ -1,0 +1,71 @@
+-- What the seats of a table know: the parts of a view, each a function of the seat.
+use Rattle.std.specs.Prelude.{ℕ, Bool, List, []}
+use Rattle.mesh_words.specs.Words.{Node}
+use Rattle.mesh_words.specs.Claims.{Claim}
+
+-- what a worker's pass knows of the round in work
+pub record Work : Type 0 where
+  -- places where it found elements, each with the element's name
+  pub found : List (ℕ × ℕ)
+  -- names that are bisected, and names that are not
+  pub known : List ℕ
+  pub open_ : List ℕ
+  -- blocks of patches that are to be retired, each with its first member's name
+  pub given : List (ℕ × ℕ)
+
+-- contents of words that no other seat changes: by place, by member, by block, by row
+pub record Sure : Type 0 where
+  pub head : List (ℕ × Node)
+  pub hist : List (ℕ × Node)
+  pub born : List (ℕ × ℕ)
+  pub died : List (ℕ × ℕ)
+  pub name : List (ℕ × ℕ)
+  pub row : List (ℕ × ℕ)
+
+-- no content
+abbrev pub unsure : Sure
+unsure = record { head = []; hist = []; born = []; died = []; name = []; row = [] }
+
+-- a walk stands still, has gone to a block's member from the place of an element with this name, or has passed the block by
+pub data Walk : Type 0 where
+  Still : Walk
+  At : ℕ → ℕ → ℕ → Bool → Walk
+  Past : ℕ → ℕ → ℕ → Bool → Walk
+
+-- whether a name is bisected at a round
+pub record Note : Type 0 where
+  pub round : ℕ
+  pub name : ℕ
+  pub bisected : Bool
+
+-- what a reader's pass knows
+pub record Read : Type 0 where
+  -- one more than the pinned round, or 0
+  pub pin : ℕ
+  -- 1 where the last step on ROUND was a load that showed fewer pins than the limit
+  pub ready : ℕ
+  -- the blocks to which it has gone since it took the pin
+  pub went : List ℕ
+  pub walk : Walk
+  pub notes : List Note
+
+-- what the owner knows
+pub record Ruling : Type 0 where
+  -- 0 before the round's first pass, 1 in the first half, 2 in the second half, 3 while the round is closed, 4 while it is taken back
+  pub phase : ℕ
+  -- how many workers' and readers' passes are out
+  pub workers : ℕ
+  pub readers : ℕ
+  -- left rounds of which no pin is out
+  pub clear : List ℕ
+  -- free blocks
+  pub hand : List ℕ
+
+-- The views. The kinds of seat: 0 of one that was joined, 1 a worker's, 2 a reader's, 3 the owner's, whose seat is 0
+pub record Views : Type 0 where
+  pub kind : ℕ → ℕ
+  pub claims : ℕ → List Claim
+  pub work : ℕ → Work
+  pub sure : ℕ → Sure
+  pub read : ℕ → Read
+  pub ruling : Ruling

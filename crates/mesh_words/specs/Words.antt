@@ -1,0 +1,85 @@
+-- The words of a table as functions of numbers: of rounds, rows, places, blocks and members.
+use Rattle.std.specs.Prelude.{◌≡◌, ℕ, ◌+◌, ◌*◌, ◌/◌, ◌%◌, ◌<◌, ◌≤◌, cond, ltb, eqb, List, length, slice_set}
+use Rattle.mesh_words.specs.declared.layout.Layout.{Layout}
+use Rattle.mesh_words.specs.declared.link.Link.{Link}
+use Rattle.mesh_words.specs.Functions.{update}
+use Rattle.mesh_words.specs.Links.{after, IsLink, link_word}
+use Rattle.mesh_words.specs.Layout.{TableWord, Round, Cursor, FreeCount, Released, LinkOf, Row, OfBlock, Born, Died, NameOf, HistoryOf, address, word_count, content}
+use Rattle.mesh_words.specs.Places.{place_count, place_at}
+
+-- what a LINK or HISTORY word names: one more than a block, or 0 for none, and its retired round
+pub record Node : Type 0 where
+  pub block : ℕ
+  pub died : ℕ
+
+abbrev pub node : ℕ → ℕ → Node
+node b d = record { block = b; died = d }
+
+-- what a word names
+abbrev pub node_of : ℕ → Node
+node_of n = node (n / 2 % 2097152) (n / 4194304 % 65536)
+
+-- the words; a LINK word is a claim bit and a node
+pub record Words : Type 0 where
+  pub round : ℕ
+  pub taken : ℕ
+  pub cursor : ℕ
+  pub free : ℕ
+  pub released : ℕ → ℕ
+  pub row : ℕ → ℕ
+  pub claimed : ℕ → ℕ
+  pub head : ℕ → Node
+  pub hist : ℕ → Node
+  pub born : ℕ → ℕ
+  pub died : ℕ → ℕ
+  pub name : ℕ → ℕ
+
+-- the HISTORY word of a member, by the member's number
+abbrev pub history_word : ℕ → TableWord
+history_word h = OfBlock (h / 2) (HistoryOf (eqb (h % 2) 1))
+
+-- the NAME word of a member, by the member's number
+abbrev pub member_name_word : ℕ → TableWord
+member_name_word h = OfBlock (h / 2) (NameOf (eqb (h % 2) 1))
+
+-- the contents of words that are numbered from 0 to n - 1, and 0 from n on
+abbrev pub contents : Layout → List ℕ → ℕ → (ℕ → TableWord) → ℕ → ℕ
+contents l words n f i = cond (ltb i n) (content l words (f i)) 0
+
+-- the words of a list
+abbrev pub words_at : Layout → List ℕ → Words
+words_at l words = record {
+  round = content l words Round / 4294967296;
+  taken = content l words Round % 4294967296;
+  cursor = content l words Cursor;
+  free = content l words FreeCount;
+  released = contents l words (l.rounds + 1) Released;
+  row = contents l words l.pool Row;
+  claimed = λ x. contents l words (place_count l) (λ y. LinkOf (place_at l y)) x % 2;
+  head = λ x. node_of (contents l words (place_count l) (λ y. LinkOf (place_at l y)) x);
+  hist = λ h. node_of (contents l words (2 * l.pool) history_word h);
+  born = contents l words l.pool (λ b. OfBlock b Born);
+  died = contents l words l.pool (λ b. OfBlock b Died);
+  name = contents l words (2 * l.pool) member_name_word;
+}
+
+-- the words after a write of one word, as functions that change at one number
+pub record WritesAre (l : Layout) (words : List ℕ) (n : ℕ) : Type 0 where
+  pub round : words_at l (slice_set words (address l Round) n) ≡ record (words_at l words) { round = n / 4294967296; taken = n % 4294967296 }
+  pub cursor : words_at l (slice_set words (address l Cursor) n) ≡ record (words_at l words) { cursor = n }
+  pub free : words_at l (slice_set words (address l FreeCount) n) ≡ record (words_at l words) { free = n }
+  pub released : (q : ℕ) → q ≤ l.rounds → words_at l (slice_set words (address l (Released q)) n) ≡ record (words_at l words) { released = update (words_at l words).released q n }
+  pub row : (i : ℕ) → i < l.pool → words_at l (slice_set words (address l (Row i)) n) ≡ record (words_at l words) { row = update (words_at l words).row i n }
+  pub link : (x : ℕ) → x < place_count l → words_at l (slice_set words (address l (LinkOf (place_at l x))) n) ≡ record (words_at l words) { claimed = update (words_at l words).claimed x (n % 2); head = update (words_at l words).head x (node_of n) }
+  pub hist : (h : ℕ) → h < 2 * l.pool → words_at l (slice_set words (address l (history_word h)) n) ≡ record (words_at l words) { hist = update (words_at l words).hist h (node_of n) }
+  pub born : (b : ℕ) → b < l.pool → words_at l (slice_set words (address l (OfBlock b Born)) n) ≡ record (words_at l words) { born = update (words_at l words).born b n }
+  pub died : (b : ℕ) → b < l.pool → words_at l (slice_set words (address l (OfBlock b Died)) n) ≡ record (words_at l words) { died = update (words_at l words).died b n }
+  pub name : (h : ℕ) → h < 2 * l.pool → words_at l (slice_set words (address l (member_name_word h)) n) ≡ record (words_at l words) { name = update (words_at l words).name h n }
+
+-- the law that a write of one word changes one function at one number
+abbrev pub WritesUpdate : Type 0
+WritesUpdate = (l : Layout) (words : List ℕ) (n : ℕ) → length words ≡ word_count l → WritesAre l words n
+
+-- the law that a link's word names the link's block and round
+abbrev pub NodesRead : Type 0
+NodesRead = (l : Link) → IsLink l → node_of (link_word l) ≡ node (after l.block) l.died

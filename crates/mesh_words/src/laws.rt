@@ -1,0 +1,27 @@
+//! Laws over the definitions alone.
+ghost use Rattle.mesh_words.specs.Layout.{WordsApart, WordsFill, WordsWithin, WritesOne};
+ghost use Rattle.mesh_words.specs.Links.{ClaimSets, LinksRead, LinksSpell};
+ghost use Rattle.mesh_words.specs.NameWords.{NamesRead, NamesSpell};
+ghost use Rattle.mesh_words.specs.Places.{PlacesNumbered};
+ghost use Rattle.mesh_words.specs.Rounds.{RoundsRead, RoundsSpell};
+ghost use Rattle.mesh_words.specs.Setup.{CodesApart};
+ghost use Rattle.mesh_words.specs.Words.{NodesRead, WritesUpdate};
+
+/// Spelling and reading a word are inverse, and the words lie apart and fill the table.
+pub fn laws()
+    ensures links_read { LinksRead }
+    ensures links_spell { LinksSpell }
+    ensures claim_sets { ClaimSets }
+    ensures rounds_read { RoundsRead }
+    ensures rounds_spell { RoundsSpell }
+    ensures names_read { NamesRead }
+    ensures names_spell { NamesSpell }
+    ensures words_within { WordsWithin }
+    ensures words_apart { WordsApart }
+    ensures words_fill { WordsFill }
+    ensures writes_one { WritesOne }
+    ensures codes_apart { CodesApart }
+    ensures places_numbered { PlacesNumbered }
+    ensures nodes_read { NodesRead }
+    ensures writes_update { WritesUpdate }
+{}
