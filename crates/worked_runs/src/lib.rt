@@ -5,6 +5,10 @@
 #[cfg(test)]
 mod files;
 #[cfg(test)]
+mod forests;
+#[cfg(test)]
+mod kinds;
+#[cfg(test)]
 mod meshes;
 #[cfg(test)]
 mod run;

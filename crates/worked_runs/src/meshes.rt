@@ -103,44 +103,6 @@ fn a_fan_may_have_grade_24_and_not_25(rt: HostRuntime) -> Result<(), Fail> {
     Ok(())
 }
 
-// Elements on five vertices, of which the last is on the line through the first two.
-macro_rules! elements {
-    ($elements:literal, $triples:literal) => {
-        macro_text!("5", $elements, "0 0 1 0 1 1 0 1 3 0", $triples)
-    };
-}
-
-#[test]
-fn the_earlier_kind_is_told_first(rt: HostRuntime) -> Result<(), Fail> {
-    let cases = [
-        (
-            elements!("2", "0 0 1 0 1 5"),
-            "element 1: vertex out of range",
-        ),
-        (
-            elements!("2", "0 1 4 0 1 5"),
-            "element 1: vertex out of range",
-        ),
-        (elements!("2", "0 1 4 0 1 1"), "element 1: repeated vertex"),
-        (elements!("3", "0 1 2 1 2 0 0 1 4"), "element 2: flat"),
-        (
-            elements!("4", "2 0 1 0 2 3 0 2 4 1 2 0"),
-            "elements 0 and 3: twin elements",
-        ),
-        (
-            elements!("4", "2 0 1 2 0 4 0 2 3 1 0 2"),
-            "elements 0 and 3: twin elements",
-        ),
-    ];
-    for (text, what) in cases {
-        let ran = run(&rt, rt.alloc(), text, "")?;
-        let want = format!(in rt.alloc(); "adapt: macro: {what}\n")?;
-        assert!(rt; ran.err.bytes() == want.as_bytes(), "{what}");
-        assert_eq!(rt; ran.status, 3, "{what}");
-    }
-    Ok(())
-}
-
 #[test]
 fn given_neighbours_are_compared(rt: HostRuntime) -> Result<(), Fail> {
     let cases = [
