@@ -8,3 +8,4 @@ pub mod Powers
 pub mod ReadingBack
 pub mod TrimmedZeros
 pub mod Writing
+pub mod Shortened

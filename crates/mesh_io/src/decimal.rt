@@ -4,7 +4,7 @@
 //! are counted: in the range of the coordinates the fine units depend on no more.
 ghost use Rattle.std.specs.Prelude.{◌≡◌, ℕ, ◌+◌, ◌-◌, ◌*◌, ◌/◌, ◌^◌, ◌<◌, ◌≤◌, length, cond, nat_le, Some, None, Ok, Err, IfSome, IfNone, IfOk, true};
 ghost use Rattle.std.specs.Bool.{OnTrue};
-ghost use Rattle.mesh_io.specs.Decimals.{Decimal, digits_at, after_digits, number, is_minus, unsigned, places_at, after_places, signed_digits, exponent, measured, fine_units, greatest_cut};
+ghost use Rattle.mesh_io.specs.Decimals.{Decimal, digits_at, after_digits, number, is_minus, unsigned, places_at, after_places, signed_digits, exponent, measured, fine_units, greatest_cut, greatest_units, with_sign};
 ghost use Rattle.mesh_io.specs.Decimals.{is_digit as is_digit_byte};
 ghost use Rattle.mesh_io.specs.Heads.{Heads};
 
@@ -32,11 +32,26 @@ const NO_DIGITS: Head = Head {
 // A head from here on has 28 digits.
 const FULL: u128 = 1_000_000_000_000_000_000_000_000_000;
 
+// A number below this one has room for another digit in eighteen.
+const FEW: u64 = 100_000_000_000_000_000;
+
+// A number below this one has at most eighteen digits.
+const FULL_FEW: u128 = 1_000_000_000_000_000_000;
+
 // The most digits of an exponent.
 const EXPONENT_DIGITS: usize = 6;
 
 // A fine unit in parts of 10 ^ -22.
 const FINE_UNIT: u128 = 244_140_625;
+
+// The fine units of 100,000.
+const GREATEST_UNITS: u64 = 4_096_000_000_000_000_000;
+
+// What 4096 times a whole part and 4096 more may be in 64 bits.
+const MOST_WHOLE: u64 = 1_000_000_000_000_000;
+
+// A power of ten that 4096 times it is within 64 bits.
+const MOST_SHIFT: usize = 15;
 
 // The greatest whole part of a size times 10 ^ 22 that is in the range.
 const GREATEST_CUT: u128 = 1_000_000_000_000_000_000_244_140_624;
@@ -68,8 +83,49 @@ fn more(head: Head, c: u8) -> Head
     }
 }
 
-// The head with the digits at the front of the bytes, and what stands after them.
+// The number with the digits at the front, as far as they fit in 64 bits, and what stands after those.
+fn few_digits(start: u64, bytes: &[u8]) -> (u64, &[u8])
+    requires { start < 10 ^ 18 }
+    ensures number { number result.0 (digits_at result.1.now) ≡ number start (digits_at bytes.now) }
+    ensures rest { after_digits result.1.now ≡ after_digits bytes.now }
+    ensures short { length result.1.now ≤ length bytes.now }
+    ensures small { result.0 < 10 ^ 18 }
+{
+    let mut size = start;
+    let mut rest = bytes;
+    while let [c, after @ ..] = rest {
+        if size >= FEW || !is_digit(*c) {
+            break;
+        }
+        size = size * 10 + u64::from(*c - b'0');
+        rest = after;
+    }
+    (size, rest)
+}
+
+// The head with the digits at the front of the bytes, and what stands after them: the first eighteen
+// digits are read in 64 bits.
 fn digits(start: Head, bytes: &[u8]) -> (Head, &[u8])
+    requires { start.dropped + length bytes.now < 2 ^ 64 }
+    ensures heads { (m : ℕ) → Heads m start.kept start.dropped → Heads (number m (digits_at bytes.now)) result.0.kept result.0.dropped }
+    ensures rest { result.1.now ≡ after_digits bytes.now }
+    ensures room { result.0.dropped + length result.1.now ≤ start.dropped + length bytes.now }
+{
+    if start.dropped > 0 || start.kept >= FULL_FEW {
+        return more_digits(start, bytes);
+    }
+    let (size, rest) = few_digits(start.kept as u64, bytes);
+    more_digits(
+        Head {
+            kept: u128::from(size),
+            dropped: 0,
+        },
+        rest,
+    )
+}
+
+// The same, digit by digit.
+fn more_digits(start: Head, bytes: &[u8]) -> (Head, &[u8])
     requires { start.dropped + length bytes.now < 2 ^ 64 }
     ensures heads { (m : ℕ) → Heads m start.kept start.dropped → Heads (number m (digits_at bytes.now)) result.0.kept result.0.dropped }
     ensures rest { result.1.now ≡ after_digits bytes.now }
@@ -208,6 +264,45 @@ fn mantissa_of(bare: &[u8]) -> Mantissa<'_>
     }
 }
 
+// The whole part of m * 4096 * 10 ^ up / 10 ^ down, where 64 bits are enough for it.
+fn short_units(m: u64, up: usize, down: usize) -> Option<u64>
+    ensures { IfSome result (λ u. u ≡ m * 4096 * 10 ^ up / 10 ^ down) }
+{
+    if up < down {
+        let by = down - up;
+        if by > MOST_SHIFT {
+            return None;
+        }
+        let power = 10u64.pow(by as u32);
+        let whole = m / power;
+        if whole > MOST_WHOLE {
+            return None;
+        }
+        Some(whole * 4096 + m % power * 4096 / power)
+    } else {
+        let by = up - down;
+        if by > MOST_SHIFT {
+            return None;
+        }
+        let whole = m.checked_mul(10u64.pow(by as u32))?;
+        if whole > MOST_WHOLE {
+            return None;
+        }
+        Some(whole * 4096)
+    }
+}
+
+// The fine units of a number of this size.
+fn signed_units(minus: bool, units: u64) -> Result<i64, DecimalRefusal>
+    ensures { result ≡ cond (nat_le units greatest_units) (Ok (with_sign minus units)) (Err DecimalRefusal.CoordRange) }
+{
+    if units > GREATEST_UNITS {
+        return Err(DecimalRefusal::CoordRange);
+    }
+    let size = units as i64;
+    Ok(if minus { -size } else { size })
+}
+
 // The fine units of a number with this head.
 fn in_units(
     minus: bool,
@@ -220,6 +315,15 @@ fn in_units(
     requires small { (head.dropped < 2 ^ 63) × (places < 2 ^ 63) × (up < 1000000) × (down < 1000000) }
     ensures { (m : ℕ) → Heads m head.kept head.dropped → result ≡ measured (Some (record { minus = minus; mantissa = m; places = places; up = up; down = down })) }
 {
+    if head.dropped == 0 && head.kept < FULL_FEW {
+        if let Some(units) = short_units(
+            head.kept as u64,
+            10 + up as usize,
+            places + down as usize,
+        ) {
+            return signed_units(minus, units);
+        }
+    }
     match scaled(
         head.kept,
         head.dropped as u128 + 22 + up,

@@ -2,8 +2,8 @@ use Rattle.std.proofs.Common.{◌≡◌, ◌+◌, ◌-◌, ◌*◌, ◌∙◌, s
 use Rattle.mesh_io.specs.Heads.{Heads}
 use Rattle.mesh_io.specs.Decimals.{digits_at, number}
 use Rattle.mesh_io.proofs.DigitLists.{digits-tail, digits-none, digits-empty}
-use Rattle.mesh_io.proofs.decimal.digits.Goals.{in_default, in-len1-up+then-not-is_digit}
-use Rattle.mesh_io.proofs.decimal.digits.Goals as goal
+use Rattle.mesh_io.proofs.decimal.more_digits.Goals.{in_default, in-len1-up+then-not-is_digit}
+use Rattle.mesh_io.proofs.decimal.more_digits.Goals as goal
 
 pub loop-rest-preserved : goal.loop-rest-preserved
 loop-rest-preserved c =

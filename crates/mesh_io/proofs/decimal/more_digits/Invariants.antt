@@ -1,7 +1,7 @@
 use Rattle.std.proofs.Common.{◌≡◌, ℕ, ◌+◌, ◌≤◌, length}
 use Rattle.mesh_io.specs.Decimals.{digits_at, after_digits, number}
 use Rattle.mesh_io.specs.Heads.{Heads}
-use Rattle.mesh_io.proofs.decimal.digits.Given as goal
+use Rattle.mesh_io.proofs.decimal.more_digits.Given as goal
 
 abbrev pub invariant-loop-rest : goal.invariant-loop-rest
 invariant-loop-rest l = record {
