@@ -1,3 +1,4 @@
+//! Macro texts made of the lists of a file.
 ghost use Rattle.std.specs.Prelude.{◌≡◌, ◌+◌, ◌*◌, ◌<◌, ◌≤◌, ◌^◌, All, map, nat_abs, pos, neg_ℤ, IfOk, IfErr};
 ghost use Rattle.std.specs.List.{range_with_len};
 ghost use Rattle.macro_file.specs.declared.keyword.Keyword.{Keyword};

@@ -1,3 +1,4 @@
+//! The first four keys: which of the four that must be there are missing, and the numbers of each.
 ghost use Rattle.std.specs.Prelude.{◌≡◌, ◌≢◌, ◌≤◌, map, not, find, option_map, IfOk, IfErr, Ok, Err};
 ghost use Rattle.std.specs.List.{list_any};
 ghost use Rattle.macro_file.specs.Keywords.{same};

@@ -1,3 +1,4 @@
+//! The ten keys, how they are written, and which one a text is.
 ghost use Rattle.std.specs.Prelude.{◌≡◌, ◌==◌, Some, None, IfSome};
 ghost use Rattle.macro_file.specs.Keywords.{spelling, keywords, keyword_of, same_words};
 

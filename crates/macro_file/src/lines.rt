@@ -1,3 +1,4 @@
+//! Lines, one after another: the next key line, and where its section ends.
 ghost use Rattle.std.specs.Prelude.{◌≡◌, ℕ, ◌+◌, ◌-◌, ◌<◌, ◌≤◌, ◌^◌, IfSome, length, take, false};
 ghost use Rattle.std.specs.List.{list_any, position_or_len};
 ghost use Rattle.macro_file.specs.Lines.{lines};

@@ -1,3 +1,4 @@
+//! The numbers of the sections, in the order of the file.
 ghost use Rattle.std.specs.Prelude.{◌≡◌, ◌≢◌, ◌+◌, ◌<◌, ◌≤◌, ◌^◌, ◌==◌, cond, length, map, IfOk, IfErr, Ok, Err};
 ghost use Rattle.macro_file.specs.Walks.{tokens_from};
 ghost use Rattle.macro_file.specs.Meaning.{numbers as numbers_by, lists};
@@ -39,7 +40,11 @@ pub fn read_numbers(
     ensures err { IfErr result (λ r. r ≢ MacroRefusal.Memory → numbers_by wanted (section_of section.now) ≡ Err r) }
 {
     let line = section.line;
-    let mut numbers = Vec::new(alloc);
+    // Each number takes a byte at least.
+    let most = (wanted as usize).min(section.body.len());
+    let Ok(mut numbers) = Vec::with_capacity(alloc, most) else {
+        return Err(MacroRefusal::Memory);
+    };
     let mut here = line;
     let mut left = section.body;
     for found in 0..wanted {

@@ -1,3 +1,4 @@
+//! The list of a key among those that were read.
 ghost use Rattle.std.specs.Prelude.{◌≡◌, map, find, is_some, option_map};
 ghost use Rattle.macro_file.specs.Keywords.{same};
 ghost use Rattle.macro_file.specs.Meaning.{listed, numbers_of as numbers_of_key};

@@ -1,3 +1,4 @@
+//! Growth of a list, with want of memory as a refusal.
 ghost use Rattle.std.specs.Prelude.{◌≡◌, ◌++◌, ◌∷◌, [], OnOk, IfErr};
 
 use crate::refusal::MacroRefusal;

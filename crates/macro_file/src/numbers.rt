@@ -1,36 +1,15 @@
+//! The number that a word gives to the section of a key.
 ghost use Rattle.std.specs.Prelude.{◌≡◌, ℕ, ◌≢◌, ◌+◌, ◌-◌, ◌*◌, ◌<◌, ◌≤◌, ◌^◌, ◌==◌, ◌&&◌, nat_le, cond, length, nat_abs, IfOk, IfErr, Ok, Err, Some, None, option_map};
-ghost use Rattle.std.specs.Bool.{OnTrue};
-ghost use Rattle.mesh_io.specs.Decimals.{is_minus, unsigned, after_digits, number};
-ghost use Rattle.mesh_io.specs.Decimals.{is_digit as is_digit_byte};
-ghost use Rattle.mesh_io.specs.Decimals.{fine_units};
+ghost use Rattle.mesh_io.specs.Decimals.{after_digits, number, fine_units};
 ghost use Rattle.macro_file.specs.Numbers.{whole, bounded as bounded_by, coordinate as coordinate_of, value as value_by};
 ghost use Rattle.macro_file.specs.Capped.{capped, capped_size};
 
 use crate::keyword::Keyword;
 use crate::refusal::MacroRefusal;
-use mesh_io::{DecimalRefusal, read_decimal};
+use mesh_io::{DecimalRefusal, is_digit, read_decimal, sign};
 
 // Sizes are held up to this one; every bound of a number is below it.
 const GREATEST_SIZE: u64 = 1_000_000_000_000_000_000;
-
-fn is_digit(byte: u8) -> bool
-    ensures value { result ≡ is_digit_byte byte }
-    ensures range { OnTrue result ((48 ≤ byte) × (byte ≤ 57)) }
-{
-    byte >= b'0' && byte <= b'9'
-}
-
-// Whether a `-` stands at the front, and what stands after an optional sign.
-fn sign(word: &[u8]) -> (bool, &[u8])
-    ensures minus { result.0 ≡ is_minus word.now }
-    ensures rest { result.1.now ≡ unsigned word.now }
-{
-    match word {
-        [b'-', rest @ ..] => (true, rest),
-        [b'+', rest @ ..] => (false, rest),
-        _ => (false, word),
-    }
-}
 
 // The size with one more digit.
 fn with_digit(size: u64, digit: u8) -> u64

@@ -1,3 +1,4 @@
+//! The four steps of reading a macro file.
 ghost use Rattle.std.specs.Prelude.{◌≡◌, ◌≢◌, ◌≤◌, length, map, IfOk, IfErr, Ok, Err};
 ghost use Rattle.macro_file.specs.Meaning.{meaning, sections_mean};
 ghost use Rattle.macro_file.specs.Places.{section_of};

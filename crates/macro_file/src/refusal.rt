@@ -1,3 +1,4 @@
+//! Why bytes are no macro text.
 use std::fmt;
 use thiserror::Error;
 

@@ -1,3 +1,4 @@
+//! A section of a file: its key, and where its words stand.
 ghost use Rattle.std.specs.Prelude.{◌+◌, ◌<◌, ◌^◌, length};
 
 use crate::keyword::Keyword;

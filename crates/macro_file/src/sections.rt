@@ -1,3 +1,4 @@
+//! The sections of a file, or the first line with no key, a bad key or a key twice.
 ghost use Rattle.std.specs.Prelude.{◌≡◌, ◌≢◌, ◌+◌, ◌<◌, ◌≤◌, ◌^◌, length, map, IfOk, IfErr, Ok, Err, find, option_map};
 ghost use Rattle.std.specs.List.{list_any};
 ghost use Rattle.macro_file.specs.Keywords.{same};

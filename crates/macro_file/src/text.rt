@@ -1,3 +1,4 @@
+//! Macro texts as data, with the ranges of their numbers.
 ghost use Rattle.std.specs.Prelude.{◌≡◌, ◌≤◌, ◌^◌, All, length, pos, neg_ℤ, vec_len};
 ghost use Rattle.macro_file.specs.Limits.{AtMost, Between, ZeroUnless};
 

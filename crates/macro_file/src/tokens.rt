@@ -1,3 +1,4 @@
+//! Words, one after another, over the lines of a section.
 ghost use Rattle.std.specs.Prelude.{◌≡◌, ℕ, ◌∷◌, [], ◌+◌, ◌<◌, ◌≤◌, ◌^◌, ◌==◌, MatchOption, IfSome, length, take, drop, false};
 ghost use Rattle.std.specs.List.{position_or_len};
 ghost use Rattle.macro_file.specs.Lines.{at_newline as at_newline_byte};

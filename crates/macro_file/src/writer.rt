@@ -1,3 +1,4 @@
+//! The bytes of a macro text.
 ghost use Rattle.std.specs.Prelude.{◌≡◌, ◌++◌, ◌∷◌, [], ◌≤◌, ◌<◌, ◌^◌, length, map, pos, codes, OnOk, IfOk, IfErr, Ok};
 ghost use Rattle.std.specs.Fmt.{signed_decimal};
 ghost use Rattle.mesh_io.specs.Decimals.{written_units};

@@ -56,7 +56,8 @@ const MOST_SHIFT: usize = 15;
 // The greatest whole part of a size times 10 ^ 22 that is in the range.
 const GREATEST_CUT: u128 = 1_000_000_000_000_000_000_244_140_624;
 
-fn is_digit(c: u8) -> bool
+/// Whether the byte is one of `0` to `9`.
+pub fn is_digit(c: u8) -> bool
     ensures value { result ≡ is_digit_byte c }
     ensures range { OnTrue result ((48 ≤ c) × (c ≤ 57)) }
 {
@@ -143,8 +144,8 @@ fn more_digits(start: Head, bytes: &[u8]) -> (Head, &[u8])
     (head, rest)
 }
 
-// Whether a `-` stands at the front, and what stands after an optional sign.
-fn sign(bytes: &[u8]) -> (bool, &[u8])
+/// Whether a `-` stands at the front, and what stands after an optional `+` or `-`.
+pub fn sign(bytes: &[u8]) -> (bool, &[u8])
     ensures minus { result.0 ≡ is_minus bytes.now }
     ensures rest { result.1.now ≡ unsigned bytes.now }
 {

@@ -18,7 +18,7 @@ mod stream_sink;
 mod text;
 mod written;
 
-pub use decimal::{DecimalRefusal, read_decimal};
+pub use decimal::{DecimalRefusal, is_digit, read_decimal, sign};
 pub use file_shelf::FileShelf;
 pub use gate::{Gate, GatePoint, NoGate};
 pub use mem_shelf::MemShelf;

@@ -1,3 +1,4 @@
+//! Tests of decimals, shelves and sinks.
 use super::*;
 use std::alloc::{AllocError, Global};
 use std::fs;
