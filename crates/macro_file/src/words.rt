@@ -1,6 +1,6 @@
 //! Blanks and words, and whether two keys have the same words.
-ghost use Rattle.std.specs.Prelude.{◌≡◌, ◌∷◌, [], ◌+◌, ◌<◌, ◌≤◌, MatchOption, IfSome, length, not, take, drop, false};
-ghost use Rattle.std.specs.List.{list_any, position_or_len};
+ghost use Rattle.std.specs.Prelude.{◌≡◌, ◌∷◌, [], ◌+◌, ◌<◌, ◌≤◌, MatchOption, IfSome, length, not, take, drop};
+ghost use Rattle.std.specs.List.{position_or_len};
 ghost use Rattle.macro_file.specs.Lines.{words};
 ghost use Rattle.macro_file.specs.Lines.{is_blank as is_blank_byte};
 ghost use Rattle.macro_file.specs.Keywords.{same_words as same_words_of};
@@ -12,39 +12,17 @@ pub fn is_blank(byte: u8) -> bool
     byte == b' ' || byte == b'\t'
 }
 
-// Whether one of the bytes is no blank. With no early end, the compiler tests many bytes at once.
-fn has_other(bytes: &[u8]) -> bool
-    ensures { result ≡ list_any (λ b. not (is_blank_byte b)) bytes.now }
-{
-    let mut found = false;
-    for byte in bytes {
-        found |= (*byte != b' ') & (*byte != b'\t');
-    }
-    found
-}
-
-// How many blanks stand at the front in pieces of eight.
-fn blank_pieces(text: &[u8]) -> usize
-    ensures blank { list_any (λ b. not (is_blank_byte b)) (take result text.now) ≡ false }
-    ensures within { result ≤ length text.now }
-{
-    let mut at = 0;
-    while text.len() - at >= 8 && !has_other(&text[at..at + 8]) {
-        at += 8;
-    }
-    at
-}
-
 /// How many blanks stand at the front.
 pub fn blank_count(text: &[u8]) -> usize
     ensures value { result ≡ position_or_len (λ b. not (is_blank_byte b)) text.now }
     ensures within { result ≤ length text.now }
 {
-    let mut at = blank_pieces(text);
-    while at < text.len() && is_blank(text[at]) {
-        at += 1;
+    for (i, byte) in text.iter().enumerate() {
+        if !is_blank(*byte) {
+            return i;
+        }
     }
-    at
+    text.len()
 }
 
 // How many bytes stand before the first blank.

@@ -265,6 +265,31 @@ fn mantissa_of(bare: &[u8]) -> Mantissa<'_>
     }
 }
 
+// A power of ten, by its table.
+fn power_of_ten(by: usize) -> u64
+    requires { by ≤ 15 }
+    ensures { result ≡ 10 ^ by }
+{
+    match by {
+        0 => 1,
+        1 => 10,
+        2 => 100,
+        3 => 1_000,
+        4 => 10_000,
+        5 => 100_000,
+        6 => 1_000_000,
+        7 => 10_000_000,
+        8 => 100_000_000,
+        9 => 1_000_000_000,
+        10 => 10_000_000_000,
+        11 => 100_000_000_000,
+        12 => 1_000_000_000_000,
+        13 => 10_000_000_000_000,
+        14 => 100_000_000_000_000,
+        _ => 1_000_000_000_000_000,
+    }
+}
+
 // The whole part of m * 4096 * 10 ^ up / 10 ^ down, where 64 bits are enough for it.
 fn short_units(m: u64, up: usize, down: usize) -> Option<u64>
     ensures { IfSome result (λ u. u ≡ m * 4096 * 10 ^ up / 10 ^ down) }
@@ -274,7 +299,7 @@ fn short_units(m: u64, up: usize, down: usize) -> Option<u64>
         if by > MOST_SHIFT {
             return None;
         }
-        let power = 10u64.pow(by as u32);
+        let power = power_of_ten(by);
         let whole = m / power;
         if whole > MOST_WHOLE {
             return None;
@@ -285,7 +310,7 @@ fn short_units(m: u64, up: usize, down: usize) -> Option<u64>
         if by > MOST_SHIFT {
             return None;
         }
-        let whole = m.checked_mul(10u64.pow(by as u32))?;
+        let whole = m.checked_mul(power_of_ten(by))?;
         if whole > MOST_WHOLE {
             return None;
         }

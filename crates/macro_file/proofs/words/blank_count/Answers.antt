@@ -1,15 +1,11 @@
-use Rattle.std.proofs.Common.{◌≡◌, ℕ, not, length, sym, ap, ◌∙◌, arith}
+use Rattle.std.proofs.Common.{not, sym, ◌∙◌, arith}
+use Rattle.std.proofs.lemmas.Bool.{not_from_true, not_from_false}
 use Rattle.macro_file.specs.Lines.{is_blank}
-use Rattle.macro_file.proofs.Cuts.{first_is, none_is, any_below}
+use Rattle.macro_file.proofs.Cuts.{first_is, none_is}
 use Rattle.macro_file.proofs.words.blank_count.Goals as goal
 
-pub returns-else-is_blank-clause-value : goal.returns-else-is_blank-clause-value
-returns-else-is_blank-clause-value c =
-    let i = c.loop-at.invariant in
-    first_is (λ (b : ℕ). not (is_blank b)) c.args.text.now c.loop-at.at c.loop-at-test.true (any_below (λ (b : ℕ). not (is_blank b)) c.args.text.now c.loop-at.at i.within i.blank) (ap not (sym c.is_blank.ensures ∙ c.if-is_blank.false))
+pub returns-then-not-is_blank-clause-value : goal.returns-then-not-is_blank-clause-value
+returns-then-not-is_blank-clause-value c = first_is (λ b. not (is_blank b)) c.args.text.now _ (omega arith) (λ k h. not_from_true _ (c.loop-i.invariant k h)) (not_from_false _ (sym c.is_blank.ensures ∙ c.if-not-is_blank.true))
 
-pub returns-after-loop-at-clause-value : goal.returns-after-loop-at-clause-value
-returns-after-loop-at-clause-value c =
-    let i = c.loop-at.invariant in
-    let all : c.loop-at.at ≡ length c.args.text.now = omega arith in
-    all ∙ none_is (λ (b : ℕ). not (is_blank b)) c.args.text.now c.loop-at.at c.loop-at-test.false (any_below (λ (b : ℕ). not (is_blank b)) c.args.text.now c.loop-at.at i.within i.blank)
+pub returns-clause-value : goal.returns-clause-value
+returns-clause-value c = none_is (λ b. not (is_blank b)) c.args.text.now c.loop-i.i (omega arith) (λ k h. not_from_true _ (c.loop-i.invariant k h))
