@@ -1,7 +1,8 @@
 //! Reads a decimal into fine units.
 //!
 //! A token may have millions of digits. Of its mantissa the first 28 digits are kept, and the others
-//! are counted: in the range of the coordinates the fine units depend on no more.
+//! are counted: in the range of the coordinates the fine units depend on no more. Up to eighteen digits
+//! are read and divided in 64 bits.
 ghost use Rattle.std.specs.Prelude.{◌≡◌, ℕ, ◌+◌, ◌-◌, ◌*◌, ◌/◌, ◌^◌, ◌<◌, ◌≤◌, length, cond, nat_le, Some, None, Ok, Err, IfSome, IfNone, IfOk, true};
 ghost use Rattle.std.specs.Bool.{OnTrue};
 ghost use Rattle.mesh_io.specs.Decimals.{Decimal, digits_at, after_digits, number, is_minus, unsigned, places_at, after_places, signed_digits, exponent, measured, fine_units, greatest_cut, greatest_units, with_sign};
@@ -32,11 +33,11 @@ const NO_DIGITS: Head = Head {
 // A head from here on has 28 digits.
 const FULL: u128 = 1_000_000_000_000_000_000_000_000_000;
 
-// A number below this one has room for another digit in eighteen.
-const FEW: u64 = 100_000_000_000_000_000;
+// A number below this one has at most seventeen digits.
+const SEVENTEEN_DIGITS: u64 = 100_000_000_000_000_000;
 
 // A number below this one has at most eighteen digits.
-const FULL_FEW: u128 = 1_000_000_000_000_000_000;
+const EIGHTEEN_DIGITS: u128 = 1_000_000_000_000_000_000;
 
 // The most digits of an exponent.
 const EXPONENT_DIGITS: usize = 6;
@@ -47,10 +48,10 @@ const FINE_UNIT: u128 = 244_140_625;
 // The fine units of 100,000.
 const GREATEST_UNITS: u64 = 4_096_000_000_000_000_000;
 
-// What 4096 times a whole part and 4096 more may be in 64 bits.
+// The greatest whole part that is taken in 64 bits.
 const MOST_WHOLE: u64 = 1_000_000_000_000_000;
 
-// A power of ten that 4096 times it is within 64 bits.
+// The greatest power of ten by which the point is shifted in 64 bits.
 const MOST_SHIFT: usize = 15;
 
 // The greatest whole part of a size times 10 ^ 22 that is in the range.
@@ -95,7 +96,7 @@ fn few_digits(start: u64, bytes: &[u8]) -> (u64, &[u8])
     let mut size = start;
     let mut rest = bytes;
     while let [c, after @ ..] = rest {
-        if size >= FEW || !is_digit(*c) {
+        if size >= SEVENTEEN_DIGITS || !is_digit(*c) {
             break;
         }
         size = size * 10 + u64::from(*c - b'0');
@@ -112,7 +113,7 @@ fn digits(start: Head, bytes: &[u8]) -> (Head, &[u8])
     ensures rest { result.1.now ≡ after_digits bytes.now }
     ensures room { result.0.dropped + length result.1.now ≤ start.dropped + length bytes.now }
 {
-    if start.dropped > 0 || start.kept >= FULL_FEW {
+    if start.dropped > 0 || start.kept >= EIGHTEEN_DIGITS {
         return more_digits(start, bytes);
     }
     let (size, rest) = few_digits(start.kept as u64, bytes);
@@ -265,7 +266,7 @@ fn mantissa_of(bare: &[u8]) -> Mantissa<'_>
     }
 }
 
-// A power of ten, by its table.
+// A power of ten, from a table.
 fn power_of_ten(by: usize) -> u64
     requires { by ≤ 15 }
     ensures { result ≡ 10 ^ by }
@@ -341,7 +342,7 @@ fn in_units(
     requires small { (head.dropped < 2 ^ 63) × (places < 2 ^ 63) × (up < 1000000) × (down < 1000000) }
     ensures { (m : ℕ) → Heads m head.kept head.dropped → result ≡ measured (Some (record { minus = minus; mantissa = m; places = places; up = up; down = down })) }
 {
-    if head.dropped == 0 && head.kept < FULL_FEW {
+    if head.dropped == 0 && head.kept < EIGHTEEN_DIGITS {
         if let Some(units) = short_units(
             head.kept as u64,
             10 + up as usize,
