@@ -10,6 +10,7 @@ ghost use Rattle.mesh_names.specs.Examples.{SquareMarkedTwice, SquareRefined, Sq
 ghost use Rattle.mesh_names.specs.Forests.{ListsAreOne};
 ghost use Rattle.mesh_names.specs.Leaves.{LeavesAre};
 ghost use Rattle.mesh_names.specs.Marks.{MarksGiveNeeds};
+ghost use Rattle.mesh_names.specs.Coarsening.{CoarsenedConforms, CoarsenedOnce, StepsCanEnd, StepsEndAtOne, StepsKeep, StepsSwap};
 ghost use Rattle.mesh_names.specs.Chains.{ChainWithin, ChainsStand};
 
 /// A valid and graded mesh tells what lies across each edge.
@@ -90,6 +91,36 @@ pub fn leaves_are()
 /// Effective marks, from the last row that names a leaf, give the needs.
 pub fn marks_give_needs()
     ensures { MarksGiveNeeds }
+{}
+
+/// A step of coarsening keeps a conforming forest.
+pub fn coarsening_steps_keep()
+    ensures { StepsKeep }
+{}
+
+/// Steps of coarsening on two patches can change places.
+pub fn coarsening_steps_swap()
+    ensures { StepsSwap }
+{}
+
+/// Steps of coarsening can come to an end: there is a coarsened forest.
+pub fn coarsening_can_end()
+    ensures { StepsCanEnd }
+{}
+
+/// Steps of coarsening in any order end at one forest.
+pub fn coarsening_ends_at_one()
+    ensures { StepsEndAtOne }
+{}
+
+/// The coarsened forest is a conforming forest within the refined one.
+pub fn coarsened_conforms()
+    ensures { CoarsenedConforms }
+{}
+
+/// With no mark below -1 the fully marked patches go, and no others.
+pub fn coarsened_once()
+    ensures { CoarsenedOnce }
 {}
 
 /// A name has a chain, whose other names are of smaller levels.
