@@ -98,7 +98,7 @@ module _ (x : Across) (s : MarkedForest) where
   less : (f : Names) (k : Name) → Has f k → len (remove f k) < len f
   less f k h = let e = len-remove name_cmp_total f k ∙ ap (λ (c : Bool). cond c (len f - 1) (len f)) h in let l = some_len f k h in omega (arith, e, l)
 
-  abbrev without : Option (Name × Bool) → Names → Names
+  abbrev pub without : Option (Name × Bool) → Names → Names
   without None f = f
   without (Some m) f = remove f m.0
 
@@ -106,8 +106,8 @@ module _ (x : Across) (s : MarkedForest) where
   without-small None f = omega arith
   without-small (Some m) f = smaller f m.0
 
-  after_step-without : (p : Name) → (after_step x p s).forest ≡ without (partner x p.0 p.1) (remove s.forest p)
-  after_step-without p = within-both (after_step x p s).forest (without (partner x p.0 p.1) (remove s.forest p)) to from
+  pub step-without : (p : Name) → (after_step x p s).forest ≡ without (partner x p.0 p.1) (remove s.forest p)
+  step-without p = within-both (after_step x p s).forest (without (partner x p.0 p.1) (remove s.forest p)) to from
     where
       to : Within (after_step x p s).forest (without (partner x p.0 p.1) (remove s.forest p))
       to q h = by (partner x p.0 p.1) refl
@@ -136,9 +136,9 @@ module _ (x : Across) (s : MarkedForest) where
               let b = and_both (not (name_eq q m.0)) (contains (remove s.forest p) q) (sym (removed (remove s.forest p) m.0 q) ∙ k) in
               first b.1 (λ t f. both_sides (name_eq q m.0) (same-tied q m.0 (λ i. (some_inj (q, t) m (sym f ∙ e) i).0)) (true-not (name_eq q m.0) b.0))
 
-  fewer : (p : Name) → CanCoarsen x s p → len (after_step x p s).forest < len s.forest
+  pub fewer : (p : Name) → CanCoarsen x s p → len (after_step x p s).forest < len s.forest
   fewer p c =
-      let e = ap (λ (y : Names). len y) (after_step-without p) in
+      let e = ap (λ (y : Names). len y) (step-without p) in
       let a = without-small (partner x p.0 p.1) (remove s.forest p) in
       let b = less s.forest p (c p (inl refl)).member in
       omega (arith, e, a, b)
