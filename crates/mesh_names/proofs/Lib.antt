@@ -24,3 +24,4 @@ pub mod SpelledNames
 pub mod Lists
 pub mod Deciding
 pub mod Worked
+pub mod CoarseningWorked

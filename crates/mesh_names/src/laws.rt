@@ -6,7 +6,7 @@ ghost use Rattle.mesh_names.specs.Squares.{SquaresFit};
 ghost use Rattle.mesh_names.specs.Conformity.{ConformsByPartners};
 ghost use Rattle.mesh_names.specs.Reaching.{LeastByChains};
 ghost use Rattle.mesh_names.specs.LeastForest.{LeastByLevels, LeastIsOne, LeastKeeps, NeedsAre, NeedsCanBeHeld};
-ghost use Rattle.mesh_names.specs.Examples.{SquareMarkedTwice, SquareRefined, SquareSecondRound, TurnedSquareRefined};
+ghost use Rattle.mesh_names.specs.Examples.{SquareCoarsened, SquareMarkedTwice, SquareRefined, SquareSecondRound, TurnedSquareRefined};
 ghost use Rattle.mesh_names.specs.Forests.{ListsAreOne};
 ghost use Rattle.mesh_names.specs.Leaves.{LeavesAre};
 ghost use Rattle.mesh_names.specs.Marks.{MarksGiveNeeds};
@@ -151,6 +151,11 @@ pub fn square_marked_twice()
 /// A second round on the square reaches over to the other element.
 pub fn square_second_round()
     ensures { SquareSecondRound }
+{}
+
+/// On the square patches go where all their leaves are marked, as far as the marks allow.
+pub fn square_coarsened()
+    ensures { SquareCoarsened }
 {}
 
 /// On the turned square, whose elements have grades 1 and 0, the partner is a child.
