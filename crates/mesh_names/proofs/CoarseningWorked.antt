@@ -1,5 +1,5 @@
 -- Coarsening by computing, on listed members; and the worked rounds that coarsen the square.
-use Rattle.std.proofs.Common.{◌≡◌, ◌⊎◌, ℤ, pos, Bool, true, false, cond, not, ◌&&◌, true≢false, refl, sym, ap, ◌∙◌, subst, List, [], ◌∷◌, filter, inl, inr, ⊎_elim}
+use Rattle.std.proofs.Common.{◌≡◌, ℤ, pos, negsuc, Bool, true, false, cond, not, ◌&&◌, true≢false, refl, sym, ap, ◌∙◌, subst, List, [], ◌∷◌, filter, inl, inr, ⊎_elim}
 use Rattle.std.specs.Prelude.{Option, Some, None}
 use Rattle.std.specs.Int.{is_negative}
 use Rattle.std.specs.List.{list_all}
@@ -7,20 +7,19 @@ use Rattle.std.specs.FinSet.{contains, from_list, retain, contains-from_list}
 use Rattle.mesh_names.specs.Names.{Name, name_cmp}
 use Rattle.mesh_names.specs.Order.{name_cmp_total}
 use Rattle.mesh_names.specs.Triangles.{Shape}
-use Rattle.mesh_names.specs.Forests.{Names, Has, IsListOf}
-use Rattle.mesh_names.specs.Partners.{Across, InPatch, partner}
+use Rattle.mesh_names.specs.Forests.{Names, IsListOf}
+use Rattle.mesh_names.specs.Partners.{Across, partner}
 use Rattle.mesh_names.specs.Validity.{across_of}
 use Rattle.mesh_names.specs.Leaves.{leaves}
 use Rattle.mesh_names.specs.Marks.{effective_mark}
 use Rattle.mesh_names.specs.Coarsening.{MarkedForest, AreSteps, CanCoarsen, HasEnded, IsCoarsened, IsFullyMarked, after_step, after_steps, child_at, in_patch, joined_mark, marked_by}
 use Rattle.mesh_names.specs.Squares.{square}
-use Rattle.mesh_names.specs.Examples.{element, both, four, SquareCoarsened}
+use Rattle.mesh_names.specs.Examples.{element, gives_all, gives_one, both, four, SquareCoarsened}
 use Rattle.mesh_names.specs.declared.rows.MarkRow.{MarkRow}
-use Rattle.mesh_names.proofs.Booleans.{and_both, and-both, not-true, true-not, not_true, retained}
+use Rattle.mesh_names.proofs.Booleans.{and_both, and-both, not-true, true-not, retained}
 use Rattle.mesh_names.proofs.Neighbours.{none_some, some_inj}
-use Rattle.mesh_names.proofs.Sets.{In, is_or_not, has-in, in-has, within-both}
-use Rattle.mesh_names.proofs.Deciding.{has, partners, is_closed, forest_of, gives_leaves}
-use Rattle.mesh_names.proofs.Worked.{square_tells}
+use Rattle.mesh_names.proofs.Sets.{In, has-in, in-has, within-both}
+use Rattle.mesh_names.proofs.Deciding.{has, partners, forest_of, gives_leaves}
 
 abbrev Marks : Type 0
 Marks = Name → ℤ
@@ -107,11 +106,11 @@ module _ (list : List Name) (m : Marks) where
 
 in-filter : (f : Name → Bool) (list : List Name) (q : Name) → In q list → f q ≡ true → In q (filter f list)
 in-filter f [] q i e = absurd i
-in-filter f (k ∷ ks) q i e = by (f k) refl
+in-filter f (k ∷ ks) q i e = by (f k) refl (λ j. in-filter f ks q j e)
   where
-    by : (b : Bool) → f k ≡ b → In q (cond b (k ∷ filter f ks) (filter f ks))
-    by true h = ⊎_elim (λ (g : q ≡ k). inl g) (λ (j : In q ks). inr (in-filter f ks q j e)) i
-    by false h = ⊎_elim (λ (g : q ≡ k). absurd (true≢false (sym e ∙ ap f g ∙ h))) (λ (j : In q ks). in-filter f ks q j e) i
+    by : (b : Bool) → f k ≡ b → (In q ks → In q (filter f ks)) → In q (cond b (k ∷ filter f ks) (filter f ks))
+    by true h ih = ⊎_elim (λ (g : q ≡ k). inl g) (λ (j : In q ks). inr (ih j)) i
+    by false h ih = ⊎_elim (λ (g : q ≡ k). absurd (true≢false (sym e ∙ ap f g ∙ h))) ih i
 
 filter-in : (f : Name → Bool) (list : List Name) (q : Name) → In q (filter f list) → In q list × (f q ≡ true)
 filter-in f [] q i = absurd i
@@ -195,8 +194,8 @@ are_eight = gives_leaves square four eight_leaves (forest_of square (across_of s
 
 pub square_coarsened : SquareCoarsened
 square_coarsened = (
-  coarsens square (across_of square) both both _ four_leaves (element 0 [] ∷ []) are_four refl,
-  coarsens square (across_of square) both both _ four_leaves [] are_four refl,
-  coarsens square (across_of square) four four _ eight_leaves (element 0 (0 ∷ []) ∷ element 0 (1 ∷ []) ∷ element 1 (0 ∷ []) ∷ element 1 (1 ∷ []) ∷ element 1 [] ∷ []) are_eight refl,
-  coarsens square (across_of square) four four _ eight_leaves four_leaves are_eight refl,
+  coarsens square (across_of square) both both (gives_all (negsuc 0) ∷ []) four_leaves (element 0 [] ∷ []) are_four refl,
+  coarsens square (across_of square) both both (gives_all (negsuc 0) ∷ gives_one (element 1 (1 ∷ [])) (pos 0) ∷ []) four_leaves [] are_four refl,
+  coarsens square (across_of square) four four (gives_all (negsuc 1) ∷ []) eight_leaves (element 0 (0 ∷ []) ∷ element 0 (1 ∷ []) ∷ element 1 (0 ∷ []) ∷ element 1 (1 ∷ []) ∷ element 1 [] ∷ []) are_eight refl,
+  coarsens square (across_of square) four four (gives_all (negsuc 1) ∷ gives_one (element 0 (0 ∷ 0 ∷ [])) (negsuc 0) ∷ []) eight_leaves four_leaves are_eight refl,
 )
