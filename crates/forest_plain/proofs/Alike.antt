@@ -1,5 +1,5 @@
 -- Forests that are alike can be coarsened alike.
-use Rattle.std.proofs.Common.{◌≡◌, ℕ, suc, ◌<◌, min, ℤ, Bool, true, false, not, refl, sym, ap, ◌∙◌, subst, List, [], ◌∷◌, ◌++◌, arith, ⊎_elim}
+use Rattle.std.proofs.Common.{◌≡◌, ℕ, ◌<◌, min, ℤ, Bool, true, false, not, refl, sym, ap, ◌∙◌, subst, List, [], ◌∷◌, ◌++◌, arith, ⊎_elim}
 use Rattle.std.specs.Int.{is_negative}
 use Rattle.std.specs.FinSet.{contains, retain}
 use Rattle.mesh_names.specs.Names.{Name}

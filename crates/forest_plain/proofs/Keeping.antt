@@ -1,7 +1,7 @@
 -- The marks of leaves that are kept, leaf by leaf.
-use Rattle.std.proofs.Common.{◌≡◌, ◌⊎◌, ℕ, suc, ◌+◌, ◌<◌, ℤ, Bool, true, false, cond, not, ◌&&◌, ◌||◌, refl, sym, ap, ◌∙◌, subst, List, [], ◌∷◌, ◌++◌, take, length, slice_index_or, arith, inl, inr, ⊎_elim}
+use Rattle.std.proofs.Common.{◌≡◌, ℕ, ◌+◌, ◌<◌, ℤ, Bool, true, false, cond, not, ◌&&◌, ◌||◌, refl, sym, ap, ◌∙◌, subst, List, [], ◌∷◌, ◌++◌, take, length, slice_index_or, ⊎_elim}
 use Rattle.std.specs.Int.{is_negative}
-use Rattle.std.specs.FinSet.{contains, insert, from_list, from_list_push, contains-insert, contains-empty}
+use Rattle.std.specs.FinSet.{contains, from_list, from_list_push, contains-insert, contains-empty}
 use Rattle.mesh_names.specs.Names.{Name, name_cmp, name_eq}
 use Rattle.mesh_names.specs.Order.{name_cmp_total, name_cmp-same}
 use Rattle.mesh_names.specs.Forests.{Names, Has}

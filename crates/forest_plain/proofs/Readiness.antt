@@ -1,24 +1,23 @@
 -- From a refined forest to a coarsened one.
-use Rattle.std.proofs.Common.{◌≡◌, ℕ, ◌<◌, ◌≤◌, ℤ, pos, Bool, true, false, cond, not, ◌&&◌, refl, sym, ap, ◌∙◌, subst, List, [], inl, arith}
+use Rattle.std.proofs.Common.{◌≡◌, ℕ, ◌<◌, ◌≤◌, ℤ, pos, Bool, true, false, cond, not, ◌&&◌, refl, sym, ap, ◌∙◌, List, [], inl, arith}
 use Rattle.std.specs.FinSet.{contains, from_list, retain, len}
 use Rattle.mesh_names.specs.Names.{Name, name_cmp}
 use Rattle.mesh_names.specs.Triangles.{Shape}
-use Rattle.mesh_names.specs.Forests.{Names, Has, Within, IsListOf}
+use Rattle.mesh_names.specs.Forests.{Names, Has, IsListOf}
 use Rattle.mesh_names.specs.Partners.{Across, Tells}
 use Rattle.mesh_names.specs.Leaves.{leaves}
 use Rattle.mesh_names.specs.Marks.{effective_mark}
 use Rattle.mesh_names.specs.Patches.{owns, patch_count}
-use Rattle.mesh_names.specs.Coarsening.{MarkedForest, IsCoarsened, IsConforming, allowance, child_at, marked_by}
+use Rattle.mesh_names.specs.Coarsening.{IsCoarsened, IsConforming, allowance, child_at, marked_by}
 use Rattle.mesh_names.specs.declared.rows.MarkRow.{MarkRow}
 use Rattle.mesh_names.proofs.Booleans.{and_both, and-both, retained}
 use Rattle.mesh_names.proofs.Conforming.{conforms_by_partners}
 use Rattle.mesh_names.proofs.Coarsening.{coarsened_conforms}
 use Rattle.mesh_names.proofs.Steps.{negative-allowance}
 use Rattle.forest_plain.specs.LeafMarks.{leaf_mark, marked_so}
-use Rattle.forest_plain.specs.Coarsening.{AreAlike, IsReached}
+use Rattle.forest_plain.specs.Coarsening.{IsReached}
 use Rattle.forest_plain.specs.Refined.{IsReady}
 use Rattle.forest_plain.specs.Rounds.{IsRefined, Stands}
-use Rattle.forest_plain.specs.declared.leaf_marks.LeafMarks.{LeafMarks}
 use Rattle.forest_plain.specs.declared.refined.Refined.{Refined}
 use Rattle.forest_plain.proofs.Worklist.{len-within}
 

@@ -1,9 +1,9 @@
 -- One turn of coarsening: a pending name is tried.
-use Rattle.std.proofs.Common.{◌≡◌, ◌⊎◌, ℕ, zero, suc, ◌+◌, ◌*◌, ◌<◌, ◌≤◌, ℤ, pos, negsuc, Bool, true, false, cond, not, ◌&&◌, true≢false, refl, sym, ap, ◌∙◌, subst, List, [], ◌∷◌, ◌++◌, length, arith, inl, inr, ⊎_elim, length-append, append-nil}
+use Rattle.std.proofs.Common.{◌≡◌, ◌⊎◌, ℕ, ◌+◌, ◌<◌, ◌≤◌, ℤ, pos, negsuc, Bool, true, false, cond, ◌&&◌, true≢false, refl, sym, ap, ◌∙◌, subst, List, [], ◌∷◌, ◌++◌, length, arith, inl, inr, ⊎_elim, length-append, append-nil}
 use Rattle.std.specs.Prelude.{Option, Some, None, option_map, option_to_list}
 use Rattle.std.specs.Int.{is_negative}
 use Rattle.std.specs.FinSet.{contains, from_list, remove, len}
-use Rattle.mesh_names.specs.Names.{Name, name_cmp, name_eq, parent_of}
+use Rattle.mesh_names.specs.Names.{Name, name_eq, parent_of}
 use Rattle.mesh_names.specs.Triangles.{Shape}
 use Rattle.mesh_names.specs.Forests.{Names, Has, IsForest}
 use Rattle.mesh_names.specs.Partners.{Across, Tells, InPatch, partner}
@@ -11,12 +11,12 @@ use Rattle.mesh_names.specs.Conformity.{HoldsPartners}
 use Rattle.mesh_names.specs.Coarsening.{MarkedForest, CanCoarsen, HasEnded, IsFullyMarked, after_step, allowance, child_at, joined_mark}
 use Rattle.mesh_names.proofs.Booleans.{and_both, not_true}
 use Rattle.mesh_names.proofs.Neighbours.{some_inj, none_some}
-use Rattle.mesh_names.proofs.Sets.{In, is_or_not, both_sides, has-in, in-has, in-append, in-first, in-second, tied-same, same-tied}
+use Rattle.mesh_names.proofs.Sets.{In, both_sides, has-in, in-has, in-append, in-first, in-second, tied-same, same-tied}
 use Rattle.mesh_names.proofs.Steps.{negative-allowance, allowance-negative, mark-in, mark-out, next_forest, next_holds, patch-trans, patch_or_not, stays_there, was_there}
 use Rattle.mesh_names.proofs.Coarsening.{step-without, without, fewer}
 use Rattle.forest_plain.specs.LeafMarks.{joined_in}
-use Rattle.forest_plain.specs.Coarsening.{AllPending, AreAlike, IsReached, IsUnderway}
-use Rattle.forest_plain.specs.Tried.{IsTried, turns_left}
+use Rattle.forest_plain.specs.Coarsening.{AllPending, AreAlike, IsUnderway}
+use Rattle.forest_plain.specs.Tried.{IsTried}
 use Rattle.forest_plain.proofs.Alike.{alike_can, reach_next}
 
 module _ (mesh : Shape) (x : Across) (tells : Tells mesh x) (old : MarkedForest) (parents : List Name) (name : Name) (work : IsUnderway mesh x old (parents ++ name ∷ [])) where

@@ -1,8 +1,8 @@
 -- What a round adds to a forest and takes away from it, as lists of patches.
-use Rattle.std.specs.Prelude.{◌≡◌, ◌<◌, ◌≤◌, ℕ, zero, suc, Bool, not, ◌&&◌, ◌==◌, List, [], ◌++◌, map, filter}
+use Rattle.std.specs.Prelude.{◌≡◌, ℕ, zero, suc, Bool, not, ◌&&◌, ◌==◌, List, [], ◌++◌, map, filter}
 use Rattle.std.specs.FinSet.{contains}
 use Rattle.mesh_names.specs.Names.{Name}
-use Rattle.mesh_names.specs.Triangles.{Shape, size, level}
+use Rattle.mesh_names.specs.Triangles.{Shape, level}
 use Rattle.mesh_names.specs.Partners.{Across}
 use Rattle.mesh_names.specs.Forests.{Names, IsListOf}
 use Rattle.mesh_names.specs.Patches.{owns, patch_of}

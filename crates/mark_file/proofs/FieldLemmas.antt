@@ -15,8 +15,6 @@ use Rattle.std.proofs.lemmas.Str.Parse.{IsNumeralModel, numerals_by_value, tells
 use Rattle.mark_file.specs.Fields.{Field, is_blank, trimmed, without_end, is_round, round_in, is_whole, is_mark_number, mark_in}
 use Rattle.csv.specs.Records.{field_at}
 use mir.Syntax.{w64}
-use Rattle.std.specs.Prelude.{◌<ℤ◌, ◌≤ℤ◌}
-use Rattle.std.proofs.lemmas.Int.{ints}
 
 -- std's own words for digits and their number
 own : IsNumeralModel (λ ds. all_ascii_digits ds ≡ true) (digits_value 10)

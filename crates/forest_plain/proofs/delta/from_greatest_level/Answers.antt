@@ -1,6 +1,6 @@
-use Rattle.std.proofs.Common.{◌≡◌, ◌-◌, ap, sym, ◌∙◌, ◌++◌, arith}
+use Rattle.std.proofs.Common.{arith}
 use Rattle.compat_check.specs.Meshes.{across_in, shape_of}
-use Rattle.forest_plain.specs.Deltas.{patches_at, patches_down}
+use Rattle.forest_plain.specs.Deltas.{patches_down}
 use Rattle.forest_plain.proofs.LevelOrder.{next_down}
 use Rattle.forest_plain.proofs.delta.from_greatest_level.Goals as goal
 

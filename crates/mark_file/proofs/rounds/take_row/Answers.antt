@@ -1,6 +1,5 @@
 use Rattle.std.proofs.Common.{to_z, of_z, refl, ◌≡◌, [], ◌∷◌, ◌++◌, Ok, cond, length, sym, ap, ◌∙◌, subst, arith}
 use Rattle.std.specs.Result.{is_ok}
-use Rattle.std.proofs.lemmas.Int.{ints}
 use mir.Syntax.{w64}
 use Rattle.csv.specs.Records.{fields_of}
 use Rattle.mark_file.specs.Rows.{row_meaning}
