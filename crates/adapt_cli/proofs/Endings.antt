@@ -6,7 +6,7 @@ use Rattle.mesh_io.specs.Shelves.{Files}
 use Rattle.adapt_cli.specs.Words.{Word, files_of_run, usage}
 use Rattle.adapt_cli.specs.FaultTexts.{memory_line, read_fault_line}
 use Rattle.adapt_cli.specs.Ending.{Call, Ends, IsNext, IsUntouched, LineEnds, StopEnds, Tells, Written}
-use Rattle.adapt_cli.specs.Stops.{IsNameOf, IsStop, IsTurn, name_of}
+use Rattle.adapt_cli.specs.Stops.{IsStop, IsTurn, name_of}
 use Rattle.adapt_cli.specs.declared.fault.InputFile.{InputFile}
 use Rattle.adapt_cli.specs.declared.fault.InputFile.TheVariants.{Macro, Marks}
 use Rattle.adapt_cli.specs.declared.fault.Stop.{Stop}

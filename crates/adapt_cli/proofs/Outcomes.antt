@@ -16,7 +16,8 @@ use Rattle.forest_plain.specs.declared.refusal.RoundRefusal.{RoundRefusal}
 use Rattle.forest_plain.specs.declared.refusal.RoundRefusal.TheVariants.{NotALeaf, LevelTooDeep, PoolFull, Memory as no_memory}
 use Rattle.adapt_cli.specs.Words.{Word, HasNames, files_of_run}
 use Rattle.adapt_cli.specs.FaultTexts.{Fault, round_fault}
-use Rattle.adapt_cli.specs.Rounds.{Leads, Refuses, LeadTo}
+use Rattle.forest_plain.specs.Rounds.{IsRound}
+use Rattle.adapt_cli.specs.Rounds.{Refuses, LeadTo}
 use Rattle.adapt_cli.specs.Outcome.{AcceptsMacro, AcceptsMarks, RefusesMarks, RunsTo, Follows, FollowsMarks, IsOutcome, MacroIsAccepted, pool}
 use Rattle.adapt_cli.specs.Stops.{Gives, name_of, IsLoadStop, IsStop, IsTurn, IsTextOf, StopsBy}
 use Rattle.adapt_cli.specs.declared.fault.InputFile.TheVariants.{Marks}
@@ -64,7 +65,7 @@ lead_status shape sides room [] old fault h = absurd (apart h)
     apart : {A B : Type 0} {a : A} {b : B} → ◌≡◌ {A = Result A B} (Err b) (Ok a) → ⊥
     apart q = cc
 lead_status shape sides room (round ∷ rounds) old fault h = ⊎_elim
-    (λ (a : (new : Names) × Leads shape sides room old round.rows new × LeadTo shape sides room rounds new (Err fault)). lead_status shape sides room rounds a.0 fault a.2)
+    (λ (a : (new : Names) × IsRound shape sides room old round.rows new × LeadTo shape sides room rounds new (Err fault)). lead_status shape sides room rounds a.0 fault a.2)
     (λ (b : (f : Fault) × Refuses shape sides room old round f × (Err fault ≡ Err f)).
     let s = refused_status round.number b.1.refusal b.0 b.1.told in
     let same = ap (λ (f : Fault). f.0) (inner b.2) in

@@ -1,17 +1,16 @@
 -- Rounds that are made in order.
-use Rattle.std.proofs.Common.{◌≡◌, ℕ, zero, suc, ◌+◌, ◌<◌, ◌≤◌, refl, sym, ap, ◌∙◌, subst, List, [], ◌∷◌, drop, length, slice_index_or, inl, inr, arith}
-use Rattle.std.specs.Prelude.{All, Result, Ok, Err, string_bytes}
+use Rattle.std.proofs.Common.{◌≡◌, ℕ, zero, suc, ◌+◌, ◌<◌, ◌≤◌, refl, sym, ◌∙◌, subst, List, [], ◌∷◌, drop, length, slice_index_or, inl, inr, arith}
+use Rattle.std.specs.Prelude.{Result, Ok, Err, string_bytes}
 use Rattle.mesh_names.specs.Triangles.{Shape}
 use Rattle.mesh_names.specs.Partners.{Across}
 use Rattle.mesh_names.specs.Forests.{Names}
-use Rattle.mesh_names.specs.Patches.{patch_count}
 use Rattle.mesh_names.specs.declared.rows.RoundMarks.{RoundMarks}
 use Rattle.mesh_names.specs.declared.patch.RoundDelta.{RoundDelta}
 use Rattle.mark_file.specs.Meaning.{rounds_read}
-use Rattle.forest_plain.specs.Rounds.{IsFine, IsRefined, IsRound, IsRoundRefusal}
+use Rattle.forest_plain.specs.Rounds.{IsRound, IsRoundBy, IsRoundRefusal}
 use Rattle.forest_plain.specs.declared.refusal.RoundRefusal.{RoundRefusal}
 use Rattle.adapt_cli.specs.FaultTexts.{Fault}
-use Rattle.adapt_cli.specs.Rounds.{Leads, LeadTo}
+use Rattle.adapt_cli.specs.Rounds.{LeadTo}
 use Rattle.adapt_cli.specs.Stops.{StopsBy, IsRoundStop}
 use Rattle.adapt_cli.specs.declared.fault.Stop.{Stop}
 use Rattle.adapt_cli.specs.declared.fault.Stop.TheVariants.{Refused, Memory, ReadFault, Usage}
@@ -41,8 +40,8 @@ none_left (x ∷ xs) (suc i) h = none_left xs i (omega (arith, h))
 module _ (mesh : Shape) (sides : Across) (pool : ℕ) (rounds : List RoundMarks) (old : Names) (i : ℕ) (mesh_now : Shape) (sides_now : Across) (pool_now : ℕ) (now : Names) (so_far : SoFar mesh sides pool rounds old i mesh_now sides_now pool_now now) where
   -- one more round is made
   pub next_round : (mesh_next : Shape) (sides_next : Across) (pool_next : ℕ) (next : Names) (round d : RoundMarks) (delta : RoundDelta) → i < length rounds → round ≡ slice_index_or rounds i d →
-      mesh_next ≡ mesh_now → sides_next ≡ sides_now → pool_next ≡ pool_now → IsRound mesh_now sides_now now round.rows.items next delta → patch_count sides_now next ≤ pool_now → SoFar mesh sides pool rounds old (i + 1) mesh_next sides_next pool_next next
-  next_round mesh_next sides_next pool_next next round d delta low at m s p done room = record {
+      mesh_next ≡ mesh_now → sides_next ≡ sides_now → pool_next ≡ pool_now → IsRoundBy mesh_now sides_now pool_now now round.rows.items next delta → SoFar mesh sides pool rounds old (i + 1) mesh_next sides_next pool_next next
+  next_round mesh_next sides_next pool_next next round d delta low at m s p done = record {
     same_mesh = m ∙ so_far.same_mesh;
     same_sides = s ∙ so_far.same_sides;
     same_pool = p ∙ so_far.same_pool;
@@ -56,12 +55,8 @@ module _ (mesh : Shape) (sides : Across) (pool : ℕ) (rounds : List RoundMarks)
       one_more : i + 1 ≡ suc i
       one_more = omega arith
 
-      leads_on : Leads mesh sides pool now round.rows.items next
-      leads_on = record {
-        fine = subst (λ (y : Shape). All (IsFine y now) round.rows.items) so_far.same_mesh done.fine;
-        refined = subst (λ (y : Shape). IsRefined y now round.rows.items next) so_far.same_mesh done.refined;
-        room = let a = so_far.same_pool in let b = ap (λ (x : Across). patch_count x next) so_far.same_sides in omega (arith, a, b, room);
-      }
+      leads_on : IsRound mesh sides pool now round.rows.items next
+      leads_on = subst (λ (y : Shape × Across × ℕ). IsRound y.0 y.1 y.2 now round.rows.items next) (λ j. (so_far.same_mesh j, so_far.same_sides j, so_far.same_pool j)) done.round
 
   -- a round is refused
   pub stop_here : (round d : RoundMarks) (refusal : RoundRefusal) → i < length rounds → round ≡ slice_index_or rounds i d → IsRoundRefusal mesh_now sides_now pool_now now round.rows.items refusal → (stop : Stop) → IsRoundStop round.number refusal stop →

@@ -1,20 +1,12 @@
 -- Rounds, one after another, up to the first that is refused.
-use Rattle.std.specs.Prelude.{◌≡◌, ℕ, ◌≤◌, ◌⊎◌, List, [], ◌∷◌, All, Result, Ok, Err, Some}
+use Rattle.std.specs.Prelude.{◌≡◌, ℕ, ◌⊎◌, List, [], ◌∷◌, Result, Ok, Err, Some}
 use Rattle.mesh_names.specs.Triangles.{Shape}
 use Rattle.mesh_names.specs.Partners.{Across}
 use Rattle.mesh_names.specs.Forests.{Names}
-use Rattle.mesh_names.specs.Patches.{patch_count}
-use Rattle.mesh_names.specs.declared.rows.MarkRow.{MarkRow}
-use Rattle.forest_plain.specs.Rounds.{IsFine, IsRefined, IsRoundRefusal}
+use Rattle.forest_plain.specs.Rounds.{IsRound, IsRoundRefusal}
 use Rattle.forest_plain.specs.declared.refusal.RoundRefusal.{RoundRefusal}
 use Rattle.mark_file.specs.Meaning.{Round}
 use Rattle.adapt_cli.specs.FaultTexts.{Fault, round_fault}
-
--- the rows lead from the old forest to the new one, within the pool
-pub record Leads (mesh : Shape) (across : Across) (pool : ℕ) (old : Names) (rows : List MarkRow) (new : Names) : Type 0 where
-  pub fine : All (IsFine mesh old) rows
-  pub refined : IsRefined mesh old rows new
-  pub room : patch_count across new ≤ pool
 
 -- the round is refused, and this is what becomes of it
 pub record Refuses (mesh : Shape) (across : Across) (pool : ℕ) (old : Names) (round : Round) (fault : Fault) : Type 0 where
@@ -26,5 +18,5 @@ pub record Refuses (mesh : Shape) (across : Across) (pool : ℕ) (old : Names) (
 abbrev pub LeadTo : Shape → Across → ℕ → List Round → Names → Result Names Fault → Type 0
 LeadTo mesh across pool [] old end = end ≡ Ok old
 LeadTo mesh across pool (round ∷ rounds) old end =
-    ((new : Names) × Leads mesh across pool old round.rows new × LeadTo mesh across pool rounds new end)
+    ((new : Names) × IsRound mesh across pool old round.rows new × LeadTo mesh across pool rounds new end)
     ⊎ ((fault : Fault) × Refuses mesh across pool old round fault × (end ≡ Err fault))

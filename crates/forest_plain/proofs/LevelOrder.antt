@@ -1,5 +1,5 @@
 -- Patches, level by level.
-use Rattle.std.proofs.Common.{◌≡◌, ℕ, ◌+◌, ◌<◌, Bool, true, false, refl, sym, ap, ◌∙◌, List, [], ◌∷◌, ◌++◌, take, length, filter, map, slice_index_or, append_assoc, eq-eqb}
+use Rattle.std.proofs.Common.{◌≡◌, ℕ, suc, ◌+◌, ◌-◌, arith, ◌<◌, Bool, true, false, refl, sym, ap, ◌∙◌, List, [], ◌∷◌, ◌++◌, take, length, filter, map, slice_index_or, append_assoc, eq-eqb}
 use Rattle.std.proofs.lemmas.Bool.{ne_eqb}
 use Rattle.std.specs.Prelude.{◌==◌}
 use Rattle.std.proofs.lemmas.List.{map-append}
@@ -8,7 +8,7 @@ use Rattle.mesh_names.specs.Triangles.{Shape, level}
 use Rattle.mesh_names.specs.Partners.{Across}
 use Rattle.mesh_names.specs.Patches.{patch_of}
 use Rattle.mesh_names.specs.declared.patch.PatchName.{PatchName}
-use Rattle.forest_plain.specs.Deltas.{patches_at}
+use Rattle.forest_plain.specs.Deltas.{patches_at, patches_down}
 use Rattle.forest_plain.proofs.Filtering.{filter-kept, filter-skipped}
 
 module _ (mesh : Shape) (across : Across) (l : ℕ) where
@@ -35,3 +35,18 @@ module _ (mesh : Shape) (across : Across) (l : ℕ) where
     where
       fails : is_at n ≡ false
       fails = ne_eqb (level mesh n) l (λ e. here (is ∙ e))
+
+-- one level more, from the greatest down
+pub next_down : (mesh : Shape) (across : Across) (owners : List Name) (all old new : List PatchName) (above : ℕ) → above < 24 → old ++ patches_down mesh across (24 - above) owners ≡ all → new ≡ old ++ patches_at mesh across (23 - above) owners → new ++ patches_down mesh across (24 - (above + 1)) owners ≡ all
+next_down mesh across owners all old new above h was step =
+    (λ i. step i ++ patches_down mesh across (24 - (above + 1)) owners)
+    ∙ append_assoc old (patches_at mesh across (23 - above) owners) (patches_down mesh across (24 - (above + 1)) owners)
+    ∙ ap (λ (k : ℕ). old ++ (patches_at mesh across k owners ++ patches_down mesh across (24 - (above + 1)) owners)) same
+    ∙ ap (λ (k : ℕ). old ++ patches_down mesh across k owners) (sym up)
+    ∙ was
+  where
+    same : 23 - above ≡ 24 - (above + 1)
+    same = omega arith
+
+    up : 24 - above ≡ suc (24 - (above + 1))
+    up = omega (arith, h)

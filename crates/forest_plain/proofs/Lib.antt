@@ -8,3 +8,7 @@ pub mod Counting
 pub mod Filtering
 pub mod LevelOrder
 pub mod Refining
+pub mod Alike
+pub mod Turns
+pub mod Keeping
+pub mod Readiness

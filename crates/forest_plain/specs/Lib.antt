@@ -4,3 +4,7 @@ pub mod MarkMaps
 pub mod Needed
 pub mod Closing
 pub mod Forests
+pub mod LeafMarks
+pub mod Coarsening
+pub mod Tried
+pub mod Refined

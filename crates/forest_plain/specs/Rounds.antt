@@ -1,4 +1,4 @@
--- What a round answers on a forest: the least conforming refinement, or the first refusal.
+-- What a round answers on a forest: the least conforming refinement, coarsened, or the first refusal.
 use Rattle.std.specs.Prelude.{◌≡◌, ℕ, ◌+◌, ◌<◌, ◌≤◌, min, true, List, [], ◌∷◌, length, slice_index_or, ◌++◌, Option, Some, None, IfSome, All}
 use Rattle.std.specs.FinSet.{difference, from_list}
 use Rattle.mesh_names.specs.Names.{Name}
@@ -13,7 +13,8 @@ use Rattle.mesh_names.specs.declared.patch.RoundDelta.{RoundDelta}
 use Rattle.mesh_names.specs.declared.rows.MarkRow.{MarkRow}
 use Rattle.mesh_names.specs.declared.rows.Place.{Place}
 use Rattle.mesh_names.specs.declared.rows.Place.TheVariants.{EveryLeaf, Elem, Corner}
-use Rattle.forest_plain.specs.Deltas.{AreBorn}
+use Rattle.mesh_names.specs.Coarsening.{IsCoarsened, marked_by}
+use Rattle.forest_plain.specs.Deltas.{AreBorn, AreDied}
 use Rattle.forest_plain.specs.declared.refusal.RoundRefusal.{RoundRefusal}
 use Rattle.forest_plain.specs.declared.refusal.RoundRefusal.TheVariants.{NotALeaf, LevelTooDeep, PoolFull, Memory}
 
@@ -104,19 +105,26 @@ pub record Stands (mesh : Shape) (across : Across) (pool : ℕ) (members : Names
   pub some : 1 ≤ pool
   pub most : pool ≤ 1048576
 
--- a round that was done: the rows lead from the old forest to the new one, which adds these patches
-pub record IsRound (mesh : Shape) (across : Across) (old : Names) (rows : List MarkRow) (new : Names) (delta : RoundDelta) : Type 0 where
+-- a round that was done: the rows refine the old forest, within the pool, and the refined forest is coarsened to the new one
+pub record IsRound (mesh : Shape) (across : Across) (room : ℕ) (old : Names) (rows : List MarkRow) (new : Names) : Type 0 where
   pub fine : All (IsFine mesh old) rows
-  pub refined : IsRefined mesh old rows new
-  pub born : AreBorn mesh across old new delta.born.items
-  pub died : delta.died.items ≡ []
+  pub refined : Names
+  pub is_refined : IsRefined mesh old rows refined
+  pub fits : patch_count across refined ≤ room
+  pub coarsened : IsCoarsened across (marked_by mesh old rows refined) new
+
+-- a round that was done, and what it changed: the patches that it bisected, and those that it took away
+pub record IsRoundBy (mesh : Shape) (across : Across) (room : ℕ) (old : Names) (rows : List MarkRow) (new : Names) (delta : RoundDelta) : Type 0 where
+  pub round : IsRound mesh across room old rows new
+  pub born : AreBorn mesh across old round.refined delta.born.items
+  pub died : AreDied mesh across round.refined new delta.died.items
 
 -- all rows can be done, and the refined forest has this many patches
 pub record NeedsPatches (mesh : Shape) (across : Across) (old : Names) (rows : List MarkRow) (patches : ℕ) : Type 0 where
   pub fine : All (IsFine mesh old) rows
-  pub new : Names
-  pub refined : IsRefined mesh old rows new
-  pub count : patches ≡ patch_count across new
+  pub refined : Names
+  pub is_refined : IsRefined mesh old rows refined
+  pub count : patches ≡ patch_count across refined
 
 -- when each refusal comes: the rows in order, and then the pool; want of memory may come at any place
 abbrev pub IsRoundRefusal : Shape → Across → ℕ → Names → List MarkRow → RoundRefusal → Type 0

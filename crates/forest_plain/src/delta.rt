@@ -1,9 +1,9 @@
-//! What a round adds to a forest.
+//! What a round adds to a forest, and what it takes away.
 ghost use Rattle.std.specs.Prelude.{◌≡◌, [], ◌∷◌, ◌++◌, All, IfOk, OnOk};
 ghost use Rattle.mesh_names.specs.Forests.{IsForest, IsInMesh};
 ghost use Rattle.mesh_names.specs.Patches.{owns, patch_count, patch_of};
 ghost use Rattle.compat_check.specs.Meshes.{across_in, shape_of};
-ghost use Rattle.forest_plain.specs.Deltas.{new_owners, owns_new, patches_at, patches_below};
+ghost use Rattle.forest_plain.specs.Deltas.{new_owners, owns_new, patches_at, patches_below, patches_down};
 
 use crate::name_set::NameSet;
 use compat_check::mesh::MacroMesh;
@@ -37,7 +37,7 @@ fn is_owner(mesh: &MacroMesh, name: ElemName) -> bool
 }
 
 /// The patches that are not in the old forest, by level and then by owner; `names` are the
-/// members of the new one.
+/// members of the refined one.
 pub fn born_patches(
     alloc: Global,
     mesh: &MacroMesh,
@@ -51,7 +51,22 @@ pub fn born_patches(
     by_level(alloc, mesh, &owners)
 }
 
-// The owners of patches that are not in the old forest.
+/// The patches that are not in the coarsened forest, by level from the greatest down and then by
+/// owner; `names` are the members of the refined one.
+pub fn died_patches(
+    alloc: Global,
+    mesh: &MacroMesh,
+    coarsened: &NameSet,
+    names: &[ElemName],
+) -> Result<Vec<PatchName>, AllocError>
+    requires { All (IsInMesh (shape_of mesh.now)) names.now }
+    ensures { IfOk result (λ v. v.items ≡ patches_down (shape_of mesh.now) (across_in mesh.now) 24 (new_owners (across_in mesh.now) coarsened.now names.now)) }
+{
+    let owners = owners_of_new(alloc, mesh, coarsened, names)?;
+    from_greatest_level(alloc, mesh, &owners)
+}
+
+// The owners of patches that are not in the other forest.
 fn owners_of_new(
     alloc: Global,
     mesh: &MacroMesh,
@@ -71,7 +86,7 @@ fn owners_of_new(
     Ok(owners)
 }
 
-// Whether the name owns a patch that is not in the old forest.
+// Whether the name owns a patch that is not in the other forest.
 fn owns_new(mesh: &MacroMesh, old: &NameSet, name: ElemName) -> bool
     requires { IsInMesh (shape_of mesh.now) name }
     ensures { result ≡ owns_new (across_in mesh.now) old.now name }
@@ -91,6 +106,22 @@ fn by_level(
     let mut patches = Vec::new(alloc);
     for level in 0..24 {
         add_level(mesh, level, owners, &mut patches)?;
+    }
+    Ok(patches)
+}
+
+// The patches of these owners, level by level from the greatest down.
+fn from_greatest_level(
+    alloc: Global,
+    mesh: &MacroMesh,
+    owners: &[ElemName],
+) -> Result<Vec<PatchName>, AllocError>
+    requires { All (IsInMesh (shape_of mesh.now)) owners.now }
+    ensures { IfOk result (λ v. v.items ≡ patches_down (shape_of mesh.now) (across_in mesh.now) 24 owners.now) }
+{
+    let mut patches = Vec::new(alloc);
+    for above in 0..24 {
+        add_level(mesh, 23 - above, owners, &mut patches)?;
     }
     Ok(patches)
 }

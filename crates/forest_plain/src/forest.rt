@@ -6,14 +6,21 @@ ghost use Rattle.mesh_names.specs.Leaves.{leaves};
 ghost use Rattle.mesh_names.specs.Marks.{IsWellFormed};
 ghost use Rattle.mesh_names.specs.Patches.{patch_count};
 ghost use Rattle.compat_check.specs.Meshes.{across_in, shape_of};
-ghost use Rattle.forest_plain.specs.Rounds.{IsFine, IsFirstFault, IsRefined, IsRound, IsRoundRefusal, IsRowsRefusal, Stands};
+ghost use Rattle.mesh_names.specs.Coarsening.{IsCoarsened, MarkedForest};
+ghost use Rattle.forest_plain.specs.LeafMarks.{marked_so};
+ghost use Rattle.forest_plain.specs.Coarsening.{IsReached, IsUnderway};
+ghost use Rattle.forest_plain.specs.Refined.{IsReady};
+ghost use Rattle.forest_plain.specs.Rounds.{IsFine, IsFirstFault, IsRoundBy, IsRoundRefusal, IsRowsRefusal, Stands};
 
 use crate::closing::close;
-use crate::delta::{born_patches, count_patches};
+use crate::coarsening::coarsen;
+use crate::delta::{born_patches, count_patches, died_patches};
+use crate::leaf_marks::LeafMarks;
 use crate::leaves::{is_leaf, leaf_list};
 use crate::marks::Marks;
 use crate::name_set::NameSet;
 use crate::needs::needed_names;
+use crate::refined::Refined;
 use crate::refusal::RoundRefusal;
 use crate::rows::{greatest_level, try_rows};
 use compat_check::mesh::MacroMesh;
@@ -76,21 +83,22 @@ impl<'m> PlainForest<'m> {
         count_patches(self.mesh, &self.members) as u32
     }
 
-    /// Bisects each marked leaf as often as its effective mark says, and all that a conforming
-    /// forest needs with it (Mitchell): the new forest is the least one. A leaf's mark is the
-    /// number of the last row that names it or every leaf. After a refusal the forest is as it
-    /// was.
+    /// Bisects each leaf with a mark above 0 as often as its mark says, and all that a conforming
+    /// forest needs with it (Mitchell): the refined forest is the least one. Then takes away each
+    /// patch whose members' children are all leaves with marks below 0, and goes on so, where a
+    /// member that becomes a leaf has the greater of its children's marks, plus one. A leaf's mark
+    /// is the number of the last row that names it or every leaf; a leaf that this round made has
+    /// none. After a refusal the forest is as it was.
     pub fn round(&mut self, marks: &RoundMarks) -> Result<RoundDelta, RoundRefusal>
         requires { All IsWellFormed marks.now.rows.items }
-        ensures ok { IfOk result (IsRound (mesh_of self.old) (sides_of self.old) (members_of self.old) marks.now.rows.items (members_of self.new)) }
-        ensures room { OnOk result (patch_count (sides_of self.old) (members_of self.new) ≤ pool_of self.old) }
+        ensures ok { IfOk result (IsRoundBy (mesh_of self.old) (sides_of self.old) (pool_of self.old) (members_of self.old) marks.now.rows.items (members_of self.new)) }
         ensures refused { IfErr result (IsRoundRefusal (mesh_of self.old) (sides_of self.old) (pool_of self.old) (members_of self.old) marks.now.rows.items) }
         ensures unchanged { OnErr result (members_of self.new ≡ members_of self.old) }
         ensures same { (mesh_of self.new ≡ mesh_of self.old) × (sides_of self.new ≡ sides_of self.old) × (pool_of self.new ≡ pool_of self.old) }
     {
         let _checked = self.mesh.element_count();
         let refined = self.refined(&marks.rows)?;
-        let needed = count_patches(self.mesh, &refined);
+        let needed = count_patches(self.mesh, &refined.members);
         if needed > self.pool as usize {
             return Err(RoundRefusal::PoolFull {
                 needed: needed.min(4_294_967_295) as u32,
@@ -98,20 +106,19 @@ impl<'m> PlainForest<'m> {
                 pool: self.pool,
             });
         }
-        let names = refined.to_vec(self.alloc)?;
+        let names = refined.members.to_vec(self.alloc)?;
         let born = born_patches(self.alloc, self.mesh, &self.members, &names)?;
-        self.members = refined;
-        Ok(RoundDelta {
-            born,
-            died: Vec::new(self.alloc),
-        })
+        let coarsened = self.coarsened(refined)?;
+        let died = died_patches(self.alloc, self.mesh, &coarsened, &names)?;
+        self.members = coarsened;
+        Ok(RoundDelta { born, died })
     }
 
     // The refined forest, where all rows can be done.
-    fn refined(&self, rows: &[MarkRow]) -> Result<NameSet, RoundRefusal>
+    fn refined(&self, rows: &[MarkRow]) -> Result<Refined, RoundRefusal>
         requires { All IsWellFormed rows.now }
         ensures fine { OnOk result (All (IsFine (mesh_of self.now) (members_of self.now)) rows.now) }
-        ensures refined { IfOk result (IsRefined (mesh_of self.now) (members_of self.now) rows.now) }
+        ensures ready { IfOk result (IsReady (mesh_of self.now) (sides_of self.now) (members_of self.now) rows.now) }
         ensures refused { IfErr result (IsRowsRefusal (mesh_of self.now) (members_of self.now) rows.now) }
     {
         let leaves = leaf_list(self.alloc, self.mesh, &self.members)?;
@@ -120,6 +127,17 @@ impl<'m> PlainForest<'m> {
         }
         let closed = self.closed(&leaves, rows)?;
         Ok(closed)
+    }
+
+    // What is left of a refined forest.
+    fn coarsened(&self, refined: Refined) -> Result<NameSet, AllocError>
+        requires { IsUnderway (mesh_of self.now) (sides_of self.now) (marked_so refined.members refined.marks) refined.marks.parents.items }
+        ensures { IfOk result (λ left. (first : MarkedForest) → IsReached (sides_of self.now) first (marked_so refined.members refined.marks) → IsCoarsened (sides_of self.now) first left) }
+    {
+        let mut members = refined.members;
+        let mut marks = refined.marks;
+        coarsen(self.mesh, &mut members, &mut marks)?;
+        Ok(members)
     }
 
     // Tries the rows, where the list has the leaves.
@@ -134,18 +152,23 @@ impl<'m> PlainForest<'m> {
         try_rows(self.mesh, &self.members, deepest, rows)
     }
 
-    // The least forest, where the list has the leaves and the rows can be done.
-    fn closed(&self, list: &[ElemName], rows: &[MarkRow]) -> Result<NameSet, AllocError>
+    // The least forest, where the list has the leaves and the rows can be done, with the marks of
+    // its leaves.
+    fn closed(&self, list: &[ElemName], rows: &[MarkRow]) -> Result<Refined, AllocError>
         requires leaves { IsListOf (leaves (mesh_of self.now) (members_of self.now)) list.now }
         requires fine { All (IsFine (mesh_of self.now) (members_of self.now)) rows.now }
         requires formed { All IsWellFormed rows.now }
-        ensures { IfOk result (IsRefined (mesh_of self.now) (members_of self.now) rows.now) }
+        ensures { IfOk result (IsReady (mesh_of self.now) (sides_of self.now) (members_of self.now) rows.now) }
     {
         let _checked = self.mesh.element_count();
         let marks = Marks::of_rows(self.alloc, rows)?;
         let needed = needed_names(self.alloc, list, &marks)?;
-        let mut refined = self.members.copy()?;
-        close(self.mesh, &mut refined, needed)?;
-        Ok(refined)
+        let mut members = self.members.copy()?;
+        close(self.mesh, &mut members, needed)?;
+        let leaf_marks = LeafMarks::of_leaves(self.alloc, list, &marks, &members)?;
+        Ok(Refined {
+            members,
+            marks: leaf_marks,
+        })
     }
 }

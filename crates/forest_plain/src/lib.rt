@@ -4,11 +4,14 @@
 //! holds and adds.
 
 pub mod closing;
+pub mod coarsening;
 pub mod delta;
 pub mod forest;
+pub mod leaf_marks;
 pub mod leaves;
 pub mod marks;
 pub mod name_set;
 pub mod needs;
+pub mod refined;
 pub mod refusal;
 pub mod rows;

@@ -53,6 +53,13 @@ impl NameSet {
         Ok(added)
     }
 
+    /// Takes a name out of the set. Takes no memory.
+    pub fn remove(&mut self, name: ElemName)
+        ensures { self.new ≡ set.remove self.old name }
+    {
+        self.names.remove(&name);
+    }
+
     /// A set of the same names.
     pub fn copy(&self) -> Result<NameSet, AllocError>
         ensures { IfOk result (λ s. s ≡ self.now) }

@@ -66,6 +66,9 @@ fn times(row: &MarkRow) -> u32
     ensures times { result ≡ bisections row.now.number }
     ensures small { result ≤ 24 }
 {
+    if row.number <= 0 {
+        return 0;
+    }
     row.number as u32
 }
 

@@ -1,5 +1,7 @@
 -- What an accepted row is.
-use Rattle.std.proofs.Common.{◌≡◌, ℕ, ◌<◌, ◌≤◌, Bool, true, false, cond, eqb, ltb, leb, not, length, Option, Some, None, Result, Ok, Err, ℤ, pos, negsuc, sym, refl, ap, ◌∙◌, subst, arith, ◌⊎◌, inl, inr}
+use mir.Syntax.{w64}
+use Rattle.std.proofs.lemmas.Int.{ints}
+use Rattle.std.proofs.Common.{to_z, of_z, pos, negsuc, ◌≡◌, ℕ, ◌<◌, ◌≤◌, Bool, true, false, cond, eqb, ltb, not, length, Option, Some, None, Result, Ok, Err, ℤ, nat_abs, sym, refl, ap, ◌∙◌, subst, arith, ◌⊎◌, inl, inr}
 use Rattle.std.specs.Prelude.{bytes_eq, codes, unwrap_or}
 use Rattle.std.specs.Option.{option_map, option_and_then}
 use Rattle.std.specs.Str.Parse.{digits_value}
@@ -17,7 +19,7 @@ use Rattle.mark_file.specs.Meaning.{mark_row}
 use Rattle.mark_file.specs.declared.row.RoundRow.{RoundRow}
 use Rattle.mark_file.specs.declared.refusal.MarkRefusal.{MarkRefusal}
 use Rattle.mark_file.specs.declared.refusal.MarkRefusal.TheVariants.{BadFields, BadRound, BadWhat, BadWhere, BadNumber, RoundsFall, TooMany}
-use Rattle.mark_file.proofs.FieldLemmas.{both, round_facts}
+use Rattle.mark_file.proofs.FieldLemmas.{round_facts}
 
 -- what an accepted row is, after a row of the round `before`
 pub record Accepts (before : ℕ) (r : Record) (row : RoundRow) : Type 0 where
@@ -55,10 +57,6 @@ place_in-takes field p h = by (bytes_eq field (codes "*")) h where
   by true h = let same : EveryLeaf ≡ p = cc in ap takes_mark (sym same)
   by false h = elem-takes (name_spelled field) p h
 
-mark_number : (z : ℤ) → is_mark_number z ≡ true → (k : ℕ) × (z ≡ pos k) × (k ≤ 24)
-mark_number (pos k) e = (k, refl, leb-true k 24 (both (leb 0 k) (leb k 24) e).1)
-mark_number (negsuc k) e = absurd (cc)
-
 kept : (o : Option ℤ) (z : ℤ) → option_and_then (λ n. cond (is_mark_number n) (Some n) None) o ≡ Some z → is_mark_number z ≡ true
 kept None z h = absurd (cc)
 kept (Some n) z h = by (is_mark_number n) refl h where
@@ -66,9 +64,14 @@ kept (Some n) z h = by (is_mark_number n) refl h where
   by false e h = absurd (cc)
   by true e h = let same : n ≡ z = cc in ap is_mark_number (sym same) ∙ e
 
-mark_in-number : (field : Field) (z : ℤ) → mark_in field ≡ Some z → (k : ℕ) × (z ≡ pos k) × (k ≤ 24)
+mark_in-small : (field : Field) (z : ℤ) → mark_in field ≡ Some z → nat_abs z ≤ 24
 unfolding mark_in
-mark_in-number field z h = mark_number z (kept (whole_in field) z h)
+mark_in-small field z h = leb-true (nat_abs z) 24 (kept (whole_in field) z h)
+
+-- a small number is the one that its 64 bits stand for
+pub small_whole : (z : ℤ) → nat_abs z ≤ 24 → to_z w64 (of_z w64 z) ≡ z
+small_whole (pos k) h = omega (arith, ints, h)
+small_whole (negsuc k) h = omega (arith, ints, h)
 
 not-less : (a b : ℕ) → ltb a b ≡ false → b ≤ a
 not-less a b e = by (cases_lt a b) where
@@ -120,7 +123,6 @@ passed false e x row h = h
 accepts-from : (before : ℕ) (r : Record) (row : RoundRow) → Parts before (round_in (field_of r 0)) (what_in (field_of r 1)) (place_in (field_of r 2)) (mark_in (field_of r 3)) row → Accepts before r row
 accepts-from before r row h =
     let limits = round_in-facts (field_of r 0) row.round h.round_is in
-    let mark = mark_in-number (field_of r 3) row.number h.mark_is in
     record {
       round = ap (λ o. unwrap_or o 0) h.round_is;
       rises = h.rises;
@@ -129,9 +131,7 @@ accepts-from before r row h =
       formed = record {
         mark = what_in-mark (field_of r 1) row.what h.what_is;
         place = place_in-takes (field_of r 2) row.place h.place_is;
-        times = mark.0;
-        number = mark.1;
-        small = mark.2;
+        small = mark_in-small (field_of r 3) row.number h.mark_is;
       };
     }
 

@@ -1,5 +1,5 @@
 -- What the fields of a row give.
-use Rattle.std.proofs.Common.{◌≡◌, ℕ, zero, suc, ◌+◌, ◌-◌, ◌*◌, ◌<◌, ◌≤◌, Bool, true, false, cond, eqb, leb, ◌&&◌, List, [], ◌∷◌, length, take, drop, get_or, Option, Some, None, Ok, ℤ, pos, negsuc, sym, refl, ap, ◌∙◌, arith}
+use Rattle.std.proofs.Common.{◌≡◌, ℕ, zero, suc, ◌+◌, ◌-◌, ◌*◌, ◌<◌, ◌≤◌, Bool, true, false, cond, eqb, leb, ◌&&◌, List, [], ◌∷◌, length, take, drop, get_or, Option, Some, None, Ok, ℤ, pos, negsuc, nat_abs, sym, refl, ap, ◌∙◌, arith}
 use Rattle.std.specs.Char.{digit_value}
 use Rattle.std.specs.List.{prefix_len, suffix_len}
 use Rattle.std.specs.Option.{option_and_then}
@@ -15,8 +15,6 @@ use Rattle.std.proofs.lemmas.Str.Parse.{IsNumeralModel, numerals_by_value, tells
 use Rattle.mark_file.specs.Fields.{Field, is_blank, trimmed, without_end, is_round, round_in, is_whole, is_mark_number, mark_in}
 use Rattle.csv.specs.Records.{field_at}
 use mir.Syntax.{w64}
-use Rattle.std.specs.Prelude.{◌<ℤ◌, ◌≤ℤ◌}
-use Rattle.std.proofs.lemmas.Int.{ints}
 
 -- std's own words for digits and their number
 own : IsNumeralModel (λ ds. all_ascii_digits ds ≡ true) (digits_value 10)
@@ -86,8 +84,8 @@ whole_are : (field : Field) → IsNumeral 10 (without_leading_sign field) → is
 whole_are field h = λ i. le-leb 1 (length (without_leading_sign field)) h.0 i && own.from (without_leading_sign field) h.1 i
 
 mark_fits : (z : ℤ) → is_mark_number z ≡ true → FitsSigned w64 z
-mark_fits (pos n) e = let b : n ≤ 24 = leb-true n 24 (both (leb 0 n) (leb n 24) e).1 in omega (arith, b)
-mark_fits (negsuc n) e = absurd (cc)
+mark_fits (pos n) e = let b : n ≤ 24 = leb-true n 24 e in omega (arith, b)
+mark_fits (negsuc n) e = let b : suc n ≤ 24 = leb-true (suc n) 24 e in omega (arith, b)
 
 pub mark_whole : (field : Field) (z : ℤ) → IsNumeral 10 (without_leading_sign field) → z ≡ signed_digits_value 10 field → mark_in field ≡ cond (is_mark_number z) (Some z) None
 unfolding mark_in
@@ -129,27 +127,11 @@ pub trimmed-cut : (field rest : Field) (front end : ℕ) → front ≡ prefix_le
 unfolding trimmed
 trimmed-cut field rest front end f r e = (λ i. take (length rest - e i) rest) ∙ ap without_end (r ∙ ap (λ k. drop k field) f)
 
-mark_low : (z : ℤ) → z <ℤ pos 0 → is_mark_number z ≡ false
-mark_low (pos n) h = absurd (omega (arith, ints))
-mark_low (negsuc n) h = refl
+pub mark_outside : (field : Field) (z : ℤ) → OkIff {E = ℕ} (Ok z) (IsNumeral 10 (without_leading_sign field) × FitsSigned w64 (signed_digits_value 10 field)) (signed_digits_value 10 field) → 24 < nat_abs z → mark_in field ≡ None
+mark_outside field z h large = mark_whole field z h.0.0 h.1 ∙ ap (λ b. cond b (Some z) None) (gt-leb (nat_abs z) 24 large)
 
-mark_high : (z : ℤ) → pos 24 <ℤ z → is_mark_number z ≡ false
-mark_high (pos n) h = let far : 24 < n = omega (arith, ints) in (λ i. le-leb 0 n (omega arith) i && gt-leb n 24 far i)
-mark_high (negsuc n) h = absurd (omega (arith, ints))
-
-mark_within : (z : ℤ) → pos 0 ≤ℤ z → z ≤ℤ pos 24 → is_mark_number z ≡ true
-mark_within (pos n) l h = let near : n ≤ 24 = omega (arith, ints) in λ i. le-leb 0 n (omega arith) i && le-leb n 24 near i
-mark_within (negsuc n) l h = absurd (omega (arith, ints))
-
--- the three answers at a number
-pub mark_below : (field : Field) (z : ℤ) → OkIff {E = ℕ} (Ok z) (IsNumeral 10 (without_leading_sign field) × FitsSigned w64 (signed_digits_value 10 field)) (signed_digits_value 10 field) → z <ℤ pos 0 → mark_in field ≡ None
-mark_below field z h low = mark_whole field z h.0.0 h.1 ∙ ap (λ b. cond b (Some z) None) (mark_low z low)
-
-pub mark_above : (field : Field) (z : ℤ) → OkIff {E = ℕ} (Ok z) (IsNumeral 10 (without_leading_sign field) × FitsSigned w64 (signed_digits_value 10 field)) (signed_digits_value 10 field) → pos 24 <ℤ z → mark_in field ≡ None
-mark_above field z h high = mark_whole field z h.0.0 h.1 ∙ ap (λ b. cond b (Some z) None) (mark_high z high)
-
-pub mark_inside : (field : Field) (z : ℤ) → OkIff {E = ℕ} (Ok z) (IsNumeral 10 (without_leading_sign field) × FitsSigned w64 (signed_digits_value 10 field)) (signed_digits_value 10 field) → pos 0 ≤ℤ z → z ≤ℤ pos 24 → mark_in field ≡ Some z
-mark_inside field z h low high = mark_whole field z h.0.0 h.1 ∙ ap (λ b. cond b (Some z) None) (mark_within z low high)
+pub mark_inside : (field : Field) (z : ℤ) → OkIff {E = ℕ} (Ok z) (IsNumeral 10 (without_leading_sign field) × FitsSigned w64 (signed_digits_value 10 field)) (signed_digits_value 10 field) → nat_abs z ≤ 24 → mark_in field ≡ Some z
+mark_inside field z h small = mark_whole field z h.0.0 h.1 ∙ ap (λ b. cond b (Some z) None) (le-leb (nat_abs z) 24 small)
 
 -- a field that a record has
 pub field_there : (fields : List (List ℕ)) (k : ℕ) (f : List ℕ) → Some f ≡ field_at fields k → get_or fields k [] ≡ f

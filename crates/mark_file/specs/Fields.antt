@@ -1,5 +1,5 @@
 -- What the fields of a row say.
-use Rattle.std.specs.Prelude.{ℕ, ◌-◌, ◌==◌, ◌&&◌, ◌||◌, Bool, List, length, take, drop, nat_le, if◌then◌else◌, Option, Some, None, ℤ, pos, int_le, codes, bytes_eq}
+use Rattle.std.specs.Prelude.{ℕ, ◌-◌, ◌==◌, ◌&&◌, ◌||◌, Bool, List, length, take, drop, nat_le, if◌then◌else◌, Option, Some, None, ℤ, nat_abs, codes, bytes_eq}
 use Rattle.std.specs.List.{prefix_len, suffix_len}
 use Rattle.std.specs.Option.{option_map, option_and_then}
 use Rattle.std.specs.Str.{all_ascii_digits}
@@ -54,9 +54,9 @@ is_whole field = nat_le 1 (length (without_leading_sign field)) && all_ascii_dig
 abbrev pub whole_in : Field → Option ℤ
 whole_in field = if is_whole field then Some (signed_digits_value 10 field) else None
 
--- the numbers of a mark go from 0 to 24
+-- the numbers of a mark go from -24 to 24
 abbrev pub is_mark_number : ℤ → Bool
-is_mark_number n = int_le (pos 0) n && int_le n (pos 24)
+is_mark_number n = nat_le (nat_abs n) 24
 
 -- the number of a mark that a field gives
 unfoldable pub mark_in : Field → Option ℤ

@@ -13,8 +13,8 @@ const ROUND_DIGITS: usize = 5;
 /// The greatest number of a round.
 const LAST_ROUND: u32 = 65535;
 
-/// The greatest number of a mark.
-const LAST_MARK: i64 = 24;
+/// The greatest size of a mark's number.
+const LARGEST_MARK: u64 = 24;
 
 fn is_blank(c: u8) -> bool
     ensures { result ≡ spec.is_blank c }
@@ -110,10 +110,7 @@ pub(crate) fn mark_in(field: &[u8]) -> Option<i64>
     let Ok(number) = text.parse::<i64>() else {
         return None;
     };
-    if number < 0 {
-        return None;
-    }
-    if number > LAST_MARK {
+    if number.unsigned_abs() > LARGEST_MARK {
         return None;
     }
     Some(number)

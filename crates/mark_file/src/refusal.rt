@@ -16,7 +16,7 @@ pub enum MarkRefusal {
     /// Field 3 is neither `*` nor an element's spelling.
     #[error("row {row}: bad where")]
     BadWhere { row: u32 },
-    /// Field 4 is no whole number from 0 to 24.
+    /// Field 4 is no whole number from -24 to 24.
     #[error("row {row}: bad number")]
     BadNumber { row: u32 },
     /// Field 1 is below that of the row before.

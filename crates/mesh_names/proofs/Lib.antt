@@ -13,6 +13,9 @@ pub mod Booleans
 pub mod Inserting
 pub mod Leaving
 pub mod Marking
+pub mod Steps
+pub mod Worths
+pub mod Coarsening
 pub mod Closing
 pub mod Needs
 pub mod Chains
@@ -21,3 +24,4 @@ pub mod SpelledNames
 pub mod Lists
 pub mod Deciding
 pub mod Worked
+pub mod CoarseningWorked

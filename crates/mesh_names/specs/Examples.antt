@@ -1,5 +1,5 @@
 -- Worked rounds on two small squares: what their rows ask for, the least forest with it, and its leaves with their triangles.
-use Rattle.std.specs.Prelude.{◌≡◌, ℕ, eqb, List, [], ◌∷◌, map, reverse, pos}
+use Rattle.std.specs.Prelude.{◌≡◌, ℕ, eqb, List, [], ◌∷◌, map, reverse, ℤ, pos, negsuc}
 use Rattle.std.specs.FinSet.{from_list}
 use Rattle.mesh_names.specs.Names.{Name}
 use Rattle.mesh_names.specs.Triangles.{Shape, Vertex, Corner, Mid, Triangle, triangle}
@@ -7,6 +7,8 @@ use Rattle.mesh_names.specs.Forests.{IsListOf}
 use Rattle.mesh_names.specs.Leaves.{leaves}
 use Rattle.mesh_names.specs.LeastForest.{IsLeast}
 use Rattle.mesh_names.specs.Marks.{AreNeeds}
+use Rattle.mesh_names.specs.Coarsening.{IsCoarsened, marked_by}
+use Rattle.mesh_names.specs.Validity.{across_of}
 use Rattle.mesh_names.specs.Squares.{square, turned_square}
 use Rattle.mesh_names.specs.declared.rows.MarkRow.{MarkRow}
 use Rattle.mesh_names.specs.declared.rows.What.TheVariants.{Mark}
@@ -16,13 +18,21 @@ use Rattle.mesh_names.specs.declared.rows.Place.TheVariants.{EveryLeaf, Elem}
 abbrev pub element : ℕ → List ℕ → Name
 element root sides = (root, reverse (map (λ side. eqb side 1) sides))
 
+-- a row that gives one element this number
+abbrev pub gives_one : Name → ℤ → MarkRow
+gives_one n z = record { row = 2; what = Mark; place = Elem n; number = z }
+
+-- a row that gives every leaf this number
+abbrev pub gives_all : ℤ → MarkRow
+gives_all z = record { row = 2; what = Mark; place = EveryLeaf; number = z }
+
 -- a row that marks one element this often
 abbrev pub marks_one : Name → ℕ → MarkRow
-marks_one n k = record { row = 2; what = Mark; place = Elem n; number = pos k }
+marks_one n k = gives_one n (pos k)
 
 -- a row that marks every leaf this often
 abbrev pub marks_all : ℕ → MarkRow
-marks_all k = record { row = 2; what = Mark; place = EveryLeaf; number = pos k }
+marks_all k = gives_all (pos k)
 
 -- on the forest of the old members the rows need these names, and the least forest with them has the new members
 pub record Refines (mesh : Shape) (old : List Name) (rows : List MarkRow) (needed new : List Name) : Type 0 where
@@ -89,3 +99,19 @@ TurnedSquareRefined =
     × HasLeaves turned_square over_child (element 0 (0 ∷ []) ∷ element 0 (1 ∷ []) ∷ element 1 (0 ∷ 0 ∷ []) ∷ element 1 (0 ∷ 1 ∷ []) ∷ element 1 (1 ∷ []) ∷ [])
     ((Corner 1, Corner 2, centre) ∷ (Corner 0, Corner 1, centre)
     ∷ (Mid (Corner 2) (Corner 3), Corner 0, centre) ∷ (Corner 2, Mid (Corner 2) (Corner 3), centre) ∷ (Corner 3, Corner 0, Mid (Corner 2) (Corner 3)) ∷ [])
+
+-- the rows of a round that bisects nothing coarsen the forest of these members to that of the fewer
+abbrev pub Coarsens : Shape → List Name → List MarkRow → List Name → Type 0
+Coarsens mesh members rows fewer = IsCoarsened (across_of mesh) (marked_by mesh (from_list members) rows (from_list members)) (from_list fewer)
+
+-- the members where both elements of the square and all their children are bisected
+abbrev pub four : List Name
+four = element 0 [] ∷ element 0 (0 ∷ []) ∷ element 0 (1 ∷ []) ∷ element 1 [] ∷ element 1 (0 ∷ []) ∷ element 1 (1 ∷ []) ∷ []
+
+-- the law of four rounds on the square that coarsen: all leaves by -1; the same with `1.1` by 0; the eight leaves by -2; the same with `0.00` by -1
+abbrev pub SquareCoarsened : Type 0
+SquareCoarsened =
+    Coarsens square both (gives_all (negsuc 0) ∷ []) []
+    × Coarsens square both (gives_all (negsuc 0) ∷ gives_one (element 1 (1 ∷ [])) (pos 0) ∷ []) both
+    × Coarsens square four (gives_all (negsuc 1) ∷ []) []
+    × Coarsens square four (gives_all (negsuc 1) ∷ gives_one (element 0 (0 ∷ 0 ∷ [])) (negsuc 0) ∷ []) both

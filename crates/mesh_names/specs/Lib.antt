@@ -11,6 +11,7 @@ pub mod LeastForest
 pub mod Leaves
 pub mod Patches
 pub mod Marks
+pub mod Coarsening
 pub mod Chains
 pub mod Reaching
 pub mod Spelling

@@ -1,5 +1,5 @@
 -- Effective marks and needs: what the rows of a round ask for.
-use Rattle.std.specs.Prelude.{◌≡◌, ℕ, ◌<◌, ◌≤◌, ℤ, pos, negsuc, Bool, true, false, cond, ◌&&◌, List, [], ◌∷◌, ◌++◌, length, map, Option, Some, None, unwrap_or}
+use Rattle.std.specs.Prelude.{◌≡◌, ℕ, ◌<◌, ◌≤◌, ℤ, pos, negsuc, nat_abs, Bool, true, false, cond, ◌&&◌, List, [], ◌∷◌, ◌++◌, length, map, Option, Some, None, unwrap_or}
 use Rattle.mesh_names.specs.Names.{Name, name_eq}
 use Rattle.mesh_names.specs.Triangles.{Shape}
 use Rattle.mesh_names.specs.Forests.{Names, Has, IsForest, IsListOf, IsLeaf}
@@ -33,13 +33,11 @@ takes_mark EveryLeaf = true
 takes_mark (Elem m) = true
 takes_mark (Corner m k) = false
 
--- a row that a round takes: a mark from 0 to 24
+-- a row that a round takes: a mark from -24 to 24
 pub record IsWellFormed (row : MarkRow) : Type 0 where
   pub mark : is_mark row.what ≡ true
   pub place : takes_mark row.place ≡ true
-  pub times : ℕ
-  pub number : row.number ≡ pos times
-  pub small : times ≤ 24
+  pub small : nat_abs row.number ≤ 24
 
 -- the later of two, where there is one
 abbrev pub later : Option ℤ → Option ℤ → Option ℤ

@@ -6,10 +6,11 @@ ghost use Rattle.mesh_names.specs.Squares.{SquaresFit};
 ghost use Rattle.mesh_names.specs.Conformity.{ConformsByPartners};
 ghost use Rattle.mesh_names.specs.Reaching.{LeastByChains};
 ghost use Rattle.mesh_names.specs.LeastForest.{LeastByLevels, LeastIsOne, LeastKeeps, NeedsAre, NeedsCanBeHeld};
-ghost use Rattle.mesh_names.specs.Examples.{SquareMarkedTwice, SquareRefined, SquareSecondRound, TurnedSquareRefined};
+ghost use Rattle.mesh_names.specs.Examples.{SquareCoarsened, SquareMarkedTwice, SquareRefined, SquareSecondRound, TurnedSquareRefined};
 ghost use Rattle.mesh_names.specs.Forests.{ListsAreOne};
 ghost use Rattle.mesh_names.specs.Leaves.{LeavesAre};
 ghost use Rattle.mesh_names.specs.Marks.{MarksGiveNeeds};
+ghost use Rattle.mesh_names.specs.Coarsening.{CoarsenedConforms, CoarsenedOnce, StepsCanEnd, StepsEndAtOne, StepsKeep, StepsSwap};
 ghost use Rattle.mesh_names.specs.Chains.{ChainWithin, ChainsStand};
 
 /// A valid and graded mesh tells what lies across each edge.
@@ -92,6 +93,36 @@ pub fn marks_give_needs()
     ensures { MarksGiveNeeds }
 {}
 
+/// A step of coarsening keeps a conforming forest.
+pub fn coarsening_steps_keep()
+    ensures { StepsKeep }
+{}
+
+/// Steps of coarsening on two patches can change places.
+pub fn coarsening_steps_swap()
+    ensures { StepsSwap }
+{}
+
+/// Steps of coarsening can come to an end: there is a coarsened forest.
+pub fn coarsening_can_end()
+    ensures { StepsCanEnd }
+{}
+
+/// Steps of coarsening in any order end at one forest.
+pub fn coarsening_ends_at_one()
+    ensures { StepsEndAtOne }
+{}
+
+/// The coarsened forest is a conforming forest within the refined one.
+pub fn coarsened_conforms()
+    ensures { CoarsenedConforms }
+{}
+
+/// With no mark below -1 the fully marked patches go, and no others.
+pub fn coarsened_once()
+    ensures { CoarsenedOnce }
+{}
+
 /// A name has a chain, whose other names are of smaller levels.
 pub fn chains_stand()
     ensures { ChainsStand }
@@ -120,6 +151,11 @@ pub fn square_marked_twice()
 /// A second round on the square reaches over to the other element.
 pub fn square_second_round()
     ensures { SquareSecondRound }
+{}
+
+/// On the square patches go where all their leaves are marked, as far as the marks allow.
+pub fn square_coarsened()
+    ensures { SquareCoarsened }
 {}
 
 /// On the turned square, whose elements have grades 1 and 0, the partner is a child.

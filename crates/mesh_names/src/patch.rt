@@ -19,7 +19,7 @@ pub enum VertexKey {
 }
 
 /// What a round changed: the patches that it bisected, by level and then by owner, and those
-/// that it coarsened, by owner.
+/// that it coarsened, by level from the greatest down and then by owner.
 #[derive(Debug, Drop)]
 pub struct RoundDelta {
     pub born: Vec<PatchName>,

@@ -18,6 +18,9 @@ pub enum Place {
 }
 
 /// A row of the marks file, with its number there; the header is row 1.
+///
+/// A mark, of size 24 at most, asks for as many bisections of a leaf, or below 0 allows as many
+/// coarsenings.
 #[derive(Clone, Copy, Debug)]
 pub struct MarkRow {
     pub row: u32,

@@ -103,6 +103,30 @@ fn what_is_born_is_told_by_level_and_then_by_owner(rt: HostRuntime) -> Result<()
 }
 
 #[test]
+fn what_went_is_told_from_the_greatest_level_down(rt: HostRuntime) -> Result<(), Fail> {
+    let alloc = rt.alloc();
+    let cases = [
+        ("1,mark,*,2\n2,mark,*,-2\n", "0.0 0.1 1.0 1.1 0+1 "),
+        (
+            "1,mark,*,2\n2,mark,*,-2\n2,mark,0.00,-1\n",
+            "0.0 0.1 1.0 1.1 ",
+        ),
+    ];
+    for (rows, want) in cases {
+        let mesh = mesh_of(alloc, SQUARE)?;
+        let rounds = rounds_of(alloc, rows)?;
+        let mut forest = PlainForest::new(alloc, &mesh, 65_536);
+        let mut died = Vec::new(alloc);
+        for round in &rounds {
+            let delta = forest.round(round).map_err(|_| AllocError)?;
+            died = spelled_patches(alloc, &delta.died)?;
+        }
+        assert!(rt; died.as_slice() == want.as_bytes(), "{want}");
+    }
+    Ok(())
+}
+
+#[test]
 fn a_pool_of_three_takes_three_patches_and_a_pool_of_one_tells(
     rt: HostRuntime,
 ) -> Result<(), Fail> {

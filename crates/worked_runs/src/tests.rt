@@ -74,6 +74,36 @@ fn a_second_round_goes_on_from_the_first(rt: HostRuntime) -> Result<(), Fail> {
 }
 
 #[test]
+fn patches_go_where_all_their_leaves_are_marked(rt: HostRuntime) -> Result<(), Fail> {
+    let square = mesh!("4", "2", "2 0 1\n0 2 3\n");
+    let bisected = mesh!("5", "4", "1 2 4\n0 1 4\n3 0 4\n2 3 4\n");
+    let cases = [
+        ("1,mark,0,1\n2,mark,*,-1\n", square),
+        ("1,mark,0,1\n2,mark,*,-1\n2,mark,1.1,0\n", bisected),
+        ("1,mark,0,1\n2,mark,*,0\n", bisected),
+        ("1,mark,*,2\n2,mark,*,-1\n", bisected),
+        ("1,mark,*,2\n2,mark,*,-2\n", square),
+        ("1,mark,*,2\n2,mark,*,-2\n2,mark,0.00,-1\n", bisected),
+    ];
+    for (rows, want) in cases {
+        let ran = run(&rt, rt.alloc(), SQUARE, rows)?;
+        assert!(rt; ran.out.bytes() == want.as_bytes(), "{rows}");
+        assert_eq!(rt; ran.status, 0, "{rows}");
+    }
+    Ok(())
+}
+
+#[test]
+fn a_mark_below_0_of_a_leaf_that_closure_bisects_is_dropped(rt: HostRuntime) -> Result<(), Fail> {
+    let rows = "1,mark,0,1\n2,mark,0.0,-1\n2,mark,0.1,2\n";
+    let ran = run(&rt, rt.alloc(), SQUARE, rows)?;
+    assert_eq!(rt; ran.status, 0);
+    let head = b"DIM: 2\nDIM_OF_WORLD: 2\n\nnumber of vertices: 10\nnumber of elements: 11\n\n";
+    assert!(rt; ran.out.bytes().starts_with(head));
+    Ok(())
+}
+
+#[test]
 fn refusals_are_named_and_out_stays_empty(rt: HostRuntime) -> Result<(), Fail> {
     let cases = [
         ("1,mark,0.0,1\n", 4, "adapt: marks: row 2: not a leaf\n"),
@@ -84,7 +114,7 @@ fn refusals_are_named_and_out_stays_empty(rt: HostRuntime) -> Result<(), Fail> {
             "adapt: marks: row 3: level 25 is above 24\n",
         ),
         ("1,mark,0,25\n", 4, "adapt: marks: row 2: bad number\n"),
-        ("1,mark,0,-1\n", 4, "adapt: marks: row 2: bad number\n"),
+        ("1,mark,0,-25\n", 4, "adapt: marks: row 2: bad number\n"),
         ("1,elem,0,1\n", 4, "adapt: marks: row 2: bad what\n"),
         (
             "2,mark,0,1\n1,mark,0,1\n",

@@ -15,4 +15,4 @@ loop-round-preserved c =
     let here = c.loop-round.forest in
     let next = c.round.new.self in
     next_round (mesh_of start) (sides_of start) (pool_of start) c.args.rounds.now (members_of start) c.loop-round.round-index (mesh_of here) (sides_of here) (pool_of here) (members_of here) c.loop-round.invariant
-    (mesh_of next) (sides_of next) (pool_of next) (members_of next) c.round-item.result _ c.in_default.field-0 c.loop-round-test.true c.round-item.is c.in_default.ensures.same.0 c.in_default.ensures.same.1 c.in_default.ensures.same.2 c.in_default.ensures.ok c.in_default.ensures.room
+    (mesh_of next) (sides_of next) (pool_of next) (members_of next) c.round-item.result _ c.in_default.field-0 c.loop-round-test.true c.round-item.is c.in_default.ensures.same.0 c.in_default.ensures.same.1 c.in_default.ensures.same.2 c.in_default.ensures.ok

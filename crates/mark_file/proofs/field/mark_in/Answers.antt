@@ -1,9 +1,9 @@
 use Rattle.std.proofs.Common.{arith, ◌≡◌, List, ℕ, Some, Ok, subst, sym, ap, ◌∙◌, to_z, of_z}
-use Rattle.std.specs.Prelude.{FitsSigned}
+use Rattle.std.specs.Prelude.{FitsSigned, nat_abs}
 use Rattle.std.specs.Result.{OkIff}
 use Rattle.std.specs.Str.Parse.{IsNumeral, signed_digits_value, without_leading_sign}
 use Rattle.std.proofs.lemmas.Int.{ints}
-use Rattle.mark_file.proofs.FieldLemmas.{mark_no_text, mark_none, mark_below, mark_above, mark_inside}
+use Rattle.mark_file.proofs.FieldLemmas.{mark_no_text, mark_none, mark_outside, mark_inside}
 use Rattle.mark_file.proofs.field.mark_in.Goals as goal
 use mir.Syntax.{w64}
 
@@ -15,19 +15,17 @@ returns-in_default-parse c =
     let Misses : List ℕ → Type 0 = λ bs. ¬ (IsNumeral 10 (without_leading_sign bs) × FitsSigned w64 (signed_digits_value 10 bs)) in
     sym (mark_none c.args.field.now (subst Misses c.in-Ok.ensures.cases.0 c.in_default-parse.ensures.value.0))
 
-pub returns-then-number-lt0 : goal.returns-then-number-lt0
-returns-then-number-lt0 c =
+pub returns-then-unsigned_abs-gt-LARGEST_MARK : goal.returns-then-unsigned_abs-gt-LARGEST_MARK
+returns-then-unsigned_abs-gt-LARGEST_MARK c =
     let Reads : List ℕ → Type 0 = λ bs. OkIff {E = ℕ} (Ok c.in-Ok-parse.number) (IsNumeral 10 (without_leading_sign bs) × FitsSigned w64 (signed_digits_value 10 bs)) (signed_digits_value 10 bs) in
-    sym (mark_below c.args.field.now c.in-Ok-parse.number (subst Reads c.in-Ok.ensures.cases.0 c.in-Ok-parse.ensures.value.0) (omega (arith, ints)))
-
-pub returns-then-number-gt-LAST_MARK : goal.returns-then-number-gt-LAST_MARK
-returns-then-number-gt-LAST_MARK c =
-    let Reads : List ℕ → Type 0 = λ bs. OkIff {E = ℕ} (Ok c.in-Ok-parse.number) (IsNumeral 10 (without_leading_sign bs) × FitsSigned w64 (signed_digits_value 10 bs)) (signed_digits_value 10 bs) in
-    sym (mark_above c.args.field.now c.in-Ok-parse.number (subst Reads c.in-Ok.ensures.cases.0 c.in-Ok-parse.ensures.value.0) (omega (arith, ints)))
+    let same : to_z w64 (of_z w64 c.in-Ok-parse.number) ≡ c.in-Ok-parse.number = omega (arith, ints) in
+    let size = ap nat_abs same in
+    sym (mark_outside c.args.field.now c.in-Ok-parse.number (subst Reads c.in-Ok.ensures.cases.0 c.in-Ok-parse.ensures.value.0) (omega (arith, size, c.unsigned_abs.ensures.value, c.if-unsigned_abs-gt-LARGEST_MARK.true)))
 
 pub returns : goal.returns
 returns c =
     let Reads : List ℕ → Type 0 = λ bs. OkIff {E = ℕ} (Ok c.in-Ok-parse.number) (IsNumeral 10 (without_leading_sign bs) × FitsSigned w64 (signed_digits_value 10 bs)) (signed_digits_value 10 bs) in
     let read : Reads c.args.field.now = subst Reads c.in-Ok.ensures.cases.0 c.in-Ok-parse.ensures.value.0 in
     let same : to_z w64 (of_z w64 c.in-Ok-parse.number) ≡ c.in-Ok-parse.number = omega (arith, ints) in
-    ap Some same ∙ sym (mark_inside c.args.field.now c.in-Ok-parse.number read (omega (arith, ints)) (omega (arith, ints)))
+    let size = ap nat_abs same in
+    ap Some same ∙ sym (mark_inside c.args.field.now c.in-Ok-parse.number read (omega (arith, size, c.unsigned_abs.ensures.value, c.if-unsigned_abs-gt-LARGEST_MARK.false)))
