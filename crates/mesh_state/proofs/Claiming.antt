@@ -104,11 +104,13 @@ module _ (s : Setup) (w : Words) (n : ℕ) (v : Views) (g : Ghost) (r : Rule s w
       names = r.names;
       pins = r.pins;
       works = r.works;
+      walks = r.walks;
       sure = update_cases (λ i u. SureRule s.elements v.ruling.workers w.head w.hist w.born w.died w.name w.row stage' i u) v.sure j unsure (nothing_sure j v.ruling.workers stage')
           (λ i ne. sure_on s.elements v.ruling.workers v.ruling.workers w.head w.hist w.head w.hist w.born w.died w.name w.row w.born w.died w.name w.row g.stage stage' i (v.sure i)
           (λ z h. (head_was i ne z h, refl)) (λ c h. (block_was i ne c h, (λ _. refl), refl, λ _. refl)) (λ z e. (e, (λ _. refl), λ _. refl)) (r.sure i));
       goes = r.goes;
       rules = r.rules;
+      stock = r.stock;
       holders = λ z i a p h. ⊎_elim (λ t. inr (ap v.kind t.1 ∙ kind)) (λ t. r.holders z i a p t.1) (back z i a p h);
       hand = r.hand;
     }

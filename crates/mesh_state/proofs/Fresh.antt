@@ -9,6 +9,7 @@ use Rattle.mesh_words.specs.Sums.{sum_below, one_where}
 use Rattle.mesh_words.specs.Words.{node}
 use Rattle.mesh_state.specs.Ghosts.{Open, Free, Placed}
 use Rattle.mesh_state.specs.Rule.{Rule}
+use Rattle.mesh_state.proofs.FoundAgain.{walks_idle}
 use Rattle.mesh_state.proofs.HeldClaims.{not_open}
 
 noted_is : (n : ℕ) (f : ℕ → ℕ) (i a : ℕ) → Noted (noted_below n f) i a → (i < n) × (f i ≡ a)
@@ -53,13 +54,16 @@ starts s a = record {
     patch = λ b x m u. absurd (free_not x m u);
     calm = λ b x m l u. omega arith;
     grows = λ i b l e. absurd (omega arith);
+    either = λ i b l e. absurd (omega arith);
     fresh = λ i e. refl;
   };
   pins = record { now = refl; later = λ q l. (refl, refl); count = λ q. let z : one_where 0 (q + 1) ≡ 0 = ap (λ (t : Bool). cond {A = ℕ} t 1 0) (ne_eqb 0 (q + 1) (λ (e : 0 ≡ q + 1). omega arith)) in omega arith; past = λ j q e. absurd (omega arith); few = λ j l. few j l; readers = λ j o. (refl, refl); bit = λ j. omega arith; bound = omega arith };
   works = λ j. record { only = λ _ _. (refl, refl, refl, refl); found = λ x k h. absurd h; known = λ k h. absurd h; open_ = λ k h. absurd h; given = λ b k h. absurd h };
+  walks = λ j. walks_idle s 0 0 (λ _. 0) (λ _. node 0 0) (λ _. 0) (λ _. 0) (λ _. Free) (λ _ _. 0) (fresh_kind j) j;
   sure = sure_is;
   goes = λ j. record { went = λ q b p h. absurd h; walk = λ q p. tt; yes_notes = λ k q h. absurd h; no_notes = λ k q h. absurd h };
   rules = record { owner = (refl, omega arith); one = λ j e. only j e; workers = refl; readers = refl; few_readers = omega arith; halves = λ _ _. refl; clear = λ q h. absurd h };
+  stock = record { cursor_is = λ k e. ((λ f. omega arith), omega arith); free_is = λ k e. omega arith; never = λ b l. inl refl; left = λ q k h. absurd h };
   holders = λ x j m p h. absurd (not_open j m p (sym h));
   hand = λ b h. ((λ e. omega arith), refl);
 }

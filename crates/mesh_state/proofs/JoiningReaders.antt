@@ -44,6 +44,10 @@ module _ (s : Setup) (w : Words) (n : ℕ) (v : Views) (g : Ghost) (r : Rule s w
   was : (i k : ℕ) → k ≢ 0 → update v.kind j 0 i ≡ k → v.kind i ≡ k
   was i k z e = dite (ℕ_discrete i j) (λ f. absurd (z (sym e ∙ update_at v.kind j i 0 f))) (λ f. sym (update_other v.kind j i 0 f) ∙ e)
 
+  -- a seat that is no worker's was none
+  kept_work : (i : ℕ) → (update v.kind j 0 i ≡ 1 → ⊥) → v.kind i ≡ 1 → ⊥
+  kept_work i o k = o (dite (ℕ_discrete i j) (λ e. let y : v.kind i ≡ v.kind j = ap v.kind e in absurd (omega arith)) (λ f. update_other v.kind j i 0 f ∙ k))
+
   pub leaves : (readers : ℕ) → v.ruling.readers ≡ readers + 1
       → Rule s w n (record v { kind = update v.kind j 0; read = update (update v.read 0 (record (v.read 0) { notes = (v.read 0).notes ++ (v.read j).notes })) j (blank []); ruling = record v.ruling { readers = readers } }) g
   leaves readers one = record {
@@ -51,7 +55,7 @@ module _ (s : Setup) (w : Words) (n : ℕ) (v : Views) (g : Ghost) (r : Rule s w
     claims = r.claims;
     labels = r.labels;
     chains = r.chains;
-    names = record { fits = λ q k. r.names.fits q (back q k); sound = λ q k. r.names.sound q (back q k); patch = r.names.patch; calm = r.names.calm; grows = r.names.grows; fresh = r.names.fresh };
+    names = record { fits = λ q k. r.names.fits q (back q k); sound = λ q k. r.names.sound q (back q k); patch = r.names.patch; calm = r.names.calm; grows = r.names.grows; either = r.names.either; fresh = r.names.fresh };
     pins = record {
       now = r.pins.now;
       later = r.pins.later;
@@ -64,6 +68,7 @@ module _ (s : Setup) (w : Words) (n : ℕ) (v : Views) (g : Ghost) (r : Rule s w
       bound = let a = sum_le n (λ i. (read' i).ready) (λ i. (v.read i).ready) ready_le in let b = r.pins.bound in omega arith;
     };
     works = λ i. let t = r.works i in record { only = λ o z. t.only (λ k. o (dite (ℕ_discrete i j) (λ e. let y : v.kind i ≡ v.kind j = ap v.kind e in absurd (omega arith)) (λ f. update_other v.kind j i 0 f ∙ k))) z; found = t.found; known = t.known; open_ = t.open_; given = t.given };
+    walks = λ i. let t = r.walks i in record { still = λ o. t.still (kept_work i o); only = λ o. t.only (kept_work i o); absent = t.absent; stood = t.stood; went = t.went; walk = t.walk };
     sure = r.sure;
     goes = update_cases (λ _ u. ReaderRule s w.round w.name w.hist w.born w.died g.life g.who u) (update v.read 0 own) j (blank [])
         record { went = λ q b p f. absurd f; walk = λ q p. tt; yes_notes = λ k q h. absurd h; no_notes = λ k q h. absurd h }
@@ -79,6 +84,7 @@ module _ (s : Setup) (w : Words) (n : ℕ) (v : Views) (g : Ghost) (r : Rule s w
       halves = r.rules.halves;
       clear = r.rules.clear;
     };
+    stock = record { cursor_is = r.stock.cursor_is; free_is = r.stock.free_is; never = r.stock.never; left = r.stock.left };
     holders = λ x i m p h. ⊎_elim inl (λ k. inr (dite (ℕ_discrete i j) (λ e. let y : v.kind i ≡ v.kind j = ap v.kind e in absurd (omega arith)) (λ f. update_other v.kind j i 0 f ∙ k))) (r.holders x i m p h);
     hand = r.hand;
   }

@@ -6,7 +6,7 @@ use Rattle.mesh_words.specs.Setup.{Setup, places}
 use Rattle.mesh_words.specs.Functions.{update}
 use Rattle.mesh_words.specs.Sums.{sum_below, one_where}
 use Rattle.mesh_words.specs.Words.{Words}
-use Rattle.mesh_words.specs.Views.{Views, Work, unsure}
+use Rattle.mesh_words.specs.Views.{Views, Work, Still, unsure}
 use Rattle.mesh_words.specs.Claims.{Progress, Drawn, Half, Whole, Living, claim}
 use Rattle.mesh_words.specs.Entries.{HasEntry}
 use Rattle.mesh_words.proofs.Functions.{update_same, update_at, update_other, update_cases}
@@ -14,9 +14,10 @@ use Rattle.mesh_words.proofs.Sums.{sum_update, sum_same}
 use Rattle.mesh_words.proofs.Entries.{entry_of_both, entry_left, entry_right}
 use Rattle.mesh_state.specs.Ghosts.{Stage, Open, Held, Ghost}
 use Rattle.mesh_state.specs.Claims.{draws_of, bit_of}
-use Rattle.mesh_state.specs.Work.{WorkRule}
+use Rattle.mesh_state.specs.Work.{WorkRule, WalkRule}
 use Rattle.mesh_state.specs.Sure.{GuardsBlock, GuardsHead, SureRule}
 use Rattle.mesh_state.specs.Rule.{Rule}
+use Rattle.mesh_state.proofs.FoundAgain.{walks_idle}
 use Rattle.mesh_state.proofs.HeldClaims.{not_open, held_one}
 use Rattle.mesh_state.specs.Fresh.{idle}
 
@@ -68,11 +69,11 @@ module _ (s : Setup) (w : Words) (n : ℕ) (v : Views) (g : Ghost) (r : Rule s w
   kind_sum k = sum_update n (λ i. one_where (v.kind i) k) (λ i. one_where (update v.kind j 0 i) k) j inside (λ i o. ap (λ (x : ℕ). one_where x k) (update_other v.kind j i 0 o)) ∙ ap (λ (x : ℕ). sum_below n (λ i. one_where (v.kind i) k) + one_where x k) (update_same v.kind j 0)
 
   joined : Work
-  joined = record { found = (v.work 0).found ++ (v.work j).found; known = (v.work 0).known ++ (v.work j).known; open_ = (v.work 0).open_ ++ (v.work j).open_; given = (v.work 0).given ++ (v.work j).given }
+  joined = record { found = (v.work 0).found ++ (v.work j).found; known = (v.work 0).known ++ (v.work j).known; open_ = (v.work 0).open_ ++ (v.work j).open_; given = (v.work 0).given ++ (v.work j).given; absent = (v.work 0).absent ++ (v.work j).absent; stood = (v.work 0).stood ++ (v.work j).stood; went = []; walk = Still }
 
   -- the owner has the claims and the knowledge of both, and is sure of no word
   pub joins : (workers : ℕ) → v.ruling.workers ≡ workers + 1
-      → Rule s w n (record v { kind = update v.kind j 0; claims = update (update v.claims 0 (v.claims 0 ++ v.claims j)) j []; work = update (update v.work 0 record { found = (v.work 0).found ++ (v.work j).found; known = (v.work 0).known ++ (v.work j).known; open_ = (v.work 0).open_ ++ (v.work j).open_; given = (v.work 0).given ++ (v.work j).given }) j idle; sure = update (update v.sure 0 unsure) j unsure; ruling = record v.ruling { workers = workers } }) (record g { stage = λ x. moved j (g.stage x) })
+      → Rule s w n (record v { kind = update v.kind j 0; claims = update (update v.claims 0 (v.claims 0 ++ v.claims j)) j []; work = update (update v.work 0 record { found = (v.work 0).found ++ (v.work j).found; known = (v.work 0).known ++ (v.work j).known; open_ = (v.work 0).open_ ++ (v.work j).open_; given = (v.work 0).given ++ (v.work j).given; absent = (v.work 0).absent ++ (v.work j).absent; stood = (v.work 0).stood ++ (v.work j).stood; went = []; walk = Still }) j idle; sure = update (update v.sure 0 unsure) j unsure; ruling = record v.ruling { workers = workers } }) (record g { stage = λ x. moved j (g.stage x) })
   joins workers one = record {
     names_apart = r.names_apart;
     claims = record {
@@ -109,6 +110,17 @@ module _ (s : Setup) (w : Words) (n : ℕ) (v : Views) (g : Ghost) (r : Rule s w
         })
         record { only = λ _ _. (refl, refl, refl, refl); found = λ x k h. absurd h; known = λ k h. absurd h; open_ = λ k h. absurd h; given = λ c k h. absurd h }
         (λ i a b. let t = r.works i in record { only = λ o. t.only (λ k. o (update_other v.kind j i 0 b ∙ k)); found = t.found; known = t.known; open_ = t.open_; given = t.given }) i;
+    walks = λ i. let K : ℕ → ℕ = update v.kind j 0 in two_at (λ i u. WalkRule s w.round v.ruling.phase w.name w.hist w.born w.died g.life g.who (K i) i u) v.work _ idle
+        (let a = r.walks 0 in let b = r.walks j in record {
+          still = λ _. (refl, refl);
+          only = λ _ z. absurd (z refl);
+          absent = λ k h. ⊎_elim (λ t. a.absent k t) (λ t. b.absent k t) (entry_of_both (v.work 0).absent (v.work j).absent k h);
+          stood = λ x k h. ⊎_elim (λ t. a.stood x k t) (λ t. b.stood x k t) (entry_of_both (v.work 0).stood (v.work j).stood (x, k) h);
+          went = λ c h. absurd h;
+          walk = tt;
+        })
+        (walks_idle s w.round v.ruling.phase w.name w.hist w.born w.died g.life g.who (K j) j)
+        (λ i a b. let t = r.walks i in record { still = λ o. t.still (λ k. o (update_other v.kind j i 0 b ∙ k)); only = λ o. t.only (λ k. o (update_other v.kind j i 0 b ∙ k)); absent = t.absent; stood = t.stood; went = t.went; walk = t.walk }) i;
     sure = two_at (λ i u. SureRule s.elements workers w.head w.hist w.born w.died w.name w.row stage' i u) v.sure unsure unsure (nothing_sure 0) (nothing_sure j) (λ i a b. let t = r.sure i in record {
       head_is = λ z l f h. t.head_is z l f (head_was i a z h);
       hist_is = λ c u l f h. t.hist_is c u l f (block_was i a c h);
@@ -127,6 +139,7 @@ module _ (s : Setup) (w : Words) (n : ℕ) (v : Views) (g : Ghost) (r : Rule s w
       halves = λ a b. let z = r.rules.halves a b in omega arith;
       clear = r.rules.clear;
     };
+    stock = record { cursor_is = r.stock.cursor_is; free_is = r.stock.free_is; never = r.stock.never; left = r.stock.left };
     holders = λ x i m p h. ⊎_elim (λ t. ⊎_elim inl (λ k. inr (update_other v.kind j i 0 t.0 ∙ k)) (r.holders x i m p t.1)) (λ t. inl t.0) (moved_back j (g.stage x) i m p h);
     hand = r.hand;
   }

@@ -13,10 +13,10 @@ use Rattle.mesh_words.proofs.Functions.{update_same, update_at, update_other, up
 use Rattle.mesh_state.specs.Ghosts.{Life, Placed, chained, Ghost}
 use Rattle.mesh_state.specs.Chains.{Covers, ChainsRule}
 use Rattle.mesh_state.specs.Bisections.{IsKept}
-use Rattle.mesh_state.specs.Work.{WorkRule}
+use Rattle.mesh_state.specs.Work.{WorkRule, WalkRule}
 use Rattle.mesh_state.specs.Sure.{GuardsBlock}
 use Rattle.mesh_state.specs.Rule.{Rule}
-use Rattle.mesh_state.proofs.FoundAgain.{goes_on, goes_who, Moves}
+use Rattle.mesh_state.proofs.FoundAgain.{goes_on, goes_who, workers_on, workers_who, Moves}
 use Rattle.mesh_state.proofs.BlockSteps.{kills}
 use Rattle.mesh_state.proofs.Across.{Went, low, some_worker}
 use Rattle.mesh_state.proofs.SureWords.{sure_on}
@@ -27,7 +27,7 @@ module _ (s : Setup) (w : Words) (n : ℕ) (v : Views) (g : Ghost) (r : Rule s w
   d = w.round + 1
 
   abbrev A : ℕ → ℕ → Type 0
-  A = Went w.died v.read
+  A = Went w.round w.died v.kind v.work v.read
 
   module _ (j b k : ℕ) (given : HasEntry (v.work j).given (b, k)) (kind : v.kind j ≡ 1) (zero_ : w.died b ≡ 0)
       (leaves : (c : Bool) → HasEntry (v.work j).open_ (s.child k c)) (mates : (i : ℕ) → s.mate k ≡ i + 1 → (c : Bool) → HasEntry (v.work j).open_ (s.child (i + 1) c)) where
@@ -98,19 +98,25 @@ module _ (s : Setup) (w : Words) (n : ℕ) (v : Views) (g : Ghost) (r : Rule s w
               open_ = λ i h. let t = (r.works a).open_ i h in (t.0, now_is i (still_open i t.1));
               given = λ c i h. on_given c i ((r.works a).given c i h);
             });
+        walks = update_cases (λ i u. WalkRule s w.round v.ruling.phase w.name w.hist w.born (update w.died b d) g.life who' (v.kind i) i u) v.work j (record (v.work j) { open_ = names }) (let u = walker j in record { still = u.still; only = u.only; absent = u.absent; stood = u.stood; went = u.went; walk = u.walk }) (λ i _. walker i);
         sure = λ i. sure_on s.elements v.ruling.workers v.ruling.workers w.head w.hist w.head w.hist w.born w.died w.name w.row w.born (update w.died b d) w.name w.row g.stage g.stage i (v.sure i)
             (λ z h. (h, refl))
             (λ c h. absurd (no_block i c h))
             (λ z e. let t = some_worker s w n v g r j kind in absurd (omega arith))
             (r.sure i);
         goes = λ i. goes_who s w.round w.name w.hist w.born (update w.died b d) g.life g.who who' (λ q l. update_other g.who d q now (λ (e : q ≡ w.round + 1). omega arith)) (v.read i) (λ q p. r.pins.past i q p)
-            (goes_on s w.name w.name w.head w.hist w.head w.hist w.born w.died w.born (update w.died b d) g.life g.life (λ _ _ _ _ _. refl) w.round v.ruling.phase g.who v.read (IsKept w.round v.read) A step_chains.1 (λ a q p. (inr (a, p), r.pins.past a q p)) (λ a q c p h x. (a, p, h, x)) (λ q x. r.names.fits q (inl x)) i (r.goes i));
+            (goes_on s w.name w.name w.head w.hist w.head w.hist w.born w.died w.born (update w.died b d) g.life g.life (λ _ _ _ _ _. refl) w.round v.ruling.phase g.who v.read (IsKept w.round v.read) A step_chains.1 (λ a q p. (inr (a, p), r.pins.past a q p)) (λ a q c p h x. (inl (a, p, h), x)) (λ q x. r.names.fits q (inl x)) i (r.goes i));
         rules = r.rules;
+        stock = r.stock;
         holders = r.holders;
         hand = r.hand;
       },
     )
       where
+        walker : (i : ℕ) → WalkRule s w.round v.ruling.phase w.name w.hist w.born (update w.died b d) g.life who' (v.kind i) i (v.work i)
+        walker i = workers_who s w.round v.ruling.phase w.name w.hist w.born (update w.died b d) g.life g.who who' (update_other g.who d w.round now (λ (e : w.round ≡ w.round + 1). omega arith)) (λ e _ _ _. let t = two in absurd (omega arith)) (v.kind i) i (v.work i)
+            (workers_on s w.name w.name w.head w.hist w.head w.hist w.born w.died w.born (update w.died b d) g.life g.life (λ _ _ _ _ _. refl) w.round v.ruling.phase g.who v.read (IsKept w.round v.read) A step_chains.1 (inl refl) (r.names.fits w.round (inl (inl refl))) (λ e. let t = two in absurd (omega arith)) (v.kind i) i (v.work i) (λ c k h x. (inr (i, k, refl, h), x)) (r.walks i))
+
         now_is : (i : ℕ) → now i ≡ 0 → who' d i ≡ 0
         now_is i e = ap (λ (f : ℕ → ℕ). f i) (update_same g.who d now) ∙ e
 

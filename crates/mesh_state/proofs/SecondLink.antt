@@ -16,7 +16,7 @@ use Rattle.mesh_state.specs.Chains.{Finds, IsPlace}
 use Rattle.mesh_state.specs.Bisections.{IsPlaceOf, MayRead}
 use Rattle.mesh_state.specs.Sure.{GuardsBlock, GuardsHead, SureRule}
 use Rattle.mesh_state.specs.Rule.{Rule}
-use Rattle.mesh_state.proofs.FoundAgain.{one_more, chained_stands, seen_live, names_on, goes_on, Moves}
+use Rattle.mesh_state.proofs.FoundAgain.{one_more, chained_stands, seen_live, names_on, goes_on, workers_on, Moves}
 use Rattle.mesh_state.proofs.ChainSteps.{moves_head, chains_head}
 use Rattle.mesh_state.proofs.BlockSteps.{undead, resets}
 use Rattle.mesh_state.proofs.HeldClaims.{not_open, held_one, placed_one, free_not, loose_not, uses, used_life, shape_on, one_user, heads_apart}
@@ -30,7 +30,7 @@ module _ (s : Setup) (w : Words) (n : ℕ) (v : Views) (g : Ghost) (r : Rule s w
   d = w.round + 1
 
   abbrev A : ℕ → ℕ → Type 0
-  A = Went w.died v.read
+  A = Went w.round w.died v.kind v.work v.read
 
   abbrev Can : ℕ → Type 0
   Can q = MayRead w.round v.ruling.phase v.read q
@@ -91,8 +91,10 @@ module _ (s : Setup) (w : Words) (n : ℕ) (v : Views) (g : Ghost) (r : Rule s w
           (λ c h. (block_back s.elements v.ruling.workers g.stage x j (y + 1) (Half b) (Whole b) is (λ c e. absurd (not_drawn c e)) (λ c e. absurd (not_half c e)) i c h, (λ _. refl), refl, λ _. refl))
           (λ z e. let t = some_worker s w n v g r j kind in absurd (omega arith))
           (r.sure i);
-      goes = λ i. goes_on s w.name w.name w.head w.hist head' w.hist w.born w.died w.born w.died g.life g.life (λ _ _ _ _ _. refl) w.round v.ruling.phase g.who v.read Can A moves (λ a p e. (inl (inr (a, e)), r.pins.past a p e)) (λ a p c e h x. (a, e, h, x)) (λ p t. r.names.fits p t) i (r.goes i);
+      walks = λ i. workers_on s w.name w.name w.head w.hist head' w.hist w.born w.died w.born w.died g.life g.life (λ _ _ _ _ _. refl) w.round v.ruling.phase g.who v.read Can A moves (inl (inl refl)) (r.names.fits w.round (inl (inl refl))) (λ e. r.names.fits d (inr (refl, omega arith))) (v.kind i) i (v.work i) (λ b k h x. (inr (i, k, refl, h), x)) (r.walks i);
+      goes = λ i. goes_on s w.name w.name w.head w.hist head' w.hist w.born w.died w.born w.died g.life g.life (λ _ _ _ _ _. refl) w.round v.ruling.phase g.who v.read Can A moves (λ a p e. (inl (inr (a, e)), r.pins.past a p e)) (λ a p c e h x. (inl (a, e, h), x)) (λ p t. r.names.fits p t) i (r.goes i);
       rules = r.rules;
+      stock = r.stock;
       holders = λ z i c p h. dite (ℕ_discrete z x) (λ f. let t = (held_one j i (y + 1) c (Whole b) p (sym (update_at g.stage x z (Held j (y + 1) (Whole b)) f) ∙ h)).0 in inr (ap v.kind (sym t) ∙ kind)) (λ o. r.holders z i c p (sym (update_other g.stage x z (Held j (y + 1) (Whole b)) o) ∙ h));
       hand = r.hand;
     }
@@ -133,8 +135,10 @@ module _ (s : Setup) (w : Words) (n : ℕ) (v : Views) (g : Ghost) (r : Rule s w
         sure = update_cases (λ i u. SureRule s.elements v.ruling.workers w.head hist' w.born w.died w.name w.row g.stage i u) v.sure j (record (v.sure j) { hist = (member_of b t, l) ∷ (v.sure j).hist })
             (let i = r.sure j in record { head_is = i.head_is; hist_is = λ c u k f h. ⊎_elim (λ z. update_at w.hist (member_of b t) (member_of c u) l (sym z.0) ∙ z.1) (λ z. update_other w.hist (member_of b t) (member_of c u) l (λ e. z.0 (sym e)) ∙ i.hist_is c u k z.1 h) f; died_is = i.died_is; name_is = i.name_is; born_is = i.born_is; row_is = i.row_is })
             (λ i ne. let a = r.sure i in record { head_is = a.head_is; hist_is = λ c u k f h. off c (λ e. ne (mine_only i c h e)) u ∙ a.hist_is c u k f h; died_is = a.died_is; name_is = a.name_is; born_is = a.born_is; row_is = a.row_is });
-        goes = λ i. goes_on s w.name w.name w.head w.hist w.head hist' w.born w.died w.born w.died g.life g.life (λ _ _ _ _ _. refl) w.round v.ruling.phase g.who v.read Can A m0.1 (λ a p e. (inl (inr (a, e)), r.pins.past a p e)) (λ a p c e h x. (a, e, h, x)) (λ p k. r.names.fits p k) i (r.goes i);
+        walks = λ i. workers_on s w.name w.name w.head w.hist w.head hist' w.born w.died w.born w.died g.life g.life (λ _ _ _ _ _. refl) w.round v.ruling.phase g.who v.read Can A m0.1 (inl (inl refl)) (r.names.fits w.round (inl (inl refl))) (λ e. r.names.fits d (inr (refl, omega arith))) (v.kind i) i (v.work i) (λ b k h x. (inr (i, k, refl, h), x)) (r.walks i);
+        goes = λ i. goes_on s w.name w.name w.head w.hist w.head hist' w.born w.died w.born w.died g.life g.life (λ _ _ _ _ _. refl) w.round v.ruling.phase g.who v.read Can A m0.1 (λ a p e. (inl (inr (a, e)), r.pins.past a p e)) (λ a p c e h x. (inl (a, e, h), x)) (λ p k. r.names.fits p k) i (r.goes i);
         rules = r.rules;
+        stock = r.stock;
         holders = r.holders;
         hand = r.hand;
       }

@@ -13,10 +13,11 @@ use Rattle.mesh_words.proofs.Functions.{update_same, update_at, update_other, up
 use Rattle.mesh_words.proofs.Sums.{sum_same}
 use Rattle.mesh_state.specs.Ghosts.{Held, Ghost}
 use Rattle.mesh_state.specs.Bisections.{MayRead}
-use Rattle.mesh_state.specs.Work.{WorkRule}
+use Rattle.mesh_state.specs.Work.{WorkRule, WalkRule}
 use Rattle.mesh_state.specs.Sure.{SureRule}
 use Rattle.mesh_state.specs.Readers.{ReaderRule}
 use Rattle.mesh_state.specs.Rule.{Rule}
+use Rattle.mesh_state.proofs.FoundAgain.{walks_idle}
 use Rattle.mesh_words.proofs.Sums.{one_if, none_if}
 use Rattle.mesh_state.specs.Fresh.{idle, blank}
 
@@ -73,7 +74,7 @@ module _ (s : Setup) (w : Words) (n : ℕ) (v : Views) (g : Ghost) (r : Rule s w
       };
       labels = r.labels;
       chains = r.chains;
-      names = record { fits = λ q k. r.names.fits q (back q k); sound = λ q k. r.names.sound q (back q k); patch = r.names.patch; calm = r.names.calm; grows = r.names.grows; fresh = r.names.fresh };
+      names = record { fits = λ q k. r.names.fits q (back q k); sound = λ q k. r.names.sound q (back q k); patch = r.names.patch; calm = r.names.calm; grows = r.names.grows; either = r.names.either; fresh = r.names.fresh };
       pins = record {
         now = r.pins.now;
         later = r.pins.later;
@@ -89,6 +90,9 @@ module _ (s : Setup) (w : Words) (n : ℕ) (v : Views) (g : Ghost) (r : Rule s w
           (λ e. subst (λ (u : Work). WorkRule s w.round v.ruling.phase w.name w.born w.died g.life (g.who (w.round + 1)) (kind' j) j u) (sym (update_at v.work n j idle e))
           record { only = λ _ _. (refl, refl, refl, refl); found = λ x i f. absurd f; known = λ i f. absurd f; open_ = λ i f. absurd f; given = λ b i f. absurd f })
           (λ o. subst (λ (u : Work × ℕ). WorkRule s w.round v.ruling.phase w.name w.born w.died g.life (g.who (w.round + 1)) u.1 j u.0) (λ i. (sym (update_other v.work n j idle o) i, sym (update_other v.kind n j kind o) i)) (r.works j));
+      walks = λ j. dite (ℕ_discrete j n)
+          (λ e. subst (λ (u : Work). WalkRule s w.round v.ruling.phase w.name w.hist w.born w.died g.life g.who (kind' j) j u) (sym (update_at v.work n j idle e)) (walks_idle s w.round v.ruling.phase w.name w.hist w.born w.died g.life g.who (kind' j) j))
+          (λ o. subst (λ (u : Work × ℕ). WalkRule s w.round v.ruling.phase w.name w.hist w.born w.died g.life g.who u.1 j u.0) (λ i. (sym (update_other v.work n j idle o) i, sym (update_other v.kind n j kind o) i)) (r.walks j));
       sure = update_cases (λ j u. SureRule s.elements workers w.head w.hist w.born w.died w.name w.row g.stage j u) (update v.sure 0 unsure) n unsure
           nothing_sure
           (λ j _. update_cases (λ j u. SureRule s.elements workers w.head w.hist w.born w.died w.name w.row g.stage j u) v.sure 0 unsure nothing_sure (λ i ne. let t = r.sure i in record {
@@ -111,6 +115,7 @@ module _ (s : Setup) (w : Words) (n : ℕ) (v : Views) (g : Ghost) (r : Rule s w
         halves = λ a b. ⊎_elim (λ t. absurd (⊎_elim a b t.1)) (λ t. t.2 ∙ r.rules.halves a b) which;
         clear = r.rules.clear;
       };
+      stock = record { cursor_is = r.stock.cursor_is; free_is = r.stock.free_is; never = r.stock.never; left = r.stock.left };
       holders = λ x j m p h. ⊎_elim inl (λ k. inr (update_other v.kind n j kind (λ (e : j ≡ n). new_claims x m p (h ∙ ap (λ (i : ℕ). Held i m p) e)) ∙ k)) (r.holders x j m p h);
       hand = r.hand;
     }

@@ -1,8 +1,9 @@
 -- What the owner knows.
-use Rattle.std.specs.Prelude.{◌≡◌, ℕ, ◌+◌, ◌<◌, ◌≤◌}
+use Rattle.std.specs.Prelude.{◌≡◌, ℕ, ◌+◌, ◌<◌, ◌≤◌, ◌⊎◌}
 use Rattle.mesh_words.specs.Entries.{HasEntry}
 use Rattle.mesh_words.specs.Sums.{sum_below, one_where}
 use Rattle.mesh_words.specs.Views.{Ruling}
+use Rattle.mesh_state.specs.Ghosts.{Life, Free}
 
 pub record OwnerRule (passes round : ℕ) (released pins : ℕ → ℕ) (n : ℕ) (kind : ℕ → ℕ) (v : Ruling) : Type 0 where
   -- seat 0 is the owner's, and no other
@@ -16,3 +17,12 @@ pub record OwnerRule (passes round : ℕ) (released pins : ℕ → ℕ) (n : ℕ
   pub halves : (v.phase ≡ 1 → ⊥) → (v.phase ≡ 2 → ⊥) → v.workers ≡ 0
   -- of a clear round each pin was given back
   pub clear : (q : ℕ) → HasEntry v.clear q → (q < round) × (released q ≡ pins q)
+
+-- what the owner knows of the free rows, and of the rounds that were left
+pub record StockRule (round cursor free : ℕ) (row : ℕ → ℕ) (life : ℕ → Life) (pins : ℕ → ℕ) (v : Ruling) : Type 0 where
+  pub cursor_is : (k : ℕ) → v.cursor ≡ k + 1 → (v.phase ≡ 1 → ⊥) × (cursor ≡ k)
+  pub free_is : (k : ℕ) → v.free ≡ k + 1 → free ≡ k
+  -- a block that was never drawn is free, but where it is drawn in the round in work
+  pub never : (b : ℕ) → v.ever ≤ b → (life b ≡ Free) ⊎ ((i : ℕ) × (i < cursor) × (i < free) × (row i ≡ b))
+  -- the swap of ROUND showed how many pins were taken
+  pub left : (q k : ℕ) → HasEntry v.left (q, k) → (q < round) × (pins q ≡ k)

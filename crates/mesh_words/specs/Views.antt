@@ -3,6 +3,12 @@ use Rattle.std.specs.Prelude.{ℕ, Bool, List, []}
 use Rattle.mesh_words.specs.Words.{Node}
 use Rattle.mesh_words.specs.Claims.{Claim}
 
+-- a walk stands still, has gone to a block's member from the place of an element with this name, or has passed the block by
+pub data Walk : Type 0 where
+  Still : Walk
+  At : ℕ → ℕ → ℕ → Bool → Walk
+  Past : ℕ → ℕ → ℕ → Bool → Walk
+
 -- what a worker's pass knows of the round in work
 pub record Work : Type 0 where
   -- places where it found elements, each with the element's name
@@ -12,6 +18,12 @@ pub record Work : Type 0 where
   pub open_ : List ℕ
   -- blocks of patches that are to be retired, each with its first member's name
   pub given : List (ℕ × ℕ)
+  -- names that the last finished round has not, and places of elements at that round
+  pub absent : List ℕ
+  pub stood : List (ℕ × ℕ)
+  -- the blocks to which it has gone, and where its walk is
+  pub went : List ℕ
+  pub walk : Walk
 
 -- contents of words that no other seat changes: by place, by member, by block, by row
 pub record Sure : Type 0 where
@@ -25,12 +37,6 @@ pub record Sure : Type 0 where
 -- no content
 abbrev pub unsure : Sure
 unsure = record { head = []; hist = []; born = []; died = []; name = []; row = [] }
-
--- a walk stands still, has gone to a block's member from the place of an element with this name, or has passed the block by
-pub data Walk : Type 0 where
-  Still : Walk
-  At : ℕ → ℕ → ℕ → Bool → Walk
-  Past : ℕ → ℕ → ℕ → Bool → Walk
 
 -- whether a name is bisected at a round
 pub record Note : Type 0 where
@@ -56,10 +62,16 @@ pub record Ruling : Type 0 where
   -- how many workers' and readers' passes are out
   pub workers : ℕ
   pub readers : ℕ
-  -- left rounds of which no pin is out
+  -- left rounds with the pins that were taken in them, and left rounds of which no pin is out
+  pub left : List (ℕ × ℕ)
   pub clear : List ℕ
   -- free blocks
   pub hand : List ℕ
+  -- one more than CURSOR and than FREE, or 0 where they are not known
+  pub cursor : ℕ
+  pub free : ℕ
+  -- blocks from this number on were not drawn in earlier rounds
+  pub ever : ℕ
 
 -- The views. The kinds of seat: 0 of one that was joined, 1 a worker's, 2 a reader's, 3 the owner's, whose seat is 0
 pub record Views : Type 0 where
