@@ -175,6 +175,7 @@ module _ (s : Setup) (name name' : ℕ → ℕ) (head hist head' hist' : ℕ →
     goes_on pinned gone fits j g = record {
       went = λ q b p h. let t = g.went q b p h in let k = pinned j q p in ((t.0.0, t.0.1, m.stand q b t.0.0 t.0.1 k.0 (gone j q b p h t.1) t.0.2), m.alive q b t.0.0 t.0.1 k.1 t.0.2 t.1);
       walk = λ q p. walk_on q p (read j).walk (g.walk q p);
+      places = λ q x n p h. seen_on (who q) q x n (fits q (pinned j q p).0) (g.places q x n p h);
       yes_notes = g.yes_notes;
       no_notes = g.no_notes;
     }
@@ -193,8 +194,10 @@ module _ (s : Setup) (name name' : ℕ → ℕ) (head hist head' hist' : ℕ →
     workers_on now last next kind seat v gone g = record {
       still = g.still;
       only = g.only;
+      half = g.half;
       absent = g.absent;
       stood = λ x n h. seen_on (who round) round x n last (g.stood x n h);
+      had = g.had;
       went = λ b h. let t = g.went b h in ((t.0.0, t.0.1, m.stand round b t.0.0 t.0.1 now (gone b (worker b h) h t.1) t.0.2), m.alive round b t.0.0 t.0.1 (omega arith) t.0.2 t.1);
       walk = walk_on v.walk g.walk;
     }
@@ -218,8 +221,10 @@ pub workers_who : (s : Setup) (round phase : ℕ) (name : ℕ → ℕ) (hist : �
 workers_who s round phase name hist born died life who who' same more kind seat v g = record {
   still = g.still;
   only = g.only;
+  half = g.half;
   absent = λ n h. ap (λ (f : ℕ → ℕ). f n) same ∙ g.absent n h;
   stood = λ x n h. subst (λ (f : ℕ → ℕ). IsPlaceOf s name f x n) (sym same) (g.stood x n h);
+  had = λ b n h. ap (λ (f : ℕ → ℕ). f n) same ∙ g.had b n h;
   went = g.went;
   walk = walk_on v.walk g.walk;
 }
@@ -233,16 +238,18 @@ workers_who s round phase name hist born died life who who' same more kind seat 
     walk_on (Past x n b t) h = (h.0, h.1, place_on x n h.2, λ c w. h.3 c (sym (ap (λ (f : ℕ → ℕ). f n) same) ∙ w))
 
 -- a seat that does not walk
-pub walks_idle : (s : Setup) (round phase : ℕ) (name : ℕ → ℕ) (hist : ℕ → Node) (born died : ℕ → ℕ) (life : ℕ → Life) (who : ℕ → ℕ → ℕ) (kind seat : ℕ) → WalkRule s round phase name hist born died life who kind seat idle
-walks_idle s round phase name hist born died life who kind seat = record { still = λ _. (refl, refl); only = λ _ _. (refl, refl); absent = λ n h. absurd h; stood = λ x n h. absurd h; went = λ b h. absurd h; walk = tt }
+pub walks_idle : (s : Setup) (round phase : ℕ) (name : ℕ → ℕ) (hist : ℕ → Node) (born died : ℕ → ℕ) (life : ℕ → Life) (who : ℕ → ℕ → ℕ) (kind seat half : ℕ) → (kind ≡ 1 → half ≡ phase) → WalkRule s round phase name hist born died life who kind seat (record idle { half = half })
+walks_idle s round phase name hist born died life who kind seat half said = record { half = said; still = λ _. (refl, refl); only = λ _ _. (refl, refl, refl); absent = λ n h. absurd h; stood = λ x n h. absurd h; had = λ b n h. absurd h; went = λ b h. absurd h; walk = tt }
 
 -- a seat that is no worker's keeps what it knows of the last finished round
 pub walks_home : (s : Setup) (round phase phase' : ℕ) (name : ℕ → ℕ) (hist hist' : ℕ → Node) (born died born' died' : ℕ → ℕ) (life life' : ℕ → Life) (who : ℕ → ℕ → ℕ) (kind seat : ℕ) (v : Work) → (kind ≡ 1 → ⊥) → WalkRule s round phase name hist born died life who kind seat v → WalkRule s round phase' name hist' born' died' life' who kind seat v
 walks_home s round phase phase' name hist hist' born died born' died' life life' who kind seat v other g = let e = g.still other in record {
   still = g.still;
   only = g.only;
+  half = λ e. absurd (other e);
   absent = g.absent;
   stood = g.stood;
+  had = g.had;
   went = λ b h. absurd (subst (λ (l : List ℕ). HasEntry l b) e.0 h);
   walk = subst (λ (u : Walk). WorkWalks s round phase' name hist' born' died' life' who v.went u) (sym e.1) tt;
 }
@@ -253,6 +260,7 @@ pub goes_who : (s : Setup) (round : ℕ) (name : ℕ → ℕ) (hist : ℕ → No
 goes_who s round name hist born died life who who' same v low g = record {
   went = g.went;
   walk = λ q p. subst (λ (f : ℕ → ℕ). Walks s name hist born died life f q v.went v.walk) (sym (same q (low q p))) (g.walk q p);
+  places = λ q x n p h. subst (λ (f : ℕ → ℕ). IsPlaceOf s name f x n) (sym (same q (low q p))) (g.places q x n p h);
   yes_notes = λ n q h. let t = g.yes_notes n q h in (t.0, (t.1.0, ap (λ (f : ℕ → ℕ). f n) (same q t.0) ∙ t.1.1));
   no_notes = λ n q h. let t = g.no_notes n q h in (t.0, ap (λ (f : ℕ → ℕ). f n) (same q t.0) ∙ t.1);
 }

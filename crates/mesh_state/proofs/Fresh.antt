@@ -59,9 +59,9 @@ starts s a = record {
   };
   pins = record { now = refl; later = λ q l. (refl, refl); count = λ q. let z : one_where 0 (q + 1) ≡ 0 = ap (λ (t : Bool). cond {A = ℕ} t 1 0) (ne_eqb 0 (q + 1) (λ (e : 0 ≡ q + 1). omega arith)) in omega arith; past = λ j q e. absurd (omega arith); few = λ j l. few j l; readers = λ j o. (refl, refl); bit = λ j. omega arith; bound = omega arith };
   works = λ j. record { only = λ _ _. (refl, refl, refl, refl); found = λ x k h. absurd h; known = λ k h. absurd h; open_ = λ k h. absurd h; given = λ b k h. absurd h };
-  walks = λ j. walks_idle s 0 0 (λ _. 0) (λ _. node 0 0) (λ _. 0) (λ _. 0) (λ _. Free) (λ _ _. 0) (fresh_kind j) j;
+  walks = λ j. walks_idle s 0 0 (λ _. 0) (λ _. node 0 0) (λ _. 0) (λ _. 0) (λ _. Free) (λ _ _. 0) (fresh_kind j) j 0 (λ _. refl);
   sure = sure_is;
-  goes = λ j. record { went = λ q b p h. absurd h; walk = λ q p. tt; yes_notes = λ k q h. absurd h; no_notes = λ k q h. absurd h };
+  goes = λ j. record { went = λ q b p h. absurd h; walk = λ q p. tt; places = λ q x k p h. absurd h; yes_notes = λ k q h. absurd h; no_notes = λ k q h. absurd h };
   rules = record { owner = (refl, omega arith); one = λ j e. only j e; workers = refl; readers = refl; few_readers = omega arith; halves = λ _ _. refl; clear = λ q h. absurd h };
   stock = record { cursor_is = λ k e. ((λ f. omega arith), omega arith); free_is = λ k e. omega arith; never = λ b l. inl refl; left = λ q k h. absurd h };
   holders = λ x j m p h. absurd (not_open j m p (sym h));

@@ -69,11 +69,11 @@ module _ (s : Setup) (w : Words) (n : ℕ) (v : Views) (g : Ghost) (r : Rule s w
   kind_sum k = sum_update n (λ i. one_where (v.kind i) k) (λ i. one_where (update v.kind j 0 i) k) j inside (λ i o. ap (λ (x : ℕ). one_where x k) (update_other v.kind j i 0 o)) ∙ ap (λ (x : ℕ). sum_below n (λ i. one_where (v.kind i) k) + one_where x k) (update_same v.kind j 0)
 
   joined : Work
-  joined = record { found = (v.work 0).found ++ (v.work j).found; known = (v.work 0).known ++ (v.work j).known; open_ = (v.work 0).open_ ++ (v.work j).open_; given = (v.work 0).given ++ (v.work j).given; absent = (v.work 0).absent ++ (v.work j).absent; stood = (v.work 0).stood ++ (v.work j).stood; went = []; walk = Still }
+  joined = record { half = 0; found = (v.work 0).found ++ (v.work j).found; known = (v.work 0).known ++ (v.work j).known; open_ = (v.work 0).open_ ++ (v.work j).open_; given = (v.work 0).given ++ (v.work j).given; absent = (v.work 0).absent ++ (v.work j).absent; stood = (v.work 0).stood ++ (v.work j).stood; had = (v.work 0).had ++ (v.work j).had; went = []; walk = Still }
 
   -- the owner has the claims and the knowledge of both, and is sure of no word
   pub joins : (workers : ℕ) → v.ruling.workers ≡ workers + 1
-      → Rule s w n (record v { kind = update v.kind j 0; claims = update (update v.claims 0 (v.claims 0 ++ v.claims j)) j []; work = update (update v.work 0 record { found = (v.work 0).found ++ (v.work j).found; known = (v.work 0).known ++ (v.work j).known; open_ = (v.work 0).open_ ++ (v.work j).open_; given = (v.work 0).given ++ (v.work j).given; absent = (v.work 0).absent ++ (v.work j).absent; stood = (v.work 0).stood ++ (v.work j).stood; went = []; walk = Still }) j idle; sure = update (update v.sure 0 unsure) j unsure; ruling = record v.ruling { workers = workers } }) (record g { stage = λ x. moved j (g.stage x) })
+      → Rule s w n (record v { kind = update v.kind j 0; claims = update (update v.claims 0 (v.claims 0 ++ v.claims j)) j []; work = update (update v.work 0 record { half = 0; found = (v.work 0).found ++ (v.work j).found; known = (v.work 0).known ++ (v.work j).known; open_ = (v.work 0).open_ ++ (v.work j).open_; given = (v.work 0).given ++ (v.work j).given; absent = (v.work 0).absent ++ (v.work j).absent; stood = (v.work 0).stood ++ (v.work j).stood; had = (v.work 0).had ++ (v.work j).had; went = []; walk = Still }) j idle; sure = update (update v.sure 0 unsure) j unsure; ruling = record v.ruling { workers = workers } }) (record g { stage = λ x. moved j (g.stage x) })
   joins workers one = record {
     names_apart = r.names_apart;
     claims = record {
@@ -114,13 +114,15 @@ module _ (s : Setup) (w : Words) (n : ℕ) (v : Views) (g : Ghost) (r : Rule s w
         (let a = r.walks 0 in let b = r.walks j in record {
           still = λ _. (refl, refl);
           only = λ _ z. absurd (z refl);
+          half = λ e. let z = update_other v.kind j 0 0 (λ e. far (sym e)) in let y = r.rules.owner.0 in absurd (omega arith);
           absent = λ k h. ⊎_elim (λ t. a.absent k t) (λ t. b.absent k t) (entry_of_both (v.work 0).absent (v.work j).absent k h);
           stood = λ x k h. ⊎_elim (λ t. a.stood x k t) (λ t. b.stood x k t) (entry_of_both (v.work 0).stood (v.work j).stood (x, k) h);
+          had = λ c k h. ⊎_elim (λ t. a.had c k t) (λ t. b.had c k t) (entry_of_both (v.work 0).had (v.work j).had (c, k) h);
           went = λ c h. absurd h;
           walk = tt;
         })
-        (walks_idle s w.round v.ruling.phase w.name w.hist w.born w.died g.life g.who (K j) j)
-        (λ i a b. let t = r.walks i in record { still = λ o. t.still (λ k. o (update_other v.kind j i 0 b ∙ k)); only = λ o. t.only (λ k. o (update_other v.kind j i 0 b ∙ k)); absent = t.absent; stood = t.stood; went = t.went; walk = t.walk }) i;
+        (walks_idle s w.round v.ruling.phase w.name w.hist w.born w.died g.life g.who (K j) j 0 (λ e. let z = update_same v.kind j 0 in absurd (omega arith)))
+        (λ i a b. let t = r.walks i in record { still = λ o. t.still (λ k. o (update_other v.kind j i 0 b ∙ k)); only = λ o. t.only (λ k. o (update_other v.kind j i 0 b ∙ k)); half = λ e. t.half (sym (update_other v.kind j i 0 b) ∙ e); absent = t.absent; stood = t.stood; had = t.had; went = t.went; walk = t.walk }) i;
     sure = two_at (λ i u. SureRule s.elements workers w.head w.hist w.born w.died w.name w.row stage' i u) v.sure unsure unsure (nothing_sure 0) (nothing_sure j) (λ i a b. let t = r.sure i in record {
       head_is = λ z l f h. t.head_is z l f (head_was i a z h);
       hist_is = λ c u l f h. t.hist_is c u l f (block_was i a c h);

@@ -12,6 +12,8 @@ pub mod Draws
 pub mod FirstLink
 pub mod SecondLink
 pub mod Pinning
+pub mod WorkerWalks
+pub mod SecondHalf
 pub mod Phases
 pub mod Splitting
 pub mod JoiningWorkers

@@ -57,12 +57,14 @@ module _ (s : Setup) (w : Words) (n : ℕ) (v : Views) (g : Ghost) (r : Rule s w
 
   idle_walks : Home → (round p : ℕ) (name : ℕ → ℕ) (hist : ℕ → Node) (born died : ℕ → ℕ) (life : ℕ → Life) (who : ℕ → ℕ → ℕ) (j : ℕ) → WalkRule s round p name hist born died life who (v.kind j) j (update v.work 0 idle j)
   idle_walks h round p name hist born died life who = update_cases (λ j u. WalkRule s round p name hist born died life who (v.kind j) j u) v.work 0 idle
-      (walks_idle s round p name hist born died life who (v.kind 0) 0)
+      (walks_idle s round p name hist born died life who (v.kind 0) 0 0 (λ e. absurd (not_work h 0 e)))
       (λ j ne. let k = r.walks j in let e = k.still (not_work h j) in let f = k.only (not_work h j) ne in record {
         still = k.still;
         only = k.only;
+        half = λ e. absurd (not_work h j e);
         absent = λ i a. absurd (subst (λ (l : List ℕ). HasEntry l i) f.0 a);
         stood = λ x i a. absurd (subst (λ (l : List (ℕ × ℕ)). HasEntry l (x, i)) f.1 a);
+        had = λ b i a. absurd (subst (λ (l : List (ℕ × ℕ)). HasEntry l (b, i)) f.2 a);
         went = λ b a. absurd (subst (λ (l : List ℕ). HasEntry l b) e.0 a);
         walk = subst (λ (u : Walk). WorkWalks s round p name hist born died life who (v.work j).went u) (sym e.1) tt;
       })
@@ -244,7 +246,7 @@ module _ (s : Setup) (w : Words) (n : ℕ) (v : Views) (g : Ghost) (r : Rule s w
     walks = idle_walks home d 0 w.name w.hist w.born w.died g.life who';
     sure = r.sure;
     goes = λ i. let t = goes_who s w.round w.name w.hist w.born w.died g.life g.who who' (λ q l. old q (omega arith)) (v.read i) (λ q e. r.pins.past i q e) (r.goes i) in
-        record { went = t.went; walk = t.walk; yes_notes = λ k q h. let a = t.yes_notes k q h in let a0 = a.0 in (omega arith, a.1); no_notes = λ k q h. let a = t.no_notes k q h in let a0 = a.0 in (omega arith, a.1) };
+        record { went = t.went; walk = t.walk; places = t.places; yes_notes = λ k q h. let a = t.yes_notes k q h in let a0 = a.0 in (omega arith, a.1); no_notes = λ k q h. let a = t.no_notes k q h in let a0 = a.0 in (omega arith, a.1) };
     rules = record { owner = r.rules.owner; one = r.rules.one; workers = r.rules.workers; readers = r.rules.readers; few_readers = r.rules.few_readers; halves = λ _ _. home; clear = λ q h. let t = r.rules.clear q h in let t0 = t.0 in (omega arith, t.1) };
     stock = record { cursor_is = λ k e. ((λ f. absurd (omega arith)), (r.stock.cursor_is k e).1); free_is = r.stock.free_is; never = r.stock.never; left = λ q k h. ⊎_elim (λ e. let a : q ≡ w.round = ap (λ (t : ℕ × ℕ). t.0) e in let b : k ≡ w.taken = ap (λ (t : ℕ × ℕ). t.1) e in (omega arith, ap g.pins a ∙ r.pins.now ∙ sym b)) (λ t. let u = r.stock.left q k t in let u0 = u.0 in (omega arith, u.1)) h };
     holders = r.holders;

@@ -157,7 +157,7 @@ module _ (s : Setup) (w : Words) (n : ℕ) (v : Views) (g : Ghost) (r : Rule s w
             open_ = λ k h. let t = ((r.works i).open_ k h).0 in let e = one in absurd (omega arith);
             given = λ c k h. let t = ((r.works i).given c k h).0 in let e = one in absurd (omega arith);
           });
-      walks = update_cases (λ i u. WalkRule s w.round v.ruling.phase w.name w.hist born' w.died g.life who' (v.kind i) i u) v.work j (record (v.work j) { known = known }) (let u = walker j in record { still = u.still; only = u.only; absent = u.absent; stood = u.stood; went = u.went; walk = u.walk }) (λ i _. walker i);
+      walks = update_cases (λ i u. WalkRule s w.round v.ruling.phase w.name w.hist born' w.died g.life who' (v.kind i) i u) v.work j (record (v.work j) { known = known }) (let u = walker j in record { still = u.still; only = u.only; half = u.half; absent = u.absent; stood = u.stood; had = u.had; went = u.went; walk = u.walk }) (λ i _. walker i);
       sure = λ i. sure_on s.elements v.ruling.workers v.ruling.workers w.head w.hist w.head w.hist w.born w.died w.name w.row born' w.died w.name w.row g.stage stage' i (v.sure i)
           (λ z h. (head_back s.elements v.ruling.workers g.stage x j m (Whole b) (Living b) is (λ c e. absurd (not_drawn c e)) (λ c e. absurd (not_half c e)) i z h, refl))
           (λ c h. (block_back s.elements v.ruling.workers g.stage x j m (Whole b) (Living b) is (λ c e. absurd (not_drawn c e)) (λ c e. absurd (not_half c e)) i c h, (λ _. refl), refl, λ _. refl))

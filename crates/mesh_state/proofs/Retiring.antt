@@ -98,7 +98,7 @@ module _ (s : Setup) (w : Words) (n : ℕ) (v : Views) (g : Ghost) (r : Rule s w
               open_ = λ i h. let t = (r.works a).open_ i h in (t.0, now_is i (still_open i t.1));
               given = λ c i h. on_given c i ((r.works a).given c i h);
             });
-        walks = update_cases (λ i u. WalkRule s w.round v.ruling.phase w.name w.hist w.born (update w.died b d) g.life who' (v.kind i) i u) v.work j (record (v.work j) { open_ = names }) (let u = walker j in record { still = u.still; only = u.only; absent = u.absent; stood = u.stood; went = u.went; walk = u.walk }) (λ i _. walker i);
+        walks = update_cases (λ i u. WalkRule s w.round v.ruling.phase w.name w.hist w.born (update w.died b d) g.life who' (v.kind i) i u) v.work j (record (v.work j) { open_ = names }) (let u = walker j in record { still = u.still; only = u.only; half = u.half; absent = u.absent; stood = u.stood; had = u.had; went = u.went; walk = u.walk }) (λ i _. walker i);
         sure = λ i. sure_on s.elements v.ruling.workers v.ruling.workers w.head w.hist w.head w.hist w.born w.died w.name w.row w.born (update w.died b d) w.name w.row g.stage g.stage i (v.sure i)
             (λ z h. (h, refl))
             (λ c h. absurd (no_block i c h))

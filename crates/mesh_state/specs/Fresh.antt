@@ -21,11 +21,11 @@ noted_below (suc n) f = (n, f n) ∷ noted_below n f
 
 -- a pass that knows nothing of the work
 abbrev pub idle : Work
-idle = record { found = []; known = []; open_ = []; given = []; absent = []; stood = []; went = []; walk = Still }
+idle = record { half = 0; found = []; known = []; open_ = []; given = []; absent = []; stood = []; had = []; went = []; walk = Still }
 
 -- a pass without a pin
 abbrev pub blank : List Note → Read
-blank notes = record { pin = 0; ready = 0; went = []; walk = Still; notes = notes }
+blank notes = record { pin = 0; ready = 0; went = []; walk = Still; notes = notes; places = [] }
 
 abbrev pub fresh_words : ℕ → Words
 fresh_words pool = record { round = 0; taken = 0; cursor = 0; free = pool; released = λ _. 0; row = λ i. cond (ltb i pool) i 0; claimed = λ _. 0; head = λ _. node 0 0; hist = λ _. node 0 0; born = λ _. 0; died = λ _. 0; name = λ _. 0 }

@@ -11,6 +11,8 @@ pub data Walk : Type 0 where
 
 -- what a worker's pass knows of the round in work
 pub record Work : Type 0 where
+  -- 1 in the first half of the round and 2 in the second
+  pub half : ℕ
   -- places where it found elements, each with the element's name
   pub found : List (ℕ × ℕ)
   -- names that are bisected, and names that are not
@@ -21,6 +23,8 @@ pub record Work : Type 0 where
   -- names that the last finished round has not, and places of elements at that round
   pub absent : List ℕ
   pub stood : List (ℕ × ℕ)
+  -- blocks that bisect a name at the last finished round, each with the name
+  pub had : List (ℕ × ℕ)
   -- the blocks to which it has gone, and where its walk is
   pub went : List ℕ
   pub walk : Walk
@@ -54,6 +58,8 @@ pub record Read : Type 0 where
   pub went : List ℕ
   pub walk : Walk
   pub notes : List Note
+  -- places of elements at the pinned round, each with the element's name
+  pub places : List (ℕ × ℕ)
 
 -- what the owner knows
 pub record Ruling : Type 0 where
