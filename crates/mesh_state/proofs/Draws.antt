@@ -1,11 +1,11 @@
--- A draw, the second link, and what is loaded.
-use Rattle.std.proofs.Common.{◌≡◌, ◌≢◌, ℕ, ◌+◌, ◌<◌, ◌≤◌, Bool, false, ◌∷◌, ◌⊎◌, refl, sym, ap, ◌∙◌, subst, inl, inr, ⊎_elim, arith}
+-- A draw.
+use Rattle.std.proofs.Common.{◌≡◌, ◌≢◌, ℕ, ◌+◌, ◌<◌, ◌≤◌, Bool, false, ◌⊎◌, refl, sym, ap, ◌∙◌, subst, inl, inr, ⊎_elim, arith}
 use mathlib.Core.Logic.{dite}
 use native.Mathlib.Decide.{ℕ_discrete}
 use Rattle.mesh_words.specs.Setup.{Setup, places}
 use Rattle.mesh_words.specs.Functions.{update}
 use Rattle.mesh_words.specs.Words.{Words, Node}
-use Rattle.mesh_words.specs.Views.{Views, Sure, unsure}
+use Rattle.mesh_words.specs.Views.{Views, unsure}
 use Rattle.mesh_words.specs.Claims.{Progress, Claimed, Failed, Drawn, Half, Whole, Living, claim, moved_on}
 use Rattle.mesh_words.specs.Places.{member_of}
 use Rattle.mesh_words.specs.Entries.{HasEntry}
@@ -32,35 +32,6 @@ module _ (s : Setup) (w : Words) (n : ℕ) (v : Views) (g : Ghost) (r : Rule s w
 
   abbrev Can : ℕ → Type 0
   Can q = MayRead w.round v.ruling.phase v.read q
-
-  -- a seat is sure of more words
-  pub learns_sure : (j : ℕ) (u : Sure) → SureRule s.elements v.ruling.workers w.head w.hist w.born w.died w.name w.row g.stage j u → Rule s w n (record v { sure = update v.sure j u }) g
-  learns_sure j u ok = record { names_apart = r.names_apart; claims = r.claims; labels = r.labels; chains = r.chains; names = r.names; pins = r.pins; works = r.works; walks = r.walks; stock = r.stock; sure = update_cases (λ i x. SureRule s.elements v.ruling.workers w.head w.hist w.born w.died w.name w.row g.stage i x) v.sure j u ok (λ i _. r.sure i); goes = r.goes; rules = r.rules; holders = r.holders; hand = r.hand }
-
-  -- a head is loaded
-  pub loads_head : (j x : ℕ) → Rule s w n (record v { sure = update v.sure j (record (v.sure j) { head = (x, w.head x) ∷ (v.sure j).head }) }) g
-  loads_head j x = let i = r.sure j in learns_sure j (record (v.sure j) { head = (x, w.head x) ∷ (v.sure j).head }) record {
-    head_is = λ z l f h. ⊎_elim (λ t. ap w.head (sym t.0) ∙ t.1) (λ t. i.head_is z l t.1 h) f;
-    hist_is = i.hist_is;
-    died_is = i.died_is;
-    name_is = i.name_is;
-    born_is = i.born_is;
-    row_is = i.row_is;
-  }
-
-  pub loads_died : (j b : ℕ) → Rule s w n (record v { sure = update v.sure j (record (v.sure j) { died = (b, w.died b) ∷ (v.sure j).died }) }) g
-  loads_died j b = let i = r.sure j in learns_sure j (record (v.sure j) { died = (b, w.died b) ∷ (v.sure j).died }) record {
-    head_is = i.head_is;
-    hist_is = i.hist_is;
-    died_is = λ c k f h. ⊎_elim (λ t. ap w.died (sym t.0) ∙ t.1) (λ t. i.died_is c k t.1 h) f;
-    name_is = i.name_is;
-    born_is = i.born_is;
-    row_is = i.row_is;
-  }
-
-  -- RELEASED of a round that is left shows that no pin of it is out
-  pub notes_clear : (q : ℕ) → q < w.round → w.released q ≡ g.pins q → Rule s w n (record v { ruling = record v.ruling { clear = q ∷ v.ruling.clear } }) g
-  notes_clear q l e = record { names_apart = r.names_apart; claims = r.claims; labels = r.labels; chains = r.chains; names = r.names; pins = r.pins; works = r.works; walks = r.walks; stock = record { cursor_is = r.stock.cursor_is; free_is = r.stock.free_is; never = r.stock.never; left = r.stock.left }; sure = r.sure; goes = r.goes; holders = r.holders; hand = r.hand; rules = record { owner = r.rules.owner; one = r.rules.one; workers = r.rules.workers; readers = r.rules.readers; few_readers = r.rules.few_readers; halves = r.rules.halves; clear = λ k h. ⊎_elim (λ t. (subst (λ (x : ℕ). x < w.round) (sym t) l, ap w.released t ∙ e ∙ ap g.pins (sym t))) (r.rules.clear k) h } }
 
   -- the row of the draw names a free block, which is the claim's from now on
   module _ (j x m : ℕ) (mine : HasEntry (v.claims j) (claim x m Claimed)) (kind : v.kind j ≡ 1) where

@@ -9,8 +9,10 @@ pub mod Publishing
 pub mod Retiring
 pub mod Claiming
 pub mod Draws
+pub mod Loads
 pub mod FirstLink
 pub mod SecondLink
+pub mod Filling
 pub mod Pinning
 pub mod WorkerWalks
 pub mod SecondHalf
