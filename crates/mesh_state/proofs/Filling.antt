@@ -106,6 +106,7 @@ module _ (s : Setup) (w : Words) (n : ℕ) (v : Views) (g : Ghost) (r : Rule s w
       goes = λ i. goes_on s w.name name' w.head w.hist w.head hist' w.born w.died w.born died' g.life g.life same w.round v.ruling.phase g.who v.read Can A step_chains.1 (λ a p e. (inl (inr (a, e)), r.pins.past a p e)) (λ a p c e h x. (inl (a, e, h), x)) (λ p k. r.names.fits p k) i (r.goes i);
       rules = r.rules;
       stock = r.stock;
+      note = r.note;
       holders = r.holders;
       hand = r.hand;
     }
@@ -181,6 +182,7 @@ module _ (s : Setup) (w : Words) (n : ℕ) (v : Views) (g : Ghost) (r : Rule s w
         goes = λ i. goes_on s w.name w.name w.head w.hist head' w.hist w.born w.died w.born w.died g.life g.life (λ _ _ _ _ _. refl) w.round v.ruling.phase g.who v.read Can A mv (λ a p e. (inl (inr (a, e)), r.pins.past a p e)) (λ a p c e h x. (inl (a, e, h), x)) (λ p k. r.names.fits p k) i (r.goes i);
         rules = r.rules;
         stock = r.stock;
+        note = r.note;
         holders = r.holders;
         hand = r.hand;
       }

@@ -6,6 +6,7 @@ use Rattle.mesh_words.specs.Setup.{Setup}
 use Rattle.mesh_words.specs.Functions.{update}
 use Rattle.mesh_words.specs.Sums.{sum_below, one_where}
 use Rattle.mesh_words.specs.Words.{Words}
+use Rattle.mesh_words.specs.Entries.{HasEntry}
 use Rattle.mesh_words.specs.Views.{Views, Read}
 use Rattle.mesh_words.proofs.Functions.{update_same, update_at, update_other, update_cases}
 use Rattle.mesh_words.proofs.Sums.{sum_update, sum_same, sum_le}
@@ -13,6 +14,7 @@ use Rattle.mesh_words.proofs.Entries.{entry_of_both}
 use Rattle.mesh_state.specs.Bisections.{MayRead}
 use Rattle.mesh_state.specs.Readers.{ReaderRule}
 use Rattle.mesh_state.specs.Ghosts.{Ghost}
+use Rattle.mesh_state.specs.Owner.{NoneWent}
 use Rattle.mesh_state.specs.Rule.{Rule}
 use Rattle.mesh_state.specs.Fresh.{blank}
 
@@ -47,6 +49,10 @@ module _ (s : Setup) (w : Words) (n : ℕ) (v : Views) (g : Ghost) (r : Rule s w
   -- a seat that is no worker's was none
   kept_work : (i : ℕ) → (update v.kind j 0 i ≡ 1 → ⊥) → v.kind i ≡ 1 → ⊥
   kept_work i o k = o (dite (ℕ_discrete i j) (λ e. let y : v.kind i ≡ v.kind j = ap v.kind e in absurd (omega arith)) (λ f. update_other v.kind j i 0 f ∙ k))
+
+  none_went : NoneWent w.round v.read v.ruling.undone → NoneWent w.round read' v.ruling.undone
+  none_went ok = update_cases (λ _ x. (b : ℕ) → x.pin ≡ w.round + 1 → HasEntry x.went b → HasEntry v.ruling.undone b → ⊥) (update v.read 0 own) j (blank []) (λ b p h m. absurd h)
+      (λ i _. update_cases (λ _ x. (b : ℕ) → x.pin ≡ w.round + 1 → HasEntry x.went b → HasEntry v.ruling.undone b → ⊥) v.read 0 own (λ b p h m. ok 0 b p h m) (λ i _. ok i) i)
 
   pub leaves : (readers : ℕ) → v.ruling.readers ≡ readers + 1
       → Rule s w n (record v { kind = update v.kind j 0; read = update (update v.read 0 (record (v.read 0) { notes = (v.read 0).notes ++ (v.read j).notes })) j (blank []); ruling = record v.ruling { readers = readers } }) g
@@ -84,7 +90,8 @@ module _ (s : Setup) (w : Words) (n : ℕ) (v : Views) (g : Ghost) (r : Rule s w
       halves = r.rules.halves;
       clear = r.rules.clear;
     };
-    stock = record { cursor_is = r.stock.cursor_is; free_is = r.stock.free_is; never = r.stock.never; left = r.stock.left };
+    stock = record { finished = r.stock.finished; cursor_is = r.stock.cursor_is; free_is = r.stock.free_is; never = r.stock.never; left = r.stock.left };
+    note = record { undone = r.note.undone; seen = λ x e. let t = r.note.seen x e in (t.0, t.1, t.2, λ f. none_went (t.3 f)); quiet = λ e. none_went (r.note.quiet e) };
     holders = λ x i m p h. ⊎_elim inl (λ k. inr (dite (ℕ_discrete i j) (λ e. let y : v.kind i ≡ v.kind j = ap v.kind e in absurd (omega arith)) (λ f. update_other v.kind j i 0 f ∙ k))) (r.holders x i m p h);
     hand = r.hand;
   }

@@ -141,7 +141,8 @@ module _ (s : Setup) (w : Words) (n : ℕ) (v : Views) (g : Ghost) (r : Rule s w
       halves = λ a b. let z = r.rules.halves a b in omega arith;
       clear = r.rules.clear;
     };
-    stock = record { cursor_is = r.stock.cursor_is; free_is = r.stock.free_is; never = r.stock.never; left = r.stock.left };
+    stock = record { finished = r.stock.finished; cursor_is = r.stock.cursor_is; free_is = r.stock.free_is; never = r.stock.never; left = r.stock.left };
+    note = record { undone = r.note.undone; seen = r.note.seen; quiet = r.note.quiet };
     holders = λ x i m p h. ⊎_elim (λ t. ⊎_elim inl (λ k. inr (update_other v.kind j i 0 t.0 ∙ k)) (r.holders x i m p t.1)) (λ t. inl t.0) (moved_back j (g.stage x) i m p h);
     hand = r.hand;
   }

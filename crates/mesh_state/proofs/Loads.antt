@@ -4,16 +4,19 @@ use Rattle.mesh_words.specs.Setup.{Setup}
 use Rattle.mesh_words.specs.Functions.{update}
 use Rattle.mesh_words.specs.Words.{Words}
 use Rattle.mesh_words.specs.Views.{Views, Sure, Ruling}
-use Rattle.mesh_words.specs.Entries.{HasEntry}
+use Rattle.mesh_words.specs.Entries.{HasEntry, Noted}
+use native.Mathlib.Decide.{dec_lt}
+use Rattle.mesh_words.specs.Sums.{one_where}
 use Rattle.mesh_words.proofs.Functions.{update_cases}
-use Rattle.mesh_state.specs.Ghosts.{Ghost}
+use Rattle.mesh_words.proofs.Sums.{one_if, summand}
+use Rattle.mesh_state.specs.Ghosts.{Free, Ghost}
 use Rattle.mesh_state.specs.Sure.{SureRule}
-use Rattle.mesh_state.specs.Owner.{OwnerRule, StockRule}
+use Rattle.mesh_state.specs.Owner.{OwnerRule, StockRule, NoteRule}
 use Rattle.mesh_state.specs.Rule.{Rule}
 
 module _ (s : Setup) (w : Words) (n : ℕ) (v : Views) (g : Ghost) (r : Rule s w n v g) where
   learns_sure : (j : ℕ) (u : Sure) → SureRule s.elements v.ruling.workers w.head w.hist w.born w.died w.name w.row g.stage j u → Rule s w n (record v { sure = update v.sure j u }) g
-  learns_sure j u ok = record { names_apart = r.names_apart; claims = r.claims; labels = r.labels; chains = r.chains; names = r.names; pins = r.pins; works = r.works; walks = r.walks; sure = update_cases (λ i x. SureRule s.elements v.ruling.workers w.head w.hist w.born w.died w.name w.row g.stage i x) v.sure j u ok (λ i _. r.sure i); goes = r.goes; rules = r.rules; stock = r.stock; holders = r.holders; hand = r.hand }
+  learns_sure j u ok = record { names_apart = r.names_apart; claims = r.claims; labels = r.labels; chains = r.chains; names = r.names; pins = r.pins; works = r.works; walks = r.walks; sure = update_cases (λ i x. SureRule s.elements v.ruling.workers w.head w.hist w.born w.died w.name w.row g.stage i x) v.sure j u ok (λ i _. r.sure i); goes = r.goes; rules = r.rules; stock = r.stock; note = r.note; holders = r.holders; hand = r.hand }
 
   -- words of which a seat is sure while it guards them
   pub loads_head : (j x : ℕ) → Rule s w n (record v { sure = update v.sure j (record (v.sure j) { head = (x, w.head x) ∷ (v.sure j).head }) }) g
@@ -77,8 +80,8 @@ module _ (s : Setup) (w : Words) (n : ℕ) (v : Views) (g : Ghost) (r : Rule s w
   }
 
   -- what the owner learns
-  learns : (u : Ruling) → OwnerRule s.passes w.round w.released g.pins n v.kind u → StockRule w.round w.cursor w.free w.row g.life g.pins u → u.phase ≡ v.ruling.phase → u.workers ≡ v.ruling.workers → u.hand ≡ v.ruling.hand → Rule s w n (record v { ruling = record v.ruling { clear = u.clear; cursor = u.cursor; free = u.free; ever = u.ever } }) g
-  learns u rules stock a b c = record {
+  learns : (u : Ruling) → OwnerRule s.passes w.round w.released g.pins n v.kind u → StockRule w.round w.cursor w.free w.row g.life g.pins u → NoteRule w.round w.taken g.life v.read (record v.ruling { seen = u.seen; quiet = u.quiet }) → ((b : ℕ) → HasEntry u.hand b → (v.ruling.phase ≡ 1 → ⊥) × (g.life b ≡ Free)) → u.phase ≡ v.ruling.phase → u.workers ≡ v.ruling.workers → Rule s w n (record v { ruling = record v.ruling { clear = u.clear; hand = u.hand; cursor = u.cursor; free = u.free; ever = u.ever; seen = u.seen; quiet = u.quiet } }) g
+  learns u rules stock note hand a b = record {
     names_apart = r.names_apart;
     claims = r.claims;
     labels = r.labels;
@@ -90,30 +93,66 @@ module _ (s : Setup) (w : Words) (n : ℕ) (v : Views) (g : Ghost) (r : Rule s w
     sure = r.sure;
     goes = r.goes;
     rules = record { owner = r.rules.owner; one = r.rules.one; workers = r.rules.workers; readers = r.rules.readers; few_readers = r.rules.few_readers; halves = r.rules.halves; clear = rules.clear };
-    stock = record { cursor_is = λ k e. let t = stock.cursor_is k e in ((λ f. t.0 (a ∙ f)), t.1); free_is = stock.free_is; never = stock.never; left = r.stock.left };
+    stock = record { finished = r.stock.finished; cursor_is = λ k e. let t = stock.cursor_is k e in ((λ f. t.0 (a ∙ f)), t.1); free_is = stock.free_is; never = stock.never; left = r.stock.left };
+    note = record { undone = note.undone; seen = note.seen; quiet = note.quiet };
     holders = r.holders;
-    hand = r.hand;
+    hand = hand;
   }
+
+  same_note : NoteRule w.round w.taken g.life v.read (record v.ruling { seen = v.ruling.seen; quiet = v.ruling.quiet })
+  same_note = record { undone = r.note.undone; seen = r.note.seen; quiet = r.note.quiet }
 
   -- RELEASED of a round that was left shows that each of its pins was given back
   pub notes_clear : (q k : ℕ) → HasEntry v.ruling.left (q, k) → w.released q ≡ k → Rule s w n (record v { ruling = record v.ruling { clear = q ∷ v.ruling.clear } }) g
   notes_clear q k h e = let t = r.stock.left q k h in learns (record v.ruling { clear = q ∷ v.ruling.clear })
       record { owner = r.rules.owner; one = r.rules.one; workers = r.rules.workers; readers = r.rules.readers; few_readers = r.rules.few_readers; halves = r.rules.halves; clear = λ i m. ⊎_elim (λ z. (subst (λ (x : ℕ). x < w.round) (sym z) t.0, ap w.released z ∙ e ∙ sym t.1 ∙ ap g.pins (sym z))) (r.rules.clear i) m }
-      record { cursor_is = r.stock.cursor_is; free_is = r.stock.free_is; never = r.stock.never; left = r.stock.left } refl refl refl
+      record { finished = r.stock.finished; cursor_is = r.stock.cursor_is; free_is = r.stock.free_is; never = r.stock.never; left = r.stock.left } same_note r.hand refl refl
 
   -- CURSOR, but in the first half
   pub loads_cursor : (v.ruling.phase ≡ 1 → ⊥) → Rule s w n (record v { ruling = record v.ruling { cursor = w.cursor + 1 } }) g
   loads_cursor o = learns (record v.ruling { cursor = w.cursor + 1 })
       record { owner = r.rules.owner; one = r.rules.one; workers = r.rules.workers; readers = r.rules.readers; few_readers = r.rules.few_readers; halves = r.rules.halves; clear = r.rules.clear }
-      record { cursor_is = λ k e. (o, omega arith); free_is = r.stock.free_is; never = r.stock.never; left = r.stock.left } refl refl refl
+      record { finished = r.stock.finished; cursor_is = λ k e. (o, omega arith); free_is = r.stock.free_is; never = r.stock.never; left = r.stock.left } same_note r.hand refl refl
 
   pub loads_free : Rule s w n (record v { ruling = record v.ruling { free = w.free + 1 } }) g
   loads_free = learns (record v.ruling { free = w.free + 1 })
       record { owner = r.rules.owner; one = r.rules.one; workers = r.rules.workers; readers = r.rules.readers; few_readers = r.rules.few_readers; halves = r.rules.halves; clear = r.rules.clear }
-      record { cursor_is = r.stock.cursor_is; free_is = λ k e. omega arith; never = r.stock.never; left = r.stock.left } refl refl refl
+      record { finished = r.stock.finished; cursor_is = r.stock.cursor_is; free_is = λ k e. omega arith; never = r.stock.never; left = r.stock.left } same_note r.hand refl refl
 
   -- a number above that of each block that was drawn
   pub notes_ever : (e : ℕ) → v.ruling.ever ≤ e → Rule s w n (record v { ruling = record v.ruling { ever = e } }) g
   notes_ever e l = learns (record v.ruling { ever = e })
       record { owner = r.rules.owner; one = r.rules.one; workers = r.rules.workers; readers = r.rules.readers; few_readers = r.rules.few_readers; halves = r.rules.halves; clear = r.rules.clear }
-      record { cursor_is = r.stock.cursor_is; free_is = r.stock.free_is; never = λ b m. r.stock.never b (omega arith); left = r.stock.left } refl refl refl
+      record { finished = r.stock.finished; cursor_is = r.stock.cursor_is; free_is = r.stock.free_is; never = λ b m. r.stock.never b (omega arith); left = r.stock.left } same_note r.hand refl refl
+
+  -- a row from CURSOR on and below FREE names a free block
+  pub notes_free : (i b c k : ℕ) → (v.ruling.phase ≡ 1 → ⊥) → v.ruling.workers ≡ 0 → v.ruling.cursor ≡ c + 1 → v.ruling.free ≡ k + 1 → c ≤ i → i < k → Noted (v.sure 0).row i b → Rule s w n (record v { ruling = record v.ruling { hand = b ∷ v.ruling.hand } }) g
+  notes_free i b c k o home ci fi l m f = learns (record v.ruling { hand = b ∷ v.ruling.hand })
+      record { owner = r.rules.owner; one = r.rules.one; workers = r.rules.workers; readers = r.rules.readers; few_readers = r.rules.few_readers; halves = r.rules.halves; clear = r.rules.clear }
+      record { finished = r.stock.finished; cursor_is = r.stock.cursor_is; free_is = r.stock.free_is; never = r.stock.never; left = r.stock.left } same_note
+      (λ a h. ⊎_elim (λ e. (o, ap g.life (e ∙ sym ((r.sure 0).row_is i b f refl home)) ∙ (r.claims.rows i (let z = (r.stock.cursor_is c ci).1 in omega arith) (let z = r.stock.free_is k fi in omega arith)).0)) (r.hand a) h) refl refl
+
+  -- RELEASED of the last finished round is loaded first
+  pub finds_released : Rule s w n (record v { ruling = record v.ruling { seen = w.released w.round + 1 } }) g
+  finds_released = learns (record v.ruling { seen = w.released w.round + 1 })
+      record { owner = r.rules.owner; one = r.rules.one; workers = r.rules.workers; readers = r.rules.readers; few_readers = r.rules.few_readers; halves = r.rules.halves; clear = r.rules.clear }
+      record { finished = r.stock.finished; cursor_is = r.stock.cursor_is; free_is = r.stock.free_is; never = r.stock.never; left = r.stock.left }
+      record {
+        undone = r.note.undone;
+        seen = λ x e. let c = r.pins.count w.round in let t = r.pins.now in let q : x ≡ w.released w.round = omega arith in (w.taken, omega arith, omega arith, λ f j b p h m. out j p (omega arith));
+        quiet = r.note.quiet;
+      } r.hand refl refl
+    where
+      -- where each pin was given back none is out
+      out : (j : ℕ) → (v.read j).pin ≡ w.round + 1 → w.taken ≡ w.released w.round → ⊥
+      out j p e = let c = r.pins.count w.round in let t = r.pins.now in elim (dec_lt j n) [
+        | yes l ↦ let o = one_if (v.read j).pin (w.round + 1) p in let m = summand n (λ i. one_where (v.read i).pin (w.round + 1)) j l in omega arith
+        | no o ↦ let z = r.pins.few j (omega arith) in let q = (r.pins.readers j (λ (t : v.kind j ≡ 2). absurd (omega arith))).0 in omega arith
+      ]
+
+  -- and ROUND after it: where it shows as many pins, no pass with a pin has gone to the blocks that were taken back
+  pub finds_quiet : v.ruling.seen ≡ w.taken + 1 → Rule s w n (record v { ruling = record v.ruling { quiet = 1 } }) g
+  finds_quiet e = let t = r.note.seen w.taken e in let t1 = t.1 in let t2 = t.2 in learns (record v.ruling { quiet = 1 })
+      record { owner = r.rules.owner; one = r.rules.one; workers = r.rules.workers; readers = r.rules.readers; few_readers = r.rules.few_readers; halves = r.rules.halves; clear = r.rules.clear }
+      record { finished = r.stock.finished; cursor_is = r.stock.cursor_is; free_is = r.stock.free_is; never = r.stock.never; left = r.stock.left }
+      record { undone = r.note.undone; seen = r.note.seen; quiet = λ _. t.3 (omega arith) } r.hand refl refl

@@ -85,7 +85,8 @@ module _ (s : Setup) (w : Words) (n : ℕ) (v : Views) (g : Ghost) (r : Rule s w
     sure = r.sure;
     goes = λ i. goes_who s w.round w.name w.hist w.born w.died g.life g.who who old (v.read i) (λ q e. r.pins.past i q e) (r.goes i);
     rules = record { owner = r.rules.owner; one = r.rules.one; workers = r.rules.workers; readers = r.rules.readers; few_readers = r.rules.few_readers; halves = λ _ _. h; clear = r.rules.clear };
-    stock = record { cursor_is = sure; free_is = r.stock.free_is; never = r.stock.never; left = r.stock.left };
+    stock = record { finished = r.stock.finished; cursor_is = sure; free_is = r.stock.free_is; never = r.stock.never; left = r.stock.left };
+    note = record { undone = r.note.undone; seen = r.note.seen; quiet = r.note.quiet };
     holders = r.holders;
     hand = free;
   }
@@ -201,7 +202,7 @@ module _ (s : Setup) (w : Words) (n : ℕ) (v : Views) (g : Ghost) (r : Rule s w
 
   -- the round is finished
   pub advances : v.ruling.phase ≡ 3 → v.claims 0 ≡ [] → ((x b : ℕ) → IsPlace s.elements g.life x → (w.head x).block ≡ b + 1 → (w.head x).died ≡ 0 → w.died b ≡ 0)
-      → Rule s (record w { round = d; taken = 0 }) n (record v { work = update v.work 0 idle; ruling = record v.ruling { phase = 0; left = (w.round, w.taken) ∷ v.ruling.left } }) (record g { who = update g.who (d + 1) (g.who d) })
+      → Rule s (record w { round = d; taken = 0 }) n (record v { work = update v.work 0 idle; ruling = record v.ruling { phase = 0; finished = v.ruling.finished + 1; left = (w.round, w.taken) ∷ v.ruling.left; seen = 0; quiet = 0 } }) (record g { who = update g.who (d + 1) (g.who d) })
   advances three none stamped = record {
     names_apart = r.names_apart;
     claims = record {
@@ -248,7 +249,8 @@ module _ (s : Setup) (w : Words) (n : ℕ) (v : Views) (g : Ghost) (r : Rule s w
     goes = λ i. let t = goes_who s w.round w.name w.hist w.born w.died g.life g.who who' (λ q l. old q (omega arith)) (v.read i) (λ q e. r.pins.past i q e) (r.goes i) in
         record { went = t.went; walk = t.walk; places = t.places; yes_notes = λ k q h. let a = t.yes_notes k q h in let a0 = a.0 in (omega arith, a.1); no_notes = λ k q h. let a = t.no_notes k q h in let a0 = a.0 in (omega arith, a.1) };
     rules = record { owner = r.rules.owner; one = r.rules.one; workers = r.rules.workers; readers = r.rules.readers; few_readers = r.rules.few_readers; halves = λ _ _. home; clear = λ q h. let t = r.rules.clear q h in let t0 = t.0 in (omega arith, t.1) };
-    stock = record { cursor_is = λ k e. ((λ f. absurd (omega arith)), (r.stock.cursor_is k e).1); free_is = r.stock.free_is; never = r.stock.never; left = λ q k h. ⊎_elim (λ e. let a : q ≡ w.round = ap (λ (t : ℕ × ℕ). t.0) e in let b : k ≡ w.taken = ap (λ (t : ℕ × ℕ). t.1) e in (omega arith, ap g.pins a ∙ r.pins.now ∙ sym b)) (λ t. let u = r.stock.left q k t in let u0 = u.0 in (omega arith, u.1)) h };
+    stock = record { finished = ap (λ (i : ℕ). i + 1) r.stock.finished; cursor_is = λ k e. ((λ f. absurd (omega arith)), (r.stock.cursor_is k e).1); free_is = r.stock.free_is; never = r.stock.never; left = λ q k h. ⊎_elim (λ e. let a : q ≡ w.round = ap (λ (t : ℕ × ℕ). t.0) e in let b : k ≡ w.taken = ap (λ (t : ℕ × ℕ). t.1) e in (omega arith, ap g.pins a ∙ r.pins.now ∙ sym b)) (λ t. let u = r.stock.left q k t in let u0 = u.0 in (omega arith, u.1)) h };
+    note = record { undone = r.note.undone; seen = λ x e. absurd (omega arith); quiet = λ e. absurd (omega arith) };
     holders = r.holders;
     hand = λ b f. ((λ e. absurd (omega arith)), (r.hand b f).1);
   }

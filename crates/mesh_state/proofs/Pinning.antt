@@ -11,11 +11,12 @@ use Rattle.mesh_words.specs.Places.{member_of, child_place}
 use Rattle.mesh_words.specs.Entries.{HasEntry}
 use Rattle.mesh_words.proofs.Functions.{update_same, update_at, update_other, update_cases}
 use Rattle.mesh_words.proofs.Sums.{one_if, none_if, sum_update, sum_le}
-use Rattle.mesh_state.specs.Ghosts.{chained, stands, Ghost}
+use Rattle.mesh_state.specs.Ghosts.{Life, Undone, chained, stands, Ghost}
 use Rattle.mesh_state.specs.Chains.{Reaches, IsHead}
 use Rattle.mesh_state.specs.Bisections.{IsPlaceOf, IsKept, MayRead}
 use Rattle.mesh_state.specs.Pins.{PinsRule}
 use Rattle.mesh_state.specs.Readers.{Walks, ReaderRule}
+use Rattle.mesh_state.specs.Owner.{NoneWent}
 use Rattle.mesh_state.specs.Rule.{Rule}
 use Rattle.mesh_state.proofs.FoundAgain.{one_more, chained_stands, placed_chained, standing, none_found, first_block, seen_live}
 use Rattle.mesh_state.proofs.ChainSteps.{named, older_head, dead_end}
@@ -23,10 +24,10 @@ use Rattle.mesh_state.proofs.Across.{Went, no_pin, zero_or_more, place_one, name
 
 module _ (s : Setup) (w : Words) (n : ℕ) (v : Views) (g : Ghost) (r : Rule s w n v g) where
   -- what a step of a reader's view is to show
-  pub rereads : (j taken : ℕ) (released pins : ℕ → ℕ) (u : Read) → PinsRule s w.round taken released n v.kind (update v.read j u) pins → ((q : ℕ) → HasEntry v.ruling.clear q → (q < w.round) × (released q ≡ pins q)) → ((q k : ℕ) → HasEntry v.ruling.left (q, k) → (q < w.round) × (pins q ≡ k))
+  pub rereads : (j taken : ℕ) (released pins : ℕ → ℕ) (u : Read) → PinsRule s w.round taken released n v.kind (update v.read j u) pins → ((q : ℕ) → HasEntry v.ruling.clear q → (q < w.round) × (released q ≡ pins q)) → ((q k : ℕ) → HasEntry v.ruling.left (q, k) → (q < w.round) × (pins q ≡ k)) → w.taken ≤ taken → ((b : ℕ) → u.pin ≡ w.round + 1 → HasEntry u.went b → ((x m : ℕ) → g.life b ≡ Undone x m → ⊥) ⊎ (((v.read j).pin ≡ w.round + 1) × HasEntry (v.read j).went b))
       → ((q : ℕ) → u.pin ≡ q + 1 → IsKept w.round v.read q) → ReaderRule s w.round w.name w.hist w.born w.died g.life g.who u
       → Rule s (record w { taken = taken; released = released }) n (record v { read = update v.read j u }) (record g { pins = pins })
-  rereads j taken released pins u p clear left kept goes = record {
+  rereads j taken released pins u p clear left more walks kept goes = record {
     names_apart = r.names_apart;
     claims = r.claims;
     labels = r.labels;
@@ -38,11 +39,16 @@ module _ (s : Setup) (w : Words) (n : ℕ) (v : Views) (g : Ghost) (r : Rule s w
     sure = r.sure;
     goes = update_cases (λ _ x. ReaderRule s w.round w.name w.hist w.born w.died g.life g.who x) v.read j u goes (λ i _. r.goes i);
     rules = record { owner = r.rules.owner; one = r.rules.one; workers = r.rules.workers; readers = r.rules.readers; few_readers = r.rules.few_readers; halves = r.rules.halves; clear = clear };
-    stock = record { cursor_is = r.stock.cursor_is; free_is = r.stock.free_is; never = r.stock.never; left = left };
+    stock = record { finished = r.stock.finished; cursor_is = r.stock.cursor_is; free_is = r.stock.free_is; never = r.stock.never; left = left };
+    note = record { undone = r.note.undone; seen = λ x e. let t = r.note.seen x e in let t2 = t.2 in (t.0, t.1, omega arith, λ f. none (t.3 f)); quiet = λ e. none (r.note.quiet e) };
     holders = r.holders;
     hand = r.hand;
   }
     where
+      none : NoneWent w.round v.read v.ruling.undone → NoneWent w.round (update v.read j u) v.ruling.undone
+      none ok = update_cases (λ i x. (b : ℕ) → x.pin ≡ w.round + 1 → HasEntry x.went b → HasEntry v.ruling.undone b → ⊥) v.read j u
+          (λ b p h m. ⊎_elim (λ t. let y = r.note.undone b m in t y.0 y.1 y.2) (λ t. ok j b t.0 t.1 m) (walks b p h)) (λ i _. ok i)
+
       back : (q : ℕ) → MayRead w.round v.ruling.phase (update v.read j u) q → MayRead w.round v.ruling.phase v.read q
       back q (inr k) = inr k
       back q (inl (inl e)) = inl (inl e)
@@ -81,7 +87,7 @@ module _ (s : Setup) (w : Words) (n : ℕ) (v : Views) (g : Ghost) (r : Rule s w
       (same_pin j u k refl (⊎_elim (λ t. let e = t.0 in omega arith) (λ e. omega arith) how) (⊎_elim
       (λ t. let l = t.1 in let e = t.0 in let f = few_ready (λ i. (update v.read j u i).ready) (update_cases (λ _ x. x.ready ≤ 1) v.read j u (omega arith) (λ i _. r.pins.bit i)) (update_cases (λ i x. (v.kind i ≡ 2 → ⊥) → x.ready ≡ 0) v.read j u (λ o. absurd (o k)) (λ i _ o. (r.pins.readers i o).1)) in omega arith)
       (λ e. let a = ready_sum j u (inside j k) in let b = r.pins.bound in omega arith) how))
-      r.rules.clear r.stock.left (λ q h. inr (j, h)) record { went = g0.went; walk = g0.walk; places = g0.places; yes_notes = g0.yes_notes; no_notes = g0.no_notes }
+      r.rules.clear r.stock.left (omega arith) (λ b p h. inr (p, h)) (λ q h. inr (j, h)) record { went = g0.went; walk = g0.walk; places = g0.places; yes_notes = g0.yes_notes; no_notes = g0.no_notes }
 
   -- a pin is taken: the bound holds
   pub pins : (j : ℕ) → v.kind j ≡ 2 → (v.read j).pin ≡ 0 → (v.read j).ready ≡ 1
@@ -102,7 +108,7 @@ module _ (s : Setup) (w : Words) (n : ℕ) (v : Views) (g : Ghost) (r : Rule s w
       }
       (λ q h. let t = r.rules.clear q h in let l = t.0 in (t.0, t.1 ∙ sym (update_other g.pins w.round q (g.pins w.round + 1) (λ (e : q ≡ w.round). omega arith))))
       (λ q i h. let t = r.stock.left q i h in let l = t.0 in (t.0, update_other g.pins w.round q (g.pins w.round + 1) (λ (e : q ≡ w.round). omega arith) ∙ t.1))
-      (λ q h. inl (omega arith)) record { went = λ q b h m. absurd m; walk = λ q h. tt; places = λ q x k h m. absurd m; yes_notes = (r.goes j).yes_notes; no_notes = (r.goes j).no_notes }
+      (omega arith) (λ b p h. absurd h) (λ q h. inl (omega arith)) record { went = λ q b h m. absurd m; walk = λ q h. tt; places = λ q x k h m. absurd m; yes_notes = (r.goes j).yes_notes; no_notes = (r.goes j).no_notes }
 
   -- a pin is given back
   pub unpins : (j q0 : ℕ) → v.kind j ≡ 2 → (v.read j).pin ≡ q0 + 1
@@ -122,7 +128,7 @@ module _ (s : Setup) (w : Words) (n : ℕ) (v : Views) (g : Ghost) (r : Rule s w
         bound = let a = ready_sum j u (inside j k) in let b = r.pins.bound in omega arith;
       }
       (λ q h. let t = r.rules.clear q h in (t.0, update_other w.released q0 q (w.released q0 + 1) (λ (e : q ≡ q0). no_pin s w n v g r q h j (had ∙ ap (λ (x : ℕ). x + 1) (sym e))) ∙ t.1))
-      r.stock.left (λ q h. absurd (omega arith)) record { went = λ q b h m. absurd m; walk = λ q h. absurd (omega arith); places = λ q x k h m. absurd m; yes_notes = (r.goes j).yes_notes; no_notes = (r.goes j).no_notes }
+      r.stock.left (omega arith) (λ b p h. absurd h) (λ q h. absurd (omega arith)) record { went = λ q b h m. absurd m; walk = λ q h. absurd (omega arith); places = λ q x k h m. absurd m; yes_notes = (r.goes j).yes_notes; no_notes = (r.goes j).no_notes }
 
   -- a walk goes on: the reader's pin stays
   module _ (j q0 : ℕ) (kind : v.kind j ≡ 2) (pinned : (v.read j).pin ≡ q0 + 1) where
@@ -140,10 +146,10 @@ module _ (s : Setup) (w : Words) (n : ℕ) (v : Views) (g : Ghost) (r : Rule s w
 
     walks_on : (went : List ℕ) (walk : Walk) (notes : List Note) (places : List (ℕ × ℕ)) → ((b : ℕ) → HasEntry went b → ((t : Bool) × (x : ℕ) × (stands (g.life b) t ≡ x + 1)) × ((w.died b ≡ 0) ⊎ (q0 < w.died b)))
         → Walks s w.name w.hist w.born w.died g.life (g.who q0) q0 went walk
-        → ((i q : ℕ) → HasEntry notes record { round = q; name = i; bisected = true } → (q ≤ w.round) × ((b : ℕ) × (g.who q i ≡ b + 1))) → ((i q : ℕ) → HasEntry notes record { round = q; name = i; bisected = false } → (q ≤ w.round) × (g.who q i ≡ 0)) → ((x i : ℕ) → HasEntry places (x, i) → IsPlaceOf s w.name (g.who q0) x i)
+        → ((i q : ℕ) → HasEntry notes record { round = q; name = i; bisected = true } → (q ≤ w.round) × ((b : ℕ) × (g.who q i ≡ b + 1))) → ((i q : ℕ) → HasEntry notes record { round = q; name = i; bisected = false } → (q ≤ w.round) × (g.who q i ≡ 0)) → ((x i : ℕ) → HasEntry places (x, i) → IsPlaceOf s w.name (g.who q0) x i) → ((b : ℕ) → (v.read j).pin ≡ w.round + 1 → HasEntry went b → ((x m : ℕ) → g.life b ≡ Undone x m → ⊥) ⊎ (((v.read j).pin ≡ w.round + 1) × HasEntry (v.read j).went b))
         → Rule s w n (record v { read = update v.read j (walked went walk notes places) }) g
-    walks_on went walk notes places ok here yes_ no_ at = rereads j w.taken w.released g.pins (walked went walk notes places) (same_pin j (walked went walk notes places) kind refl (r.pins.bit j) (let a = ready_sum j (walked went walk notes places) (inside j kind) in let b = r.pins.bound in omega arith))
-        r.rules.clear r.stock.left (λ q h. inr (j, h))
+    walks_on went walk notes places ok here yes_ no_ at fresh = rereads j w.taken w.released g.pins (walked went walk notes places) (same_pin j (walked went walk notes places) kind refl (r.pins.bit j) (let a = ready_sum j (walked went walk notes places) (inside j kind) in let b = r.pins.bound in omega arith))
+        r.rules.clear r.stock.left (omega arith) fresh (λ q h. inr (j, h))
         record { went = λ q b p h. subst (λ (x : ℕ). ((t : Bool) × (y : ℕ) × (stands (g.life b) t ≡ y + 1)) × ((w.died b ≡ 0) ⊎ (x < w.died b))) (same_q q p) (ok b h); walk = λ q p. subst (λ (x : ℕ). Walks s w.name w.hist w.born w.died g.life (g.who x) x went walk) (same_q q p) here; places = λ q x i p h. subst (λ (y : ℕ). IsPlaceOf s w.name (g.who y) x i) (same_q q p) (at x i h); yes_notes = yes_; no_notes = no_ }
 
     places_ok : (x i : ℕ) → HasEntry (v.read j).places (x, i) → IsPlaceOf s w.name (g.who q0) x i
@@ -192,7 +198,7 @@ module _ (s : Setup) (w : Words) (n : ℕ) (v : Views) (g : Ghost) (r : Rule s w
     -- the word stops the walk: the name is not bisected
     pub ends : (x k : ℕ) (l : Node) → Leads x k l → (l.block ≡ 0) ⊎ ((0 < l.died) × (l.died ≤ q0)) → Rule s w n (record v { read = update v.read j (walked (v.read j).went Still (record { round = q0; name = k; bisected = false } ∷ (v.read j).notes) (v.read j).places) }) g
     ends x k l f stop = let z : g.who q0 k ≡ 0 = ⊎_elim (λ e. e) (λ t. absurd (none t.0 (f.2 t.0 t.1) stop f.0)) (zero_or_more (g.who q0 k)) in
-        walks_on (v.read j).went Still (record { round = q0; name = k; bisected = false } ∷ (v.read j).notes) (v.read j).places went_ok tt (note_no_yes k) (note_no k z) places_ok
+        walks_on (v.read j).went Still (record { round = q0; name = k; bisected = false } ∷ (v.read j).notes) (v.read j).places went_ok tt (note_no_yes k) (note_no k z) places_ok (λ b p h. inr (p, h))
       where
         none : (c : ℕ) → Reaches w.hist w.born w.died g.life q0 x c l → (l.block ≡ 0) ⊎ ((0 < l.died) × (l.died ≤ q0)) → IsHead w.round w.died g.life x l → ⊥
         none c h (inl e) o = none_found w.hist w.born w.died g.life q0 x c l e h
@@ -206,7 +212,8 @@ module _ (s : Setup) (w : Words) (n : ℕ) (v : Views) (g : Ghost) (r : Rule s w
       walks_on (b ∷ (v.read j).went) (At x k b o.0) (v.read j).notes (v.read j).places
           (λ c h. ⊎_elim (λ e. subst (λ (y : ℕ). ((t : Bool) × (x : ℕ) × (stands (g.life y) t ≡ x + 1)) × ((w.died y ≡ 0) ⊎ (q0 < w.died y))) (sym e) ((o.0, x, st), al)) (went_ok c) h)
           (inl refl, st, f.1, λ c e. let h = first_block w.hist w.born w.died g.life q0 x c b l is (f.2 c e) in ⊎_elim inl (λ y. inr (subst (λ (i : Bool). Reaches w.hist w.born w.died g.life q0 x c (w.hist (member_of b i))) (r.chains.sides b h.0 o.0 x h.1 st) y)) h.2)
-          (λ i q h. (r.goes j).yes_notes i q h) (λ i q h. (r.goes j).no_notes i q h) places_ok,
+          (λ i q h. (r.goes j).yes_notes i q h) (λ i q h. (r.goes j).no_notes i q h) places_ok
+          (λ c p h. ⊎_elim (λ e. inl (λ y m f. let z : 0 ≡ x + 1 = sym (ap (λ (l : Life). chained l o.0) (ap g.life (sym e) ∙ f)) ∙ o.1 in omega arith)) (λ t. inr (p, t)) h),
     )
       where
         alive : (l.died ≡ 0) ⊎ (q0 < l.died) → IsHead w.round w.died g.life x l → (w.died b ≡ 0) ⊎ (q0 < w.died b)
@@ -220,7 +227,7 @@ module _ (s : Setup) (w : Words) (n : ℕ) (v : Views) (g : Ghost) (r : Rule s w
         let c : chained (g.life b) t ≡ x + 1 = ⊎_elim (λ y. placed_chained (g.life b) t x y.0 y.1 y.2 h.1) (λ y. let z = r.chains.undone b y.0 y.1 y.2 in absurd (omega arith)) (standing (g.life b) t x h.1) in
         let u = r.names.sound q0 can b t x c (p, l, (went_ok b h.0).1) in let e = name_one s w n v g r q0 x (w.name (member_of b t)) k u.1 h.2 in
         walks_on (v.read j).went Still (record { round = q0; name = k; bisected = true } ∷ (v.read j).notes) ((child_place s.elements b t false, s.child k false) ∷ (child_place s.elements b t true, s.child k true) ∷ (v.read j).places) went_ok tt (note_yes k b (ap (g.who q0) (sym e) ∙ u.0)) (note_yes_no k)
-        (λ y i m. ⊎_elim (λ f. kid_at u.0 e false y i f) (λ m2. ⊎_elim (λ f. kid_at u.0 e true y i f) (λ m3. places_ok y i m3) m2) m)
+        (λ y i m. ⊎_elim (λ f. kid_at u.0 e false y i f) (λ m2. ⊎_elim (λ f. kid_at u.0 e true y i f) (λ m3. places_ok y i m3) m2) m) (λ c p h. inr (p, h))
       where
         -- a child's place and name
         kid_at : g.who q0 (w.name (member_of b t)) ≡ b + 1 → w.name (member_of b t) ≡ k → (c : Bool) (y i : ℕ) → ◌≡◌ {A = ℕ × ℕ} (y, i) (child_place s.elements b t c, s.child k c) → IsPlaceOf s w.name (g.who q0) y i
@@ -230,4 +237,4 @@ module _ (s : Setup) (w : Words) (n : ℕ) (v : Views) (g : Ghost) (r : Rule s w
     pub passes : (x k b : ℕ) (t : Bool) → (v.read j).walk ≡ At x k b t → (w.born b ≡ 0) ⊎ (q0 < w.born b) → Rule s w n (record v { read = update v.read j (walked (v.read j).went (Past x k b t) (v.read j).notes (v.read j).places) }) g
     passes x k b t at not = let h = subst (Walks s w.name w.hist w.born w.died g.life (g.who q0) q0 (v.read j).went) at ((r.goes j).walk q0 pinned) in
         walks_on (v.read j).went (Past x k b t) (v.read j).notes (v.read j).places went_ok (h.0, h.1, h.2, λ c e. ⊎_elim (λ y. let z : w.born b ≡ w.born c = ap w.born y.0 in let y0 = y.1.0 in let y1 = y.1.1 in absurd (omega arith)) (λ y. y) (h.3 c e))
-        (λ i q u. (r.goes j).yes_notes i q u) (λ i q u. (r.goes j).no_notes i q u) places_ok
+        (λ i q u. (r.goes j).yes_notes i q u) (λ i q u. (r.goes j).no_notes i q u) places_ok (λ b p h. inr (p, h))

@@ -167,6 +167,7 @@ module _ (s : Setup) (w : Words) (n : ℕ) (v : Views) (g : Ghost) (r : Rule s w
           goes_who s w.round w.name w.hist born' w.died g.life g.who who' (λ q l. update_other g.who d q now (λ (e : q ≡ w.round + 1). omega arith)) (v.read i) (λ q p. r.pins.past i q p) t;
       rules = r.rules;
       stock = r.stock;
+      note = r.note;
       holders = λ z i k q h. dite (ℕ_discrete z x) (λ f. ⊎_elim (λ e. inl (sym (held_one j i m k (Living b) q (sym (update_at g.stage x z (Held j m (Living b)) f) ∙ h)).0 ∙ e)) (λ e. inr (ap v.kind (sym (held_one j i m k (Living b) q (sym (update_at g.stage x z (Held j m (Living b)) f) ∙ h)).0) ∙ e)) (r.holders x j m (Whole b) is)) (λ o. r.holders z i k q (sym (update_other g.stage x z (Held j m (Living b)) o) ∙ h));
       hand = λ c h. absurd ((r.hand c h).0 one);
     }

@@ -108,6 +108,7 @@ module _ (s : Setup) (w : Words) (n : ℕ) (v : Views) (g : Ghost) (r : Rule s w
             (goes_on s w.name w.name w.head w.hist w.head w.hist w.born w.died w.born (update w.died b d) g.life g.life (λ _ _ _ _ _. refl) w.round v.ruling.phase g.who v.read (IsKept w.round v.read) A step_chains.1 (λ a q p. (inr (a, p), r.pins.past a q p)) (λ a q c p h x. (inl (a, p, h), x)) (λ q x. r.names.fits q (inl x)) i (r.goes i));
         rules = r.rules;
         stock = r.stock;
+        note = r.note;
         holders = r.holders;
         hand = r.hand;
       },

@@ -94,6 +94,7 @@ module _ (s : Setup) (w : Words) (n : ℕ) (v : Views) (g : Ghost) (r : Rule s w
       goes = λ i. goes_on s w.name w.name w.head w.hist head' w.hist w.born w.died w.born w.died g.life g.life (λ _ _ _ _ _. refl) w.round v.ruling.phase g.who v.read Can A moves (λ a p e. (inl (inr (a, e)), r.pins.past a p e)) (λ a p c e h x. (inl (a, e, h), x)) (λ p t. r.names.fits p t) i (r.goes i);
       rules = r.rules;
       stock = r.stock;
+      note = r.note;
       holders = λ z i c p h. dite (ℕ_discrete z x) (λ f. let t = (held_one j i (y + 1) c (Whole b) p (sym (update_at g.stage x z (Held j (y + 1) (Whole b)) f) ∙ h)).0 in inr (ap v.kind (sym t) ∙ kind)) (λ o. r.holders z i c p (sym (update_other g.stage x z (Held j (y + 1) (Whole b)) o) ∙ h));
       hand = r.hand;
     }

@@ -16,6 +16,7 @@ use Rattle.mesh_state.specs.Bisections.{MayRead}
 use Rattle.mesh_state.specs.Work.{WorkRule, WalkRule}
 use Rattle.mesh_state.specs.Sure.{SureRule}
 use Rattle.mesh_state.specs.Readers.{ReaderRule}
+use Rattle.mesh_state.specs.Owner.{NoneWent}
 use Rattle.mesh_state.specs.Rule.{Rule}
 use Rattle.mesh_state.proofs.FoundAgain.{walks_idle}
 use Rattle.mesh_words.proofs.Sums.{one_if, none_if}
@@ -115,7 +116,8 @@ module _ (s : Setup) (w : Words) (n : ℕ) (v : Views) (g : Ghost) (r : Rule s w
         halves = λ a b. ⊎_elim (λ t. absurd (⊎_elim a b t.1)) (λ t. t.2 ∙ r.rules.halves a b) which;
         clear = r.rules.clear;
       };
-      stock = record { cursor_is = r.stock.cursor_is; free_is = r.stock.free_is; never = r.stock.never; left = r.stock.left };
+      stock = record { finished = r.stock.finished; cursor_is = r.stock.cursor_is; free_is = r.stock.free_is; never = r.stock.never; left = r.stock.left };
+      note = record { undone = r.note.undone; seen = λ x e. let t = r.note.seen x e in (t.0, t.1, t.2, λ f. none (t.3 f)); quiet = λ e. none (r.note.quiet e) };
       holders = λ x j m p h. ⊎_elim inl (λ k. inr (update_other v.kind n j kind (λ (e : j ≡ n). new_claims x m p (h ∙ ap (λ (i : ℕ). Held i m p) e)) ∙ k)) (r.holders x j m p h);
       hand = r.hand;
     }
@@ -125,6 +127,9 @@ module _ (s : Setup) (w : Words) (n : ℕ) (v : Views) (g : Ghost) (r : Rule s w
 
         sum : (f : Read → ℕ) → f (blank notes) ≡ 0 → sum_below (n + 1) (λ j. f (update v.read n (blank notes) j)) ≡ sum_below n (λ j. f (v.read j))
         sum f z = one_more_seat (λ j. f (v.read j)) (λ j. f (update v.read n (blank notes) j)) (λ i l. ap f (update_other v.read n i (blank notes) (λ (e : i ≡ n). omega arith))) ∙ (let a : f (update v.read n (blank notes) n) ≡ f (blank notes) = ap f (update_same v.read n (blank notes)) in omega arith)
+
+        none : NoneWent w.round v.read v.ruling.undone → NoneWent w.round (update v.read n (blank notes)) v.ruling.undone
+        none ok = update_cases (λ _ x. (b : ℕ) → x.pin ≡ w.round + 1 → HasEntry x.went b → HasEntry v.ruling.undone b → ⊥) v.read n (blank notes) (λ b p h m. absurd h) (λ i _. ok i)
 
         back : (q : ℕ) → MayRead w.round v.ruling.phase (update v.read n (blank notes)) q → MayRead w.round v.ruling.phase v.read q
         back q (inr k) = inr k

@@ -21,7 +21,7 @@ use Rattle.mesh_state.proofs.ChainSteps.{moves_same, stamps, skips, named, older
 use Rattle.mesh_state.proofs.BlockSteps.{undead, unbears, resets, frees, undoes}
 use Rattle.mesh_state.proofs.HeldClaims.{not_open, held_one, loose_not, free_not, placed_one, uses, used_life, shape_on, one_user, heads_apart}
 use Rattle.mesh_state.proofs.Across.{Of, Went, chained_of, low}
-use Rattle.mesh_state.proofs.Sweeping.{Quiet, OwnSure, own_sure, owners, sweeps}
+use Rattle.mesh_state.proofs.Sweeping.{Quiet, OwnSure, own_sure, owners, sweeps, sweeps_to}
 use Rattle.mesh_state.proofs.HeldClaims as held
 
 module _ (s : Setup) (w : Words) (n : ℕ) (v : Views) (g : Ghost) (r : Rule s w n v g) where
@@ -89,7 +89,7 @@ module _ (s : Setup) (w : Words) (n : ℕ) (v : Views) (g : Ghost) (r : Rule s w
           none = r.claims.none;
         }
         (subst (λ (i : ℕ). ChainsRule s.elements w.round (update w.head x (node (b + 1) i)) w.hist w.born w.died g.life × Moves Can_ A_ s.elements w.round w.head w.hist (update w.head x (node (b + 1) i)) w.hist w.born w.died w.born w.died g.life g.life) dd m)
-        (λ _ _ _ u. (u, λ _. refl)) back_own (add_head x (node (b + 1) d)) r.hand (λ _ e. e)
+        (λ _ _ _ u. (u, λ _. refl)) back_own (add_head x (node (b + 1) d)) r.hand (λ _ e. e) (λ _ _ _ e. e)
       where
         shape_at : (head' : ℕ → Node) → ((y : ℕ) → y ≢ x → head' y ≡ w.head y) → ((y : ℕ) → (head' y).block ≡ (w.head y).block) → ((a m k : ℕ) → g.life a ≡ Placed m k → w.born a ≡ d → w.head x ≡ node (a + 1) 0 → ⊥) → ((a m k : ℕ) → g.life a ≡ Placed m k → w.born a ≡ 0 → w.head x ≡ node (a + 1) 0 → ⊥)
             → (z k : ℕ) (p : Progress) → Shape w.round w.head w.born g.life z k p → Shape w.round head' w.born g.life z k p
@@ -112,7 +112,7 @@ module _ (s : Setup) (w : Words) (n : ℕ) (v : Views) (g : Ghost) (r : Rule s w
           (λ b y k u e l. (u, e, λ q. dead b q l))
           (λ b y k u e. (u, e, λ q. let f = lives b q in let t = subst (Shape w.round w.head w.born g.life x m) f (r.claims.shape x 0 m p is) in let t1 = t.1 in omega arith)) (λ b u e. (u, e)))
           (r.chains, moves_same Can_ A_ s.elements w.round w.head w.hist w.born w.died g.life w.head w.hist w.born w.died (λ _ _. refl) (λ _ _ _ _. refl) (λ _ _ _ _ _ _ h. h) (λ _ _ _ _ _ _ h. h) (λ _ _ _ _ _ _ h. h))
-          (λ _ _ _ u. (u, λ _. refl)) (λ z j k q h. back_own z j k q (dite (ℕ_discrete z x) (λ e. absurd (not_open j k q (sym h ∙ update_at g.stage x z Open e))) (λ o. sym (update_other g.stage x z Open o) ∙ h))) own r.hand (λ _ e. e)
+          (λ _ _ _ u. (u, λ _. refl)) (λ z j k q h. back_own z j k q (dite (ℕ_discrete z x) (λ e. absurd (not_open j k q (sym h ∙ update_at g.stage x z Open e))) (λ o. sym (update_other g.stage x z Open o) ∙ h))) own r.hand (λ _ e. e) (λ _ _ _ e. e)
 
       stage_own : (q : Progress) (z j k : ℕ) (t : Progress) → update g.stage x (Held 0 m q) z ≡ Held j k t → j ≡ 0
       stage_own q z j k t h = dite (ℕ_discrete z x) (λ e. sym (held_one 0 j m k q t (sym (update_at g.stage x z (Held 0 m q) e) ∙ h)).0) (λ o. back_own z j k t (sym (update_other g.stage x z (Held 0 m q) o) ∙ h))
@@ -133,7 +133,7 @@ module _ (s : Setup) (w : Words) (n : ℕ) (v : Views) (g : Ghost) (r : Rule s w
         (λ c u e. (u, off c (λ (f : c ≡ b). free_not x m (sym u ∙ ap g.life f ∙ sh.0)) ∙ e)))
         (unbears Can_ A_ s.elements w.round w.head w.hist w.born w.died g.life r.chains b x m sh.0 sh.1 (low_can (λ l. absurd (omega arith)) x m (Living b) mine four))
         (λ _ _ _ u. (u, λ _. refl)) (stage_own (λ l. absurd (omega arith)) x m (Living b) mine (Whole b))
-        record { heads = own.heads; hists = own.hists; dieds = own.dieds; names = own.names; borns = noted_after (v.sure 0).born w.born b 0 own.borns; rows = own.rows } r.hand (λ _ e. e)
+        record { heads = own.heads; hists = own.hists; dieds = own.dieds; names = own.names; borns = noted_after (v.sure 0).born w.born b 0 own.borns; rows = own.rows } r.hand (λ _ e. e) (λ _ _ _ e. e)
 
     not_covers : (b : ℕ) → w.born b ≡ 0 → (q : ℕ) → Can_ q → Covers w.born w.died q b → ⊥
     not_covers b z q k c = let p = c.0 in omega arith
@@ -157,11 +157,11 @@ module _ (s : Setup) (w : Words) (n : ℕ) (v : Views) (g : Ghost) (r : Rule s w
         (λ c z k u e. dite (ℕ_discrete c b) (λ f. let t = placed_one z k x (y + 1) (sym u ∙ ap g.life f ∙ sh.0) in inl (t.0, t.1, inl (ap Half (sym f)))) (λ o. inr (u, e, λ (h : b + 1 ≡ c + 1). o (omega arith))))
         (λ c u e. (u, e)))
         (subst (λ (i : Node). ChainsRule s.elements w.round (update w.head y i) w.hist w.born w.died g.life × Moves Can_ A_ s.elements w.round w.head w.hist (update w.head y i) w.hist w.born w.died w.born w.died g.life g.life) hh m)
-        (λ _ _ _ u. (u, λ _. refl)) (stage_own (λ t. absurd (omega arith)) x (y + 1) (Whole b) mine (Half b)) (add_head y l) r.hand (λ _ e. e)
+        (λ _ _ _ u. (u, λ _. refl)) (stage_own (λ t. absurd (omega arith)) x (y + 1) (Whole b) mine (Half b)) (add_head y l) r.hand (λ _ e. e) (λ _ _ _ e. e)
 
     -- the first member's head gets back what it had, and the claim ends
     pub unlinks_first : v.ruling.phase ≡ 4 → (x m b : ℕ) (l : Node) (p : Progress) → HasEntry (v.claims 0) (claim x m p) → (p ≡ Half b) ⊎ ((p ≡ Whole b) × (m ≡ 0)) → Noted (v.sure 0).hist (member_of b false) l
-        → Rule s (record w { head = update w.head x l; claimed = update w.claimed x 0 }) n (record v { claims = update v.claims 0 (ended (v.claims 0) x); sure = update v.sure 0 (record (v.sure 0) { head = (x, l) ∷ (v.sure 0).head }) }) (record g { stage = update g.stage x Open; life = update g.life b (Undone x m) })
+        → Rule s (record w { head = update w.head x l; claimed = update w.claimed x 0 }) n (record v { claims = update v.claims 0 (ended (v.claims 0) x); sure = update v.sure 0 (record (v.sure 0) { head = (x, l) ∷ (v.sure 0).head }); ruling = record v.ruling { undone = b ∷ v.ruling.undone; seen = 0; quiet = 0 } }) (record g { stage = update g.stage x Open; life = update g.life b (Undone x m) })
     unlinks_first four x m b l p mine how f = let is = r.claims.held 0 x m p mine in let up : uses p ≡ b + 1 = ⊎_elim (λ e. ap uses e) (λ e. ap uses e.0) how in
         let sh : (g.life b ≡ Placed x m) × (w.born b ≡ 0) × (w.head x ≡ node (b + 1) 0) × ((y : ℕ) → m ≡ y + 1 → (w.head y).block ≡ b + 1 → ⊥) =
         ⊎_elim (λ e. subst (Shape w.round w.head w.born g.life x m) e (r.claims.shape x 0 m p is)) (λ e. let t = subst (Shape w.round w.head w.born g.life x m) e.0 (r.claims.shape x 0 m p is) in let z = e.1 in (t.0, t.1, t.2, λ y h. absurd (omega arith))) how in
@@ -169,7 +169,7 @@ module _ (s : Setup) (w : Words) (n : ℕ) (v : Views) (g : Ghost) (r : Rule s w
         let left : (c y k : ℕ) → life' c ≡ Placed y k → (c ≢ b) × (g.life c ≡ Placed y k) = λ c y k u. dite (ℕ_discrete c b) (λ e. absurd (undone_not x m y k (sym (update_at g.life b c (Undone x m) e) ∙ u))) (λ o. (o, sym (off c o) ∙ u)) in
         let mv = undoes Can_ A_ s.elements w.round w.head w.hist w.born w.died g.life r.chains b x m sh.0 sh.1 (ap (λ (i : Node). i.block) sh.2)
         (λ z ne live e. let t = named Can_ A_ s.elements w.round w.head w.hist w.born w.died g.life r.chains z b (w.head z) (r.chains.heads z live) e in ⊎_elim (λ q. ne q) (λ q. sh.3 z q e) (chained_of (g.life b) t.0 x m z sh.0 t.1)) in
-        sweeps s w n v g r quiet (update w.claimed x 0) (update w.head x l) w.hist w.born w.died life' _ (ended (v.claims 0) x) _ v.ruling.hand
+        sweeps_to s w n v g r quiet w.cursor w.free w.row (update w.claimed x 0) (update w.head x l) w.hist w.born w.died life' _ (ended (v.claims 0) x) _ v.ruling.hand v.ruling.cursor v.ruling.free (b ∷ v.ruling.undone) 0 0
         (held.ends s w.round w.cursor w.free v.ruling.phase w.row w.claimed w.head w.born g.life g.stage v.claims r.claims x 0 m p p is (λ t. absurd (omega arith)) (update w.head x l) w.born life'
         (λ z i k q h ne t. let a = apart_heads x z 0 i m k p q is h ne x (inl refl) in shape_on w.round w.head w.born g.life z k (update w.head x l) w.born life' q (λ c u. (off c (λ (e : c ≡ b). ne (one z x 0 m b i k q p h is (u ∙ ap (λ (y : ℕ). y + 1) e) up)), refl)) (update_other w.head x z l ne) (λ c e. update_other w.head x c l (a.1 c e)) t)
         (λ c y k u e i. let t = left c y k u in (t.1, e, λ h. t.0 (one_more c b (sym (ap uses h) ∙ up))))
@@ -178,7 +178,8 @@ module _ (s : Setup) (w : Words) (n : ℕ) (v : Views) (g : Ghost) (r : Rule s w
         (subst (λ (i : Node). ChainsRule s.elements w.round (update w.head x i) w.hist w.born w.died life' × Moves Can_ A_ s.elements w.round w.head w.hist (update w.head x i) w.hist w.born w.died w.born w.died g.life life') hh mv)
         (λ c y k u. ((left c y k u).1, λ _. refl)) (λ z j k q h. back_own z j k q (dite (ℕ_discrete z x) (λ e. absurd (not_open j k q (sym h ∙ update_at g.stage x z Open e))) (λ o. sym (update_other g.stage x z Open o) ∙ h))) (add_head x l)
         (λ c h. let t = r.hand c h in (t.0, off c (λ (e : c ≡ b). free_not x m (sym t.1 ∙ ap g.life e ∙ sh.0)) ∙ t.1))
-        (λ c e. off c (λ (f : c ≡ b). free_not x m (sym e ∙ ap g.life f ∙ sh.0)) ∙ e)
+        (let k = r.stock in record { finished = k.finished; cursor_is = k.cursor_is; free_is = k.free_is; left = k.left; never = λ c i. ⊎_elim (λ e. inl (off c (λ (f : c ≡ b). free_not x m (sym e ∙ ap g.life f ∙ sh.0)) ∙ e)) inr (k.never c i) })
+        record { undone = λ c h. ⊎_elim (λ e. (x, m, update_at g.life b c (Undone x m) e)) (λ t. let q = r.note.undone c t in (q.0, q.1, off c (λ (f : c ≡ b). undone_not q.0 q.1 x m (sym q.2 ∙ ap g.life f ∙ sh.0)) ∙ q.2)) h; seen = λ i e. absurd (omega arith); quiet = λ e. absurd (omega arith) }
 
     -- DIED of a block that was taken back becomes the round
     pub buries : (b x m : ℕ) → g.life b ≡ Undone x m → Rule s (record w { died = update w.died b d }) n (record v { claims = update v.claims 0 (v.claims 0); sure = update v.sure 0 (record (v.sure 0) { died = (b, d) ∷ (v.sure 0).died }) }) g
@@ -202,7 +203,7 @@ module _ (s : Setup) (w : Words) (n : ℕ) (v : Views) (g : Ghost) (r : Rule s w
         (resets Can_ A_ s.elements w.round w.head w.hist w.born w.died g.life r.chains b (λ t. ap (λ (l : Life). chained l t) u) w.hist w.born (update w.died b d) (λ c o. ((λ _. refl), refl, off c o)) (r.chains.borns b)
         (λ y k h. (r.chains.undone b y k h, (λ _. refl), inr here)))
         (λ c y k h. (h, λ _. off c (λ (e : c ≡ b). undone_not x m y k (sym u ∙ ap g.life (sym e) ∙ h)))) back_own
-        record { heads = own.heads; hists = own.hists; dieds = noted_after (v.sure 0).died w.died b d own.dieds; names = own.names; borns = own.borns; rows = own.rows } r.hand (λ _ e. e)
+        record { heads = own.heads; hists = own.hists; dieds = noted_after (v.sure 0).died w.died b d own.dieds; names = own.names; borns = own.borns; rows = own.rows } r.hand (λ _ e. e) (λ _ _ _ e. e)
 
     -- a claim of a refused round whose block was drawn and not linked ends: the block is free, and the owner knows it
     pub undraws : v.ruling.phase ≡ 4 → (x m b : ℕ) → HasEntry (v.claims 0) (claim x m (Drawn b))
@@ -221,7 +222,11 @@ module _ (s : Setup) (w : Words) (n : ℕ) (v : Views) (g : Ghost) (r : Rule s w
         (λ c y k u. ((back c y k u).1, λ _. refl)) (λ z j k q h. back_own z j k q (dite (ℕ_discrete z x) (λ e. absurd (not_open j k q (sym h ∙ update_at g.stage x z Open e))) (λ o. sym (update_other g.stage x z Open o) ∙ h))) own
         (λ c h. ⊎_elim (λ e. ((λ f. omega arith), update_at g.life b c Free e)) (λ u. let t = r.hand c u in (t.0, dite (ℕ_discrete c b) (λ f. update_at g.life b c Free f) (λ o. off c o ∙ t.1))) h)
         (λ c e. dite (ℕ_discrete c b) (λ f. update_at g.life b c Free f) (λ o. off c o ∙ e))
+        (λ c y k e. off c (λ (f : c ≡ b). loose_undone (x + 1) y k (sym sh.0 ∙ ap g.life (sym f) ∙ e)) ∙ e)
       where
+        loose_undone : (i y k : ℕ) → Loose i ≡ Undone y k → ⊥
+        loose_undone i y k e = cc
+
         drawn_living : (c : ℕ) → Drawn b ≡ Living c → ⊥
         drawn_living c e = cc
 

@@ -36,6 +36,7 @@ module _ (s : Setup) (w : Words) (n : ℕ) (v : Views) (g : Ghost) (r : Rule s w
     goes = r.goes;
     rules = r.rules;
     stock = r.stock;
+    note = r.note;
     holders = r.holders;
     hand = r.hand;
   }

@@ -14,7 +14,7 @@ use Rattle.mesh_state.specs.Pins.{PinsRule}
 use Rattle.mesh_state.specs.Work.{WorkRule, WalkRule}
 use Rattle.mesh_state.specs.Sure.{SureRule}
 use Rattle.mesh_state.specs.Readers.{ReaderRule}
-use Rattle.mesh_state.specs.Owner.{OwnerRule, StockRule}
+use Rattle.mesh_state.specs.Owner.{OwnerRule, StockRule, NoteRule}
 
 -- in the first half the members of a claim's patch stand at its places, and are not bisected at the last finished round
 abbrev pub Labels : Setup → ℕ → ℕ → (ℕ → ℕ) → (ℕ → Stage) → (ℕ → ℕ → ℕ) → Type 0
@@ -35,6 +35,7 @@ pub record Rule (s : Setup) (w : Words) (n : ℕ) (v : Views) (g : Ghost) : Type
   pub goes : (j : ℕ) → ReaderRule s w.round w.name w.hist w.born w.died g.life g.who (v.read j)
   pub rules : OwnerRule s.passes w.round w.released g.pins n v.kind v.ruling
   pub stock : StockRule w.round w.cursor w.free w.row g.life g.pins v.ruling
+  pub note : NoteRule w.round w.taken g.life v.read v.ruling
   -- a claim is the owner's or a worker's
   pub holders : (x j m : ℕ) (p : Progress) → g.stage x ≡ Held j m p → (j ≡ 0) ⊎ (v.kind j ≡ 1)
   -- blocks that the owner knows as free are so, but in the first half

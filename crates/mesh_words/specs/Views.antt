@@ -65,6 +65,8 @@ pub record Read : Type 0 where
 pub record Ruling : Type 0 where
   -- 0 before the round's first pass, 1 in the first half, 2 in the second half, 3 while the round is closed, 4 while it is taken back
   pub phase : ℕ
+  -- the last finished round
+  pub finished : ℕ
   -- how many workers' and readers' passes are out
   pub workers : ℕ
   pub readers : ℕ
@@ -78,6 +80,11 @@ pub record Ruling : Type 0 where
   pub free : ℕ
   -- blocks from this number on were not drawn in earlier rounds
   pub ever : ℕ
+  -- blocks that were taken back and are not free yet
+  pub undone : List ℕ
+  -- one more than what was found in RELEASED of the last finished round, or 0; and 1 where no pass with a pin of that round has gone to one of those blocks
+  pub seen : ℕ
+  pub quiet : ℕ
 
 -- The views. The kinds of seat: 0 of one that was joined, 1 a worker's, 2 a reader's, 3 the owner's, whose seat is 0
 pub record Views : Type 0 where
