@@ -118,6 +118,7 @@ module _ (s : Setup) (w : Words) (n : ℕ) (v : Views) (g : Ghost) (r : Rule s w
       rules = r.rules;
       stock = r.stock;
       note = r.note;
+      retired = r.retired;
       holders = λ z i a p h. ⊎_elim (λ t. inr (ap v.kind t.1 ∙ kind)) (λ t. r.holders z i a p t.1) (back z i a p h);
       hand = r.hand;
     }

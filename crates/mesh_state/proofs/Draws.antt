@@ -124,7 +124,8 @@ module _ (s : Setup) (w : Words) (n : ℕ) (v : Views) (g : Ghost) (r : Rule s w
         goes = λ i. goes_on s w.name w.name w.head w.hist w.head w.hist w.born w.died w.born w.died g.life life (λ _ _ _ _ _. refl) w.round v.ruling.phase g.who v.read Can A moves (λ a p e. (inl (inr (a, e)), r.pins.past a p e)) (λ a p c e h x. (inl (a, e, h), x)) (λ p t. r.names.fits p t) i (r.goes i);
         rules = r.rules;
         stock = let k = r.stock in record { finished = k.finished; cursor_is = λ i e. absurd ((k.cursor_is i e).0 one); free_is = k.free_is; left = k.left; never = λ c l. ⊎_elim (λ e. ⊎_elim inl (λ t. inr (w.cursor, omega arith, t.0, t.1)) (left_life c e)) (λ t. let u = t.1 in inr (t.0, omega arith, t.2, t.3)) (k.never c l) };
-        note = record { undone = λ c h. let t = r.note.undone c h in (t.0, t.1, same_life c (λ e. free_undone t.0 t.1 (sym e ∙ t.2)) ∙ t.2); seen = r.note.seen; quiet = r.note.quiet };
+        note = record { undone = λ c h. let t = r.note.undone c h in (t.0, t.1, same_life c (λ e. free_undone t.0 t.1 (sym e ∙ t.2)) ∙ t.2); all = λ c y k h. r.note.all c y k (undone_life c y k h); placed = λ c y k h. ⊎_elim (λ e. inl (same_life c (λ f. free_not y k (sym f ∙ e)) ∙ e)) (λ e. inr (same_life c (λ f. free_undone y k (sym f ∙ e)) ∙ e)) (r.note.placed c y k h); seen = r.note.seen; quiet = r.note.quiet };
+        retired = λ c y k h e. r.retired c y k (back_life c y k h) e;
         holders = λ z i k p h. ⊎_elim (λ t. inr (ap v.kind t.1 ∙ kind)) (λ t. r.holders z i k p t.1) (back z i k p h);
         hand = λ c h. absurd ((r.hand c h).0 one);
       }

@@ -107,6 +107,7 @@ module _ (s : Setup) (w : Words) (n : ℕ) (v : Views) (g : Ghost) (r : Rule s w
       rules = r.rules;
       stock = r.stock;
       note = r.note;
+      retired = λ c y k h e. r.retired c y k h (sym (off c (other c false y (ap (λ (l : Life). chained l false) h))).1 ∙ e);
       holders = r.holders;
       hand = r.hand;
     }
@@ -183,6 +184,7 @@ module _ (s : Setup) (w : Words) (n : ℕ) (v : Views) (g : Ghost) (r : Rule s w
         rules = r.rules;
         stock = r.stock;
         note = r.note;
+        retired = r.retired;
         holders = r.holders;
         hand = r.hand;
       }

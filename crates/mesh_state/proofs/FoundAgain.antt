@@ -239,7 +239,7 @@ workers_who s round phase name hist born died life who who' same more kind seat 
 
 -- a seat that does not walk
 pub walks_idle : (s : Setup) (round phase : ℕ) (name : ℕ → ℕ) (hist : ℕ → Node) (born died : ℕ → ℕ) (life : ℕ → Life) (who : ℕ → ℕ → ℕ) (kind seat half : ℕ) → (kind ≡ 1 → half ≡ phase) → WalkRule s round phase name hist born died life who kind seat (record idle { half = half })
-walks_idle s round phase name hist born died life who kind seat half said = record { half = said; still = λ _. (refl, refl); only = λ _ _. (refl, refl, refl); absent = λ n h. absurd h; stood = λ x n h. absurd h; had = λ b n h. absurd h; went = λ b h. absurd h; walk = tt }
+walks_idle s round phase name hist born died life who kind seat half said = record { half = said; still = λ _. (refl, refl); only = λ _ _. (refl, refl, refl, refl); absent = λ n h. absurd h; stood = λ x n h. absurd h; had = λ b n h. absurd h; went = λ b h. absurd h; walk = tt }
 
 -- a seat that is no worker's keeps what it knows of the last finished round
 pub walks_home : (s : Setup) (round phase phase' : ℕ) (name : ℕ → ℕ) (hist hist' : ℕ → Node) (born died born' died' : ℕ → ℕ) (life life' : ℕ → Life) (who : ℕ → ℕ → ℕ) (kind seat : ℕ) (v : Work) → (kind ≡ 1 → ⊥) → WalkRule s round phase name hist born died life who kind seat v → WalkRule s round phase' name hist' born' died' life' who kind seat v

@@ -91,7 +91,8 @@ module _ (s : Setup) (w : Words) (n : ℕ) (v : Views) (g : Ghost) (r : Rule s w
       clear = r.rules.clear;
     };
     stock = record { finished = r.stock.finished; cursor_is = r.stock.cursor_is; free_is = r.stock.free_is; never = r.stock.never; left = r.stock.left };
-    note = record { undone = r.note.undone; seen = λ x e. let t = r.note.seen x e in (t.0, t.1, t.2, λ f. none_went (t.3 f)); quiet = λ e. none_went (r.note.quiet e) };
+    note = record { undone = r.note.undone; all = r.note.all; placed = r.note.placed; seen = λ x e. let t = r.note.seen x e in (t.0, t.1, t.2, λ f. none_went (t.3 f)); quiet = λ e. none_went (r.note.quiet e) };
+    retired = r.retired;
     holders = λ x i m p h. ⊎_elim inl (λ k. inr (dite (ℕ_discrete i j) (λ e. let y : v.kind i ≡ v.kind j = ap v.kind e in absurd (omega arith)) (λ f. update_other v.kind j i 0 f ∙ k))) (r.holders x i m p h);
     hand = r.hand;
   }

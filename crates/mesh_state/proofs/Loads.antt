@@ -1,5 +1,6 @@
 -- What a seat learns of a word that it loads.
-use Rattle.std.proofs.Common.{◌≡◌, ℕ, ◌+◌, ◌<◌, ◌≤◌, ◌∷◌, refl, sym, ap, ◌∙◌, subst, ⊎_elim, arith}
+use Rattle.mesh_words.specs.Claims.{Living, claim}
+use Rattle.std.proofs.Common.{◌≡◌, inl, ℕ, ◌+◌, ◌<◌, ◌≤◌, ◌∷◌, refl, sym, ap, ◌∙◌, subst, ⊎_elim, arith}
 use Rattle.mesh_words.specs.Setup.{Setup}
 use Rattle.mesh_words.specs.Functions.{update}
 use Rattle.mesh_words.specs.Words.{Words}
@@ -9,14 +10,14 @@ use native.Mathlib.Decide.{dec_lt}
 use Rattle.mesh_words.specs.Sums.{one_where}
 use Rattle.mesh_words.proofs.Functions.{update_cases}
 use Rattle.mesh_words.proofs.Sums.{one_if, summand}
-use Rattle.mesh_state.specs.Ghosts.{Free, Ghost}
+use Rattle.mesh_state.specs.Ghosts.{Free, Placed, Ghost}
 use Rattle.mesh_state.specs.Sure.{SureRule}
 use Rattle.mesh_state.specs.Owner.{OwnerRule, StockRule, NoteRule}
 use Rattle.mesh_state.specs.Rule.{Rule}
 
 module _ (s : Setup) (w : Words) (n : ℕ) (v : Views) (g : Ghost) (r : Rule s w n v g) where
   learns_sure : (j : ℕ) (u : Sure) → SureRule s.elements v.ruling.workers w.head w.hist w.born w.died w.name w.row g.stage j u → Rule s w n (record v { sure = update v.sure j u }) g
-  learns_sure j u ok = record { names_apart = r.names_apart; claims = r.claims; labels = r.labels; chains = r.chains; names = r.names; pins = r.pins; works = r.works; walks = r.walks; sure = update_cases (λ i x. SureRule s.elements v.ruling.workers w.head w.hist w.born w.died w.name w.row g.stage i x) v.sure j u ok (λ i _. r.sure i); goes = r.goes; rules = r.rules; stock = r.stock; note = r.note; holders = r.holders; hand = r.hand }
+  learns_sure j u ok = record { names_apart = r.names_apart; claims = r.claims; labels = r.labels; chains = r.chains; names = r.names; pins = r.pins; works = r.works; walks = r.walks; sure = update_cases (λ i x. SureRule s.elements v.ruling.workers w.head w.hist w.born w.died w.name w.row g.stage i x) v.sure j u ok (λ i _. r.sure i); goes = r.goes; rules = r.rules; stock = r.stock; note = r.note; retired = r.retired; holders = r.holders; hand = r.hand }
 
   -- words of which a seat is sure while it guards them
   pub loads_head : (j x : ℕ) → Rule s w n (record v { sure = update v.sure j (record (v.sure j) { head = (x, w.head x) ∷ (v.sure j).head }) }) g
@@ -80,7 +81,7 @@ module _ (s : Setup) (w : Words) (n : ℕ) (v : Views) (g : Ghost) (r : Rule s w
   }
 
   -- what the owner learns
-  learns : (u : Ruling) → OwnerRule s.passes w.round w.released g.pins n v.kind u → StockRule w.round w.cursor w.free w.row g.life g.pins u → NoteRule w.round w.taken g.life v.read (record v.ruling { seen = u.seen; quiet = u.quiet }) → ((b : ℕ) → HasEntry u.hand b → (v.ruling.phase ≡ 1 → ⊥) × (g.life b ≡ Free)) → u.phase ≡ v.ruling.phase → u.workers ≡ v.ruling.workers → Rule s w n (record v { ruling = record v.ruling { clear = u.clear; hand = u.hand; cursor = u.cursor; free = u.free; ever = u.ever; seen = u.seen; quiet = u.quiet } }) g
+  learns : (u : Ruling) → OwnerRule s.passes w.round w.released g.pins n v.kind u → StockRule w.round w.cursor w.free w.row g.life g.pins u → NoteRule w.round w.taken g.life v.read (record v.ruling { placed = u.placed; seen = u.seen; quiet = u.quiet }) → ((b : ℕ) → HasEntry u.hand b → (v.ruling.phase ≡ 1 → ⊥) × (g.life b ≡ Free)) → u.phase ≡ v.ruling.phase → u.workers ≡ v.ruling.workers → Rule s w n (record v { ruling = record v.ruling { clear = u.clear; hand = u.hand; cursor = u.cursor; free = u.free; ever = u.ever; placed = u.placed; seen = u.seen; quiet = u.quiet } }) g
   learns u rules stock note hand a b = record {
     names_apart = r.names_apart;
     claims = r.claims;
@@ -94,13 +95,14 @@ module _ (s : Setup) (w : Words) (n : ℕ) (v : Views) (g : Ghost) (r : Rule s w
     goes = r.goes;
     rules = record { owner = r.rules.owner; one = r.rules.one; workers = r.rules.workers; readers = r.rules.readers; few_readers = r.rules.few_readers; halves = r.rules.halves; clear = rules.clear };
     stock = record { finished = r.stock.finished; cursor_is = λ k e. let t = stock.cursor_is k e in ((λ f. t.0 (a ∙ f)), t.1); free_is = stock.free_is; never = stock.never; left = r.stock.left };
-    note = record { undone = note.undone; seen = note.seen; quiet = note.quiet };
+    note = record { undone = note.undone; all = note.all; placed = note.placed; seen = note.seen; quiet = note.quiet };
+    retired = r.retired;
     holders = r.holders;
     hand = hand;
   }
 
-  same_note : NoteRule w.round w.taken g.life v.read (record v.ruling { seen = v.ruling.seen; quiet = v.ruling.quiet })
-  same_note = record { undone = r.note.undone; seen = r.note.seen; quiet = r.note.quiet }
+  same_note : NoteRule w.round w.taken g.life v.read (record v.ruling { placed = v.ruling.placed; seen = v.ruling.seen; quiet = v.ruling.quiet })
+  same_note = record { undone = r.note.undone; all = r.note.all; placed = r.note.placed; seen = r.note.seen; quiet = r.note.quiet }
 
   -- RELEASED of a round that was left shows that each of its pins was given back
   pub notes_clear : (q k : ℕ) → HasEntry v.ruling.left (q, k) → w.released q ≡ k → Rule s w n (record v { ruling = record v.ruling { clear = q ∷ v.ruling.clear } }) g
@@ -139,6 +141,8 @@ module _ (s : Setup) (w : Words) (n : ℕ) (v : Views) (g : Ghost) (r : Rule s w
       record { finished = r.stock.finished; cursor_is = r.stock.cursor_is; free_is = r.stock.free_is; never = r.stock.never; left = r.stock.left }
       record {
         undone = r.note.undone;
+        all = r.note.all;
+        placed = r.note.placed;
         seen = λ x e. let c = r.pins.count w.round in let t = r.pins.now in let q : x ≡ w.released w.round = omega arith in (w.taken, omega arith, omega arith, λ f j b p h m. out j p (omega arith));
         quiet = r.note.quiet;
       } r.hand refl refl
@@ -155,4 +159,18 @@ module _ (s : Setup) (w : Words) (n : ℕ) (v : Views) (g : Ghost) (r : Rule s w
   finds_quiet e = let t = r.note.seen w.taken e in let t1 = t.1 in let t2 = t.2 in learns (record v.ruling { quiet = 1 })
       record { owner = r.rules.owner; one = r.rules.one; workers = r.rules.workers; readers = r.rules.readers; few_readers = r.rules.few_readers; halves = r.rules.halves; clear = r.rules.clear }
       record { finished = r.stock.finished; cursor_is = r.stock.cursor_is; free_is = r.stock.free_is; never = r.stock.never; left = r.stock.left }
-      record { undone = r.note.undone; seen = r.note.seen; quiet = λ _. t.3 (omega arith) } r.hand refl refl
+      record { undone = r.note.undone; all = r.note.all; placed = r.note.placed; seen = r.note.seen; quiet = λ _. t.3 (omega arith) } r.hand refl refl
+
+  -- the owner's claim on a published block shows the block's places
+  pub notes_placed : (b x m : ℕ) → HasEntry (v.claims 0) (claim x m (Living b)) → Rule s w n (record v { ruling = record v.ruling { placed = (b, x, m) ∷ v.ruling.placed } }) g
+  notes_placed b x m h = learns (record v.ruling { placed = (b, x, m) ∷ v.ruling.placed })
+      record { owner = r.rules.owner; one = r.rules.one; workers = r.rules.workers; readers = r.rules.readers; few_readers = r.rules.few_readers; halves = r.rules.halves; clear = r.rules.clear }
+      record { finished = r.stock.finished; cursor_is = r.stock.cursor_is; free_is = r.stock.free_is; never = r.stock.never; left = r.stock.left }
+      record {
+        undone = r.note.undone;
+        all = r.note.all;
+        placed = λ c y k e. ⊎_elim (λ q. let z0 : c ≡ b = ap (λ (z : ℕ × ℕ × ℕ). z.0) q in let z1 : y ≡ x = ap (λ (z : ℕ × ℕ × ℕ). z.1) q in let z2 : k ≡ m = ap (λ (z : ℕ × ℕ × ℕ). z.2) q in
+            inl (ap g.life z0 ∙ (r.claims.shape x 0 m (Living b) (r.claims.held 0 x m (Living b) h)).0 ∙ (λ t. Placed (sym z1 t) (sym z2 t)))) (r.note.placed c y k) e;
+        seen = r.note.seen;
+        quiet = r.note.quiet;
+      } r.hand refl refl

@@ -20,7 +20,7 @@ use Rattle.mesh_state.proofs.FoundAgain.{one_more, goes_on, goes_who, workers_on
 use Rattle.mesh_state.proofs.BlockSteps.{undead, bears}
 use Rattle.mesh_state.proofs.HeldClaims.{not_open, held_one, free_not, placed_one, shape_on, one_user, goes}
 use Rattle.mesh_state.proofs.Across.{Went, is_living, Of, chained_of, low, some_worker, first_half, unmet}
-use Rattle.mesh_state.proofs.SureWords.{sure_on, block_back, head_back}
+use Rattle.mesh_state.proofs.SureWords.{retired_on, sure_on, block_back, head_back}
 use Rattle.mesh_state.proofs.Bisections as rounds
 
 module _ (s : Setup) (w : Words) (n : ℕ) (v : Views) (g : Ghost) (r : Rule s w n v g) where
@@ -168,6 +168,7 @@ module _ (s : Setup) (w : Words) (n : ℕ) (v : Views) (g : Ghost) (r : Rule s w
       rules = r.rules;
       stock = r.stock;
       note = r.note;
+      retired = retired_on w.round w.died g.life v.work (update v.work j (record (v.work j) { known = known })) v.ruling.retired (update_cases (λ i u. u.retired ≡ (v.work i).retired) v.work j (record (v.work j) { known = known }) refl (λ _ _. refl)) r.retired;
       holders = λ z i k q h. dite (ℕ_discrete z x) (λ f. ⊎_elim (λ e. inl (sym (held_one j i m k (Living b) q (sym (update_at g.stage x z (Held j m (Living b)) f) ∙ h)).0 ∙ e)) (λ e. inr (ap v.kind (sym (held_one j i m k (Living b) q (sym (update_at g.stage x z (Held j m (Living b)) f) ∙ h)).0) ∙ e)) (r.holders x j m (Whole b) is)) (λ o. r.holders z i k q (sym (update_other g.stage x z (Held j m (Living b)) o) ∙ h));
       hand = λ c h. absurd ((r.hand c h).0 one);
     }

@@ -117,7 +117,8 @@ module _ (s : Setup) (w : Words) (n : ℕ) (v : Views) (g : Ghost) (r : Rule s w
         clear = r.rules.clear;
       };
       stock = record { finished = r.stock.finished; cursor_is = r.stock.cursor_is; free_is = r.stock.free_is; never = r.stock.never; left = r.stock.left };
-      note = record { undone = r.note.undone; seen = λ x e. let t = r.note.seen x e in (t.0, t.1, t.2, λ f. none (t.3 f)); quiet = λ e. none (r.note.quiet e) };
+      note = record { undone = r.note.undone; all = r.note.all; placed = r.note.placed; seen = λ x e. let t = r.note.seen x e in (t.0, t.1, t.2, λ f. none (t.3 f)); quiet = λ e. none (r.note.quiet e) };
+      retired = λ b x m u e. ⊎_elim (λ t. inl (dite (ℕ_discrete t.0 n) (λ f. absurd (subst (λ (l : List ℕ). HasEntry l b) ((r.walks n).only (λ k. let z = new_kind in omega arith) not_first).3 (subst (λ (i : ℕ). HasEntry (v.work i).retired b) f t.1))) (λ o. (t.0, subst (λ (u : Work). HasEntry u.retired b) (sym (update_other v.work n t.0 (record idle { half = v.ruling.phase }) o)) t.1)))) inr (r.retired b x m u e);
       holders = λ x j m p h. ⊎_elim inl (λ k. inr (update_other v.kind n j kind (λ (e : j ≡ n). new_claims x m p (h ∙ ap (λ (i : ℕ). Held i m p) e)) ∙ k)) (r.holders x j m p h);
       hand = r.hand;
     }

@@ -14,6 +14,7 @@ use Rattle.mesh_state.specs.Work.{WorkRule, IsWorkPlace, WorkWalks, WalkRule}
 use Rattle.mesh_state.specs.Rule.{Rule}
 use Rattle.mesh_state.proofs.FoundAgain.{one_more, placed, chained_stands, placed_chained, standing, none_found, first_block, seen_live}
 use Rattle.mesh_state.proofs.ChainSteps.{named, older_head, dead_end}
+use Rattle.mesh_state.proofs.SureWords.{retired_on}
 use Rattle.mesh_state.proofs.Across.{Went, half_of, zero_or_more, place_one, name_one}
 
 module _ (s : Setup) (w : Words) (n : ℕ) (v : Views) (g : Ghost) (r : Rule s w n v g) where
@@ -21,9 +22,9 @@ module _ (s : Setup) (w : Words) (n : ℕ) (v : Views) (g : Ghost) (r : Rule s w
   d = w.round + 1
 
   -- what a step of a worker's knowledge is to show
-  pub reworks : (j : ℕ) (u : Work) → WorkRule s w.round v.ruling.phase w.name w.born w.died g.life (g.who d) (v.kind j) j u → WalkRule s w.round v.ruling.phase w.name w.hist w.born w.died g.life g.who (v.kind j) j u
+  pub reworks : (j : ℕ) (u : Work) → WorkRule s w.round v.ruling.phase w.name w.born w.died g.life (g.who d) (v.kind j) j u → WalkRule s w.round v.ruling.phase w.name w.hist w.born w.died g.life g.who (v.kind j) j u → u.retired ≡ (v.work j).retired
       → Rule s w n (record v { work = update v.work j u }) g
-  reworks j u works walks = record {
+  reworks j u works walks same = record {
     names_apart = r.names_apart;
     claims = r.claims;
     labels = r.labels;
@@ -37,6 +38,7 @@ module _ (s : Setup) (w : Words) (n : ℕ) (v : Views) (g : Ghost) (r : Rule s w
     rules = r.rules;
     stock = r.stock;
     note = r.note;
+    retired = retired_on w.round w.died g.life v.work (update v.work j u) v.ruling.retired (update_cases (λ i x. x.retired ≡ (v.work i).retired) v.work j u same (λ _ _. refl)) r.retired;
     holders = r.holders;
     hand = r.hand;
   }
@@ -96,7 +98,7 @@ module _ (s : Setup) (w : Words) (n : ℕ) (v : Views) (g : Ghost) (r : Rule s w
         → Rule s w n (record v { work = update v.work j (learned went walk found known absent stood had) }) g
     relearns went walk found known absent stood had f k a t h wt wk = reworks j (learned went walk found known absent stood had)
         record { only = λ o. absurd (o kind); found = f; known = k; open_ = (r.works j).open_; given = (r.works j).given }
-        record { still = λ o. absurd (o kind); only = λ o. absurd (o kind); half = (r.walks j).half; absent = a; stood = t; had = h; went = wt; walk = wk }
+        record { still = λ o. absurd (o kind); only = λ o. absurd (o kind); half = (r.walks j).half; absent = a; stood = t; had = h; went = wt; walk = wk } refl
 
     abbrev u : Work
     u = v.work j

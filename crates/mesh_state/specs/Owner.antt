@@ -3,7 +3,7 @@ use Rattle.std.specs.Prelude.{◌≡◌, ℕ, ◌+◌, ◌<◌, ◌≤◌, List,
 use Rattle.mesh_words.specs.Entries.{HasEntry}
 use Rattle.mesh_words.specs.Sums.{sum_below, one_where}
 use Rattle.mesh_words.specs.Views.{Read, Ruling}
-use Rattle.mesh_state.specs.Ghosts.{Life, Free, Undone}
+use Rattle.mesh_state.specs.Ghosts.{Life, Free, Placed, Undone}
 
 pub record OwnerRule (passes round : ℕ) (released pins : ℕ → ℕ) (n : ℕ) (kind : ℕ → ℕ) (v : Ruling) : Type 0 where
   -- seat 0 is the owner's, and no other
@@ -32,9 +32,12 @@ pub record StockRule (round cursor free : ℕ) (row : ℕ → ℕ) (life : ℕ �
 abbrev pub NoneWent : ℕ → (ℕ → Read) → List ℕ → Type 0
 NoneWent round read undone = (j b : ℕ) → (read j).pin ≡ round + 1 → HasEntry (read j).went b → HasEntry undone b → ⊥
 
--- what the owner knows of the blocks that were taken back
+-- what the owner knows of places of blocks, and of the blocks that were taken back
 pub record NoteRule (round taken : ℕ) (life : ℕ → Life) (read : ℕ → Read) (v : Ruling) : Type 0 where
   pub undone : (b : ℕ) → HasEntry v.undone b → (x : ℕ) × (m : ℕ) × (life b ≡ Undone x m)
+  pub all : (b x m : ℕ) → life b ≡ Undone x m → HasEntry v.undone b
+  -- a block that the owner knows at its places stands there
+  pub placed : (b x m : ℕ) → HasEntry v.placed (b, x, m) → (life b ≡ Placed x m) ⊎ (life b ≡ Undone x m)
   -- RELEASED was x when k pins were taken: if the two are one number, no pin was out then
   pub seen : (x : ℕ) → v.seen ≡ x + 1 → (k : ℕ) × (x ≤ k) × (k ≤ taken) × (k ≡ x → NoneWent round read v.undone)
   pub quiet : v.quiet ≡ 1 → NoneWent round read v.undone

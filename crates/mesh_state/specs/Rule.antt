@@ -11,7 +11,7 @@ use Rattle.mesh_state.specs.Chains.{ChainsRule}
 use Rattle.mesh_state.specs.Claims.{linked, ClaimsRule}
 use Rattle.mesh_state.specs.Bisections.{NamesRule, IsPlaceOf}
 use Rattle.mesh_state.specs.Pins.{PinsRule}
-use Rattle.mesh_state.specs.Work.{WorkRule, WalkRule}
+use Rattle.mesh_state.specs.Work.{WorkRule, WalkRule, RetiredKnown}
 use Rattle.mesh_state.specs.Sure.{SureRule}
 use Rattle.mesh_state.specs.Readers.{ReaderRule}
 use Rattle.mesh_state.specs.Owner.{OwnerRule, StockRule, NoteRule}
@@ -36,6 +36,7 @@ pub record Rule (s : Setup) (w : Words) (n : ℕ) (v : Views) (g : Ghost) : Type
   pub rules : OwnerRule s.passes w.round w.released g.pins n v.kind v.ruling
   pub stock : StockRule w.round w.cursor w.free w.row g.life g.pins v.ruling
   pub note : NoteRule w.round w.taken g.life v.read v.ruling
+  pub retired : RetiredKnown w.round w.died g.life v.work v.ruling.retired
   -- a claim is the owner's or a worker's
   pub holders : (x j m : ℕ) (p : Progress) → g.stage x ≡ Held j m p → (j ≡ 0) ⊎ (v.kind j ≡ 1)
   -- blocks that the owner knows as free are so, but in the first half

@@ -35,7 +35,7 @@ WorkWalks s round phase name hist born died life who went (Past x n b t) = HasEn
 pub record WalkRule (s : Setup) (round phase : ℕ) (name : ℕ → ℕ) (hist : ℕ → Node) (born died : ℕ → ℕ) (life : ℕ → Life) (who : ℕ → ℕ → ℕ) (kind : ℕ) (seat : ℕ) (v : Work) : Type 0 where
   -- only workers' passes walk, and only they and the owner know of the work
   pub still : (kind ≡ 1 → ⊥) → (v.went ≡ []) × (v.walk ≡ Still)
-  pub only : (kind ≡ 1 → ⊥) → (seat ≡ 0 → ⊥) → (v.absent ≡ []) × (v.stood ≡ []) × (v.had ≡ [])
+  pub only : (kind ≡ 1 → ⊥) → (seat ≡ 0 → ⊥) → (v.absent ≡ []) × (v.stood ≡ []) × (v.had ≡ []) × (v.retired ≡ [])
   -- a worker's pass knows its half
   pub half : kind ≡ 1 → v.half ≡ phase
   pub absent : (n : ℕ) → HasEntry v.absent n → who round n ≡ 0
@@ -44,3 +44,7 @@ pub record WalkRule (s : Setup) (round phase : ℕ) (name : ℕ → ℕ) (hist :
   -- a block to which the pass went stands somewhere, and was not retired by the last finished round
   pub went : (b : ℕ) → HasEntry v.went b → ((t : Bool) × (x : ℕ) × (stands (life b) t ≡ x + 1)) × ((died b ≡ 0) ⊎ (round < died b))
   pub walk : WorkWalks s round phase name hist born died life who v.went v.walk
+
+-- each block that was retired in the round in work is known to have been so by some seat
+abbrev pub RetiredKnown : ℕ → (ℕ → ℕ) → (ℕ → Life) → (ℕ → Work) → List ℕ → Type 0
+RetiredKnown round died life work retired = (b x m : ℕ) → life b ≡ Placed x m → died b ≡ round + 1 → ((j : ℕ) × HasEntry (work j).retired b) ⊎ HasEntry retired b

@@ -25,6 +25,8 @@ pub record Work : Type 0 where
   pub stood : List (ℕ × ℕ)
   -- blocks that bisect a name at the last finished round, each with the name
   pub had : List (ℕ × ℕ)
+  -- the blocks that it retired
+  pub retired : List ℕ
   -- the blocks to which it has gone, and where its walk is
   pub went : List ℕ
   pub walk : Walk
@@ -80,6 +82,10 @@ pub record Ruling : Type 0 where
   pub free : ℕ
   -- blocks from this number on were not drawn in earlier rounds
   pub ever : ℕ
+  -- the blocks that were retired in the round, once the second half has ended
+  pub retired : List ℕ
+  -- blocks with their places: that of the first member, and one more than that of the second (or 0)
+  pub placed : List (ℕ × ℕ × ℕ)
   -- blocks that were taken back and are not free yet
   pub undone : List ℕ
   -- one more than what was found in RELEASED of the last finished round, or 0; and 1 where no pass with a pin of that round has gone to one of those blocks
