@@ -103,6 +103,12 @@ module _ (s : Setup) (w : Words) (n : ℕ) (v : Views) (g : Ghost) (r : Rule s w
     abbrev u : Work
     u = v.work j
 
+    -- a macro element stands at its place
+    pub notes_top : u.half ≡ 1 → (x : ℕ) → x < s.elements → Rule s w n (record v { work = update v.work j (learned u.went u.walk ((x, s.top x) ∷ u.found) u.known u.absent u.stood u.had) }) g
+    notes_top first x l = relearns u.went u.walk ((x, s.top x) ∷ u.found) u.known u.absent u.stood u.had
+        (λ y i m. ⊎_elim (λ f. let a : y ≡ x = ap (λ (z : ℕ × ℕ). z.0) f in (sym ((r.walks j).half kind) ∙ first, inl (subst (λ (z : ℕ). z < s.elements) (sym a) l, ap (λ (z : ℕ × ℕ). z.1) f ∙ ap s.top (sym a)))) ((r.works j).found y i) m)
+        (r.works j).known (r.walks j).absent (r.walks j).stood (r.walks j).had (r.walks j).went (r.walks j).walk
+
     -- the word stops the walk: the last finished round has not the name
     pub ends : (x k : ℕ) (l : Node) → Leads x k l → (l.block ≡ 0) ⊎ ((0 < l.died) × (l.died ≤ w.round)) → Rule s w n (record v { work = update v.work j (learned u.went Still u.found u.known (k ∷ u.absent) u.stood u.had) }) g
     ends x k l f stop = let z : g.who w.round k ≡ 0 = ⊎_elim (λ e. e) (λ t. absurd (none t.0 (f.2 t.0 t.1) stop f.0)) (zero_or_more (g.who w.round k)) in
