@@ -23,4 +23,8 @@ pub mod JoiningReaders
 pub mod Sweeping
 pub mod TakingBack
 pub mod Fresh
+pub mod SquareNotes
+pub mod SquareRound1
+pub mod SquareRound2
+pub mod SquareRound3
 pub mod Lawful

@@ -1,8 +1,10 @@
 //! Laws over the definitions alone.
 ghost use Rattle.mesh_state.specs.Fresh.{FreshIsLawful};
+ghost use Rattle.mesh_state.specs.SquareRun.{SquareRuns};
 ghost use Rattle.mesh_state.specs.Laws.{ClearRounds, DrawsBounded, FreeRows, MembersTogether, NoEarlyReuse, NotesAgree, OneClaim, OneHolder, ParentsBisected, PinsBounded, PlacesAgree, WalksAgree, WalksEnd};
 
-/// What holds in each lawful state, and so between any two steps; and that the fresh table is lawful.
+/// What holds in each lawful state, and so between any two steps; that the fresh table is lawful,
+/// and that a run on the square is, from the claim of its patch to the second draw of its block.
 pub fn laws()
     ensures bounded { PinsBounded }
     ensures holder { OneHolder }
@@ -18,4 +20,5 @@ pub fn laws()
     ensures reuse { NoEarlyReuse }
     ensures clear { ClearRounds }
     ensures fresh { FreshIsLawful }
+    ensures square { SquareRuns }
 {}

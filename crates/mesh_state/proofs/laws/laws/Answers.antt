@@ -1,5 +1,6 @@
 use Rattle.mesh_state.proofs.Fresh.{fresh_is_lawful}
 use Rattle.mesh_state.proofs.Lawful.{bounded, one_holder, one_claim, draws_bounded, free_rows, walks_agree, walks_end, parents_bisected, members_together, places_agree, notes_agree, no_early_reuse, clear_rounds}
+use Rattle.mesh_state.proofs.SquareRound3.{square_runs}
 use Rattle.mesh_state.proofs.laws.laws.Goals as goal
 
 pub returns-clause-bounded : goal.returns-clause-bounded
@@ -43,3 +44,6 @@ returns-clause-clear c = clear_rounds
 
 pub returns-clause-fresh : goal.returns-clause-fresh
 returns-clause-fresh c = fresh_is_lawful
+
+pub returns-clause-square : goal.returns-clause-square
+returns-clause-square c = square_runs
