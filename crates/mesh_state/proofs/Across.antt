@@ -5,7 +5,7 @@ use native.Mathlib.Decide.{ℕ_discrete, dec_lt}
 use Rattle.mesh_words.specs.Setup.{Setup}
 use Rattle.mesh_words.specs.Sums.{sum_below, one_where}
 use Rattle.mesh_words.specs.Words.{Words, node}
-use Rattle.mesh_words.specs.Views.{Views, Read}
+use Rattle.mesh_words.specs.Views.{Work, Views, Read}
 use Rattle.mesh_words.specs.Claims.{Progress, Claimed, Failed, Drawn, Half, Whole, Living}
 use Rattle.mesh_words.specs.Places.{member_of}
 use Rattle.mesh_words.specs.Entries.{HasEntry}
@@ -19,9 +19,9 @@ use Rattle.mesh_state.specs.Rule.{Rule}
 use Rattle.mesh_state.proofs.FoundAgain.{placed, found_covers}
 use Rattle.mesh_state.proofs.Bisections.{one_place, two_names}
 
--- a reader of the round has gone to the block, which has not died by it
-abbrev pub Went : (ℕ → ℕ) → (ℕ → Read) → ℕ → ℕ → Type 0
-Went died read q b = (j : ℕ) × ((read j).pin ≡ q + 1) × HasEntry (read j).went b × ((died b ≡ 0) ⊎ (q < died b))
+-- a reader with a pin of the round, or, of the last finished round, a worker has gone to the block, which has not died by it
+abbrev pub Went : ℕ → (ℕ → ℕ) → (ℕ → ℕ) → (ℕ → Work) → (ℕ → Read) → ℕ → ℕ → Type 0
+Went round died kind work read q b = (((j : ℕ) × ((read j).pin ≡ q + 1) × HasEntry (read j).went b) ⊎ ((j : ℕ) × (kind j ≡ 1) × (q ≡ round) × HasEntry (work j).went b)) × ((died b ≡ 0) ⊎ (q < died b))
 
 pub zero_or_more : (n : ℕ) → (n ≡ 0) ⊎ ((k : ℕ) × (n ≡ k + 1))
 zero_or_more zero = inl refl

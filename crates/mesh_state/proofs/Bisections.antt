@@ -128,6 +128,7 @@ module _ (s : Setup) (apart : NamesApart s) (round phase : ℕ) (name : ℕ → 
       patch = n.patch;
       calm = n.calm;
       grows = λ k a l w. ap (λ (f : ℕ → ℕ). f k) (update_same who d (now (b + 1))) ∙ stays k a (n.grows k a l (sym (ap (λ (f : ℕ → ℕ). f k) (else_ (b + 1) round (omega arith))) ∙ w));
+      either = λ k a l w. inl (ap (λ (f : ℕ → ℕ). f k) (update_same who d (now (b + 1))) ∙ stays k a (n.grows k a (omega arith) (sym (ap (λ (f : ℕ → ℕ). f k) (else_ (b + 1) round (omega arith))) ∙ w)));
       fresh = λ k z. absurd (omega arith);
     }
       where
@@ -187,6 +188,7 @@ module _ (s : Setup) (apart : NamesApart s) (round phase : ℕ) (name : ℕ → 
       patch = n.patch;
       calm = λ c y k l. absurd (l.0 second);
       grows = λ k a l w. absurd (omega arith);
+      either = λ k a l w. let e = ap (λ (f : ℕ → ℕ). f k) (update_same who d (now 0)) in ⊎_elim (λ c. inr (e ∙ c.4)) (λ c. ⊎_elim (λ u. inl (e ∙ c.0 ∙ u)) (λ u. inr (e ∙ c.0 ∙ u)) (n.either k a l (sym (ap (λ (f : ℕ → ℕ). f k) (else_ 0 round (omega arith))) ∙ w))) (is_member 0 k);
       fresh = λ k z. absurd (omega arith);
     }
       where

@@ -232,3 +232,14 @@ module _ (K : ℕ → Type 0) (A : ℕ → ℕ → Type 0) (e round : ℕ) (head
               where
                 upd_chain : (c : ℕ) (t : Bool) (z : ℕ) → chained (life c) t ≡ z + 1 → chained (update life b (Placed x m) c) t ≡ z + 1
                 upd_chain c t z u = ap (λ (k : Life). chained k t) (update_other life b c (Placed x m) (λ (s : c ≡ b). let y : 0 ≡ z + 1 = sym (ap (λ (k : Life). chained k t) (ap life s ∙ loose)) ∙ u in absurd (omega arith))) ∙ u
+
+-- where heads change at places where nothing stands
+pub chains_apart : (e round : ℕ) (head hist : ℕ → Node) (born died : ℕ → ℕ) (life : ℕ → Life) → ChainsRule e round head hist born died life → (head' : ℕ → Node) → ((x : ℕ) → IsPlace e life x → head' x ≡ head x) → ChainsRule e round head' hist born died life
+chains_apart e round head hist born died life ch head' same = record {
+  heads = λ x l. subst (IsHead round died life x) (sym (same x l)) (ch.heads x l);
+  hists = ch.hists;
+  borns = ch.borns;
+  dieds = ch.dieds;
+  undone = ch.undone;
+  sides = ch.sides;
+}

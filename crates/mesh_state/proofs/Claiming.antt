@@ -29,10 +29,16 @@ module _ (s : Setup) (w : Words) (n : ℕ) (v : Views) (g : Ghost) (r : Rule s w
   nothing_sure j workers stage = record { head_is = λ z l f h. absurd f; hist_is = λ b t l f h. absurd f; died_is = λ b k f h. absurd f; name_is = λ b t k f h. absurd f; born_is = λ b k f h i. absurd f; row_is = λ b k f h i. absurd f }
 
   -- The claim of a patch of which the pass found the members' places, and which the last finished round has not
-  module _ (j x m k : ℕ) (kind : v.kind j ≡ 1) (one : v.ruling.phase ≡ 1) (bit0 : w.claimed x ≡ 0) (lead : s.leads k ≡ 1) (room : x < places s) (old : g.who w.round k ≡ 0)
-      (here : HasEntry (v.work j).found (x, k)) (mate : ((m ≡ 0) × (s.mate k ≡ 0)) ⊎ ((y : ℕ) × (i : ℕ) × (m ≡ y + 1) × (s.mate k ≡ i + 1) × HasEntry (v.work j).found (y, i + 1) × (g.who w.round (i + 1) ≡ 0))) where
+  module _ (j x m k : ℕ) (kind : v.kind j ≡ 1) (bit0 : w.claimed x ≡ 0) (lead : s.leads k ≡ 1) (room : x < places s) (absent : HasEntry (v.work j).absent k)
+      (here : HasEntry (v.work j).found (x, k)) (mate : ((m ≡ 0) × (s.mate k ≡ 0)) ⊎ ((y : ℕ) × (i : ℕ) × (m ≡ y + 1) × (s.mate k ≡ i + 1) × HasEntry (v.work j).found (y, i + 1) × HasEntry (v.work j).absent (i + 1))) where
+    one : v.ruling.phase ≡ 1
+    one = ((r.works j).found x k here).0
+
+    old : g.who w.round k ≡ 0
+    old = (r.walks j).absent k absent
+
     can : MayRead w.round v.ruling.phase v.read d
-    can = inr (refl, omega arith)
+    can = inr (refl, let e = one in omega arith)
 
     seen : IsPlaceOf s w.name (g.who d) x k
     seen = ((r.works j).found x k here).1
@@ -96,19 +102,23 @@ module _ (s : Setup) (w : Words) (n : ℕ) (v : Views) (g : Ghost) (r : Rule s w
         rows = r.claims.rows;
         apart = r.claims.apart;
         drawn = λ e. r.claims.drawn e ∙ sym (sum_same (places s) (λ z. draws_of (g.stage z)) (λ z. draws_of (stage' z)) (λ z _. dite (ℕ_discrete z x) (λ f. ap draws_of (update_at g.stage x z new f) ∙ sym (ap draws_of (ap g.stage f ∙ open_))) (λ o. ap draws_of (update_other g.stage x z new o))));
-        living = λ z i a p h e. absurd (omega arith);
-        none = λ z e. absurd (omega arith);
+        living = λ z i a p h e. absurd (omega (arith, one));
+        none = λ z e. absurd (omega (arith, one));
       };
-      labels = λ z i a p h e. ⊎_elim (λ t. subst (λ (y : ℕ × ℕ × Progress). Label s w n v g r y.0 y.1 y.2) (λ u. (sym t.0 u, sym t.2 u, sym t.3 u)) (k, lead, seen, old, (λ b q. absurd (omega arith)), ⊎_elim inl (λ t. inr (t.0, t.1, t.2, t.3, ((r.works j).found t.0 (t.1 + 1) t.4).1, t.5)) mate)) (λ t. r.labels z i a p t.1 e) (back z i a p h);
+      labels = λ z i a p h e. ⊎_elim (λ t. subst (λ (y : ℕ × ℕ × Progress). Label s w n v g r y.0 y.1 y.2) (λ u. (sym t.0 u, sym t.2 u, sym t.3 u)) (k, lead, seen, old, (λ b q. absurd (omega arith)), ⊎_elim inl (λ t. inr (t.0, t.1, t.2, t.3, ((r.works j).found t.0 (t.1 + 1) t.4).1, (r.walks j).absent (t.1 + 1) t.5)) mate)) (λ t. r.labels z i a p t.1 e) (back z i a p h);
       chains = r.chains;
       names = r.names;
       pins = r.pins;
       works = r.works;
+      walks = r.walks;
       sure = update_cases (λ i u. SureRule s.elements v.ruling.workers w.head w.hist w.born w.died w.name w.row stage' i u) v.sure j unsure (nothing_sure j v.ruling.workers stage')
           (λ i ne. sure_on s.elements v.ruling.workers v.ruling.workers w.head w.hist w.head w.hist w.born w.died w.name w.row w.born w.died w.name w.row g.stage stage' i (v.sure i)
           (λ z h. (head_was i ne z h, refl)) (λ c h. (block_was i ne c h, (λ _. refl), refl, λ _. refl)) (λ z e. (e, (λ _. refl), λ _. refl)) (r.sure i));
       goes = r.goes;
       rules = r.rules;
+      stock = r.stock;
+      note = r.note;
+      retired = r.retired;
       holders = λ z i a p h. ⊎_elim (λ t. inr (ap v.kind t.1 ∙ kind)) (λ t. r.holders z i a p t.1) (back z i a p h);
       hand = r.hand;
     }

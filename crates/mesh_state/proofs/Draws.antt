@@ -1,11 +1,11 @@
--- A draw, the second link, and what is loaded.
-use Rattle.std.proofs.Common.{◌≡◌, ◌≢◌, ℕ, ◌+◌, ◌<◌, ◌≤◌, Bool, false, ◌∷◌, ◌⊎◌, refl, sym, ap, ◌∙◌, subst, inl, inr, ⊎_elim, arith}
+-- A draw.
+use Rattle.std.proofs.Common.{◌≡◌, ◌≢◌, ℕ, ◌+◌, ◌<◌, ◌≤◌, Bool, false, ◌⊎◌, refl, sym, ap, ◌∙◌, subst, inl, inr, ⊎_elim, arith}
 use mathlib.Core.Logic.{dite}
 use native.Mathlib.Decide.{ℕ_discrete}
 use Rattle.mesh_words.specs.Setup.{Setup, places}
 use Rattle.mesh_words.specs.Functions.{update}
 use Rattle.mesh_words.specs.Words.{Words, Node}
-use Rattle.mesh_words.specs.Views.{Views, Sure, unsure}
+use Rattle.mesh_words.specs.Views.{Views, unsure}
 use Rattle.mesh_words.specs.Claims.{Progress, Claimed, Failed, Drawn, Half, Whole, Living, claim, moved_on}
 use Rattle.mesh_words.specs.Places.{member_of}
 use Rattle.mesh_words.specs.Entries.{HasEntry}
@@ -17,7 +17,7 @@ use Rattle.mesh_state.specs.Claims.{Shape, linked, draws, draws_of, bit_of}
 use Rattle.mesh_state.specs.Bisections.{MayRead}
 use Rattle.mesh_state.specs.Sure.{GuardsBlock, GuardsHead, SureRule}
 use Rattle.mesh_state.specs.Rule.{Rule}
-use Rattle.mesh_state.proofs.FoundAgain.{placed, chained_stands, standing, reach_on, names_on, goes_on, Moves}
+use Rattle.mesh_state.proofs.FoundAgain.{placed, chained_stands, standing, reach_on, names_on, goes_on, workers_on, Moves}
 use Rattle.mesh_state.proofs.HeldClaims.{not_open, held_one, free_not, free_loose, loose_not, uses, used_life, shape_on, moved_on_has, moved_on_here, moved_on_keeps, place_of}
 use Rattle.mesh_state.proofs.Across.{Went, first_half}
 use Rattle.mesh_state.proofs.SureWords.{sure_on}
@@ -28,39 +28,10 @@ module _ (s : Setup) (w : Words) (n : ℕ) (v : Views) (g : Ghost) (r : Rule s w
   d = w.round + 1
 
   abbrev A : ℕ → ℕ → Type 0
-  A = Went w.died v.read
+  A = Went w.round w.died v.kind v.work v.read
 
   abbrev Can : ℕ → Type 0
   Can q = MayRead w.round v.ruling.phase v.read q
-
-  -- a seat is sure of more words
-  pub learns_sure : (j : ℕ) (u : Sure) → SureRule s.elements v.ruling.workers w.head w.hist w.born w.died w.name w.row g.stage j u → Rule s w n (record v { sure = update v.sure j u }) g
-  learns_sure j u ok = record { names_apart = r.names_apart; claims = r.claims; labels = r.labels; chains = r.chains; names = r.names; pins = r.pins; works = r.works; sure = update_cases (λ i x. SureRule s.elements v.ruling.workers w.head w.hist w.born w.died w.name w.row g.stage i x) v.sure j u ok (λ i _. r.sure i); goes = r.goes; rules = r.rules; holders = r.holders; hand = r.hand }
-
-  -- a head is loaded
-  pub loads_head : (j x : ℕ) → Rule s w n (record v { sure = update v.sure j (record (v.sure j) { head = (x, w.head x) ∷ (v.sure j).head }) }) g
-  loads_head j x = let i = r.sure j in learns_sure j (record (v.sure j) { head = (x, w.head x) ∷ (v.sure j).head }) record {
-    head_is = λ z l f h. ⊎_elim (λ t. ap w.head (sym t.0) ∙ t.1) (λ t. i.head_is z l t.1 h) f;
-    hist_is = i.hist_is;
-    died_is = i.died_is;
-    name_is = i.name_is;
-    born_is = i.born_is;
-    row_is = i.row_is;
-  }
-
-  pub loads_died : (j b : ℕ) → Rule s w n (record v { sure = update v.sure j (record (v.sure j) { died = (b, w.died b) ∷ (v.sure j).died }) }) g
-  loads_died j b = let i = r.sure j in learns_sure j (record (v.sure j) { died = (b, w.died b) ∷ (v.sure j).died }) record {
-    head_is = i.head_is;
-    hist_is = i.hist_is;
-    died_is = λ c k f h. ⊎_elim (λ t. ap w.died (sym t.0) ∙ t.1) (λ t. i.died_is c k t.1 h) f;
-    name_is = i.name_is;
-    born_is = i.born_is;
-    row_is = i.row_is;
-  }
-
-  -- RELEASED of a round that is left shows that no pin of it is out
-  pub notes_clear : (q : ℕ) → q < w.round → w.released q ≡ g.pins q → Rule s w n (record v { ruling = record v.ruling { clear = q ∷ v.ruling.clear } }) g
-  notes_clear q l e = record { names_apart = r.names_apart; claims = r.claims; labels = r.labels; chains = r.chains; names = r.names; pins = r.pins; works = r.works; sure = r.sure; goes = r.goes; holders = r.holders; hand = r.hand; rules = record { owner = r.rules.owner; one = r.rules.one; workers = r.rules.workers; readers = r.rules.readers; few_readers = r.rules.few_readers; halves = r.rules.halves; clear = λ k h. ⊎_elim (λ t. (subst (λ (x : ℕ). x < w.round) (sym t) l, ap w.released t ∙ e ∙ ap g.pins (sym t))) (r.rules.clear k) h } }
 
   -- the row of the draw names a free block, which is the claim's from now on
   module _ (j x m : ℕ) (mine : HasEntry (v.claims j) (claim x m Claimed)) (kind : v.kind j ≡ 1) where
@@ -72,7 +43,7 @@ module _ (s : Setup) (w : Words) (n : ℕ) (v : Views) (g : Ghost) (r : Rule s w
 
     module _ (q : Progress) (life : ℕ → Life) (used : (b : ℕ) → uses q ≡ b + 1 → (b ≡ w.row w.cursor) × (w.cursor < w.free) × (q ≡ Drawn b))
         (shape : Shape w.round w.head w.born life x m q) (drawn : draws q ≡ 1) (unlinked : (b : ℕ) → linked q ≡ b + 1 → ⊥) (not_half : (b : ℕ) → q ≡ Half b → ⊥) (not_whole : (b : ℕ) → q ≡ Whole b → ⊥) (not_living : (b : ℕ) → q ≡ Living b → ⊥)
-        (same_life : (c : ℕ) → (g.life c ≡ Free → ⊥) → life c ≡ g.life c) (back_life : (c y k : ℕ) → life c ≡ Placed y k → g.life c ≡ Placed y k) (undone_life : (c y k : ℕ) → life c ≡ Undone y k → g.life c ≡ Undone y k) (free_life : (i : ℕ) → w.cursor < i → i < w.free → life (w.row i) ≡ Free) where
+        (same_life : (c : ℕ) → (g.life c ≡ Free → ⊥) → life c ≡ g.life c) (back_life : (c y k : ℕ) → life c ≡ Placed y k → g.life c ≡ Placed y k) (undone_life : (c y k : ℕ) → life c ≡ Undone y k → g.life c ≡ Undone y k) (free_life : (i : ℕ) → w.cursor < i → i < w.free → life (w.row i) ≡ Free) (left_life : (c : ℕ) → g.life c ≡ Free → (life c ≡ Free) ⊎ ((w.cursor < w.free) × (w.row w.cursor ≡ c))) where
       abbrev stage' : ℕ → Stage
       stage' = update g.stage x (Held j m q)
 
@@ -149,12 +120,19 @@ module _ (s : Setup) (w : Words) (n : ℕ) (v : Views) (g : Ghost) (r : Rule s w
             record { head_is = λ z l f h. absurd f; hist_is = λ b t l f h. absurd f; died_is = λ b k f h. absurd f; name_is = λ b t k f h. absurd f; born_is = λ b k f h i. absurd f; row_is = λ b k f h i. absurd f }
             (λ i ne. sure_on s.elements v.ruling.workers v.ruling.workers w.head w.hist w.head w.hist w.born w.died w.name w.row w.born w.died w.name w.row g.stage stage' i (v.sure i)
             (λ z h. (head_was i ne z h, refl)) (λ c h. (block_was i ne c h, (λ _. refl), refl, λ _. refl)) (λ z e. (e, (λ _. refl), λ _. refl)) (r.sure i));
-        goes = λ i. goes_on s w.name w.name w.head w.hist w.head w.hist w.born w.died w.born w.died g.life life (λ _ _ _ _ _. refl) w.round v.ruling.phase g.who v.read Can A moves (λ a p e. (inl (inr (a, e)), r.pins.past a p e)) (λ a p c e h x. (a, e, h, x)) (λ p t. r.names.fits p t) i (r.goes i);
+        walks = λ i. workers_on s w.name w.name w.head w.hist w.head w.hist w.born w.died w.born w.died g.life life (λ _ _ _ _ _. refl) w.round v.ruling.phase g.who v.read Can A moves (inl (inl refl)) (r.names.fits w.round (inl (inl refl))) (λ e. r.names.fits d (inr (refl, omega arith))) (v.kind i) i (v.work i) (λ b k h x. (inr (i, k, refl, h), x)) (r.walks i);
+        goes = λ i. goes_on s w.name w.name w.head w.hist w.head w.hist w.born w.died w.born w.died g.life life (λ _ _ _ _ _. refl) w.round v.ruling.phase g.who v.read Can A moves (λ a p e. (inl (inr (a, e)), r.pins.past a p e)) (λ a p c e h x. (inl (a, e, h), x)) (λ p t. r.names.fits p t) i (r.goes i);
         rules = r.rules;
+        stock = let k = r.stock in record { finished = k.finished; cursor_is = λ i e. absurd ((k.cursor_is i e).0 one); free_is = k.free_is; left = k.left; never = λ c l. ⊎_elim (λ e. ⊎_elim inl (λ t. inr (w.cursor, omega arith, t.0, t.1)) (left_life c e)) (λ t. let u = t.1 in inr (t.0, omega arith, t.2, t.3)) (k.never c l) };
+        note = record { undone = λ c h. let t = r.note.undone c h in (t.0, t.1, same_life c (λ e. free_undone t.0 t.1 (sym e ∙ t.2)) ∙ t.2); all = λ c y k h. r.note.all c y k (undone_life c y k h); placed = λ c y k h. ⊎_elim (λ e. inl (same_life c (λ f. free_not y k (sym f ∙ e)) ∙ e)) (λ e. inr (same_life c (λ f. free_undone y k (sym f ∙ e)) ∙ e)) (r.note.placed c y k h); seen = r.note.seen; quiet = r.note.quiet };
+        retired = λ c y k h e. r.retired c y k (back_life c y k h) e;
         holders = λ z i k p h. ⊎_elim (λ t. inr (ap v.kind t.1 ∙ kind)) (λ t. r.holders z i k p t.1) (back z i k p h);
         hand = λ c h. absurd ((r.hand c h).0 one);
       }
         where
+          free_undone : (y k : ℕ) → Free ≡ Undone y k → ⊥
+          free_undone y k e = cc
+
           room : x < places s
           room = place_of s w.round w.cursor w.free v.ruling.phase w.row w.claimed w.head w.born g.life g.stage v.claims r.claims x j m Claimed is
 
@@ -186,6 +164,7 @@ module _ (s : Setup) (w : Words) (n : ℕ) (v : Views) (g : Ghost) (r : Rule s w
         (λ c y k u. dite (ℕ_discrete c b) (λ e. absurd (loose_not (x + 1) y k (sym (update_at g.life b c (Loose (x + 1)) e) ∙ u))) (λ o. sym (update_other g.life b c (Loose (x + 1)) o) ∙ u))
         (λ c y k u. dite (ℕ_discrete c b) (λ e. absurd (clash4 (x + 1) y k (sym (update_at g.life b c (Loose (x + 1)) e) ∙ u))) (λ o. sym (update_other g.life b c (Loose (x + 1)) o) ∙ u))
         (λ i a m. let t = r.claims.rows i (omega arith) m in update_other g.life b (w.row i) (Loose (x + 1)) (λ (e : w.row i ≡ b). let q = r.claims.apart i w.cursor (omega arith) m (omega arith) l e in omega arith) ∙ t.0)
+        (λ c e. dite (ℕ_discrete c b) (λ k. inr (l, sym k)) (λ o. inl (update_other g.life b c (Loose (x + 1)) o ∙ e)))
       where
         clash1 : (b c : ℕ) → Drawn b ≡ Half c → ⊥
         clash1 b c e = cc
@@ -201,7 +180,7 @@ module _ (s : Setup) (w : Words) (n : ℕ) (v : Views) (g : Ghost) (r : Rule s w
 
     -- it is not: the round is full
     pub draws_none : w.free ≤ w.cursor → Rule s (record w { cursor = w.cursor + 1 }) n (record v { claims = update v.claims j (moved_on (v.claims j) x Failed); sure = update v.sure j unsure }) (record g { stage = update g.stage x (Held j m Failed); life = g.life })
-    draws_none l = draws_any Failed g.life (λ c e. absurd (omega arith)) tt refl (λ c e. absurd (omega arith)) (λ c e. clash1 c e) (λ c e. clash2 c e) (λ c e. clash3 c e) (λ _ _. refl) (λ _ _ _ u. u) (λ _ _ _ u. u) (λ i a m. absurd (omega arith))
+    draws_none l = draws_any Failed g.life (λ c e. absurd (omega arith)) tt refl (λ c e. absurd (omega arith)) (λ c e. clash1 c e) (λ c e. clash2 c e) (λ c e. clash3 c e) (λ _ _. refl) (λ _ _ _ u. u) (λ _ _ _ u. u) (λ i a m. absurd (omega arith)) (λ c e. inl e)
       where
         clash1 : (c : ℕ) → Failed ≡ Half c → ⊥
         clash1 c e = cc

@@ -10,13 +10,13 @@ use Rattle.mesh_words.specs.Claims.{Progress, Drawn, Half, Whole, claim, moved_o
 use Rattle.mesh_words.specs.Places.{member_of, child_place}
 use Rattle.mesh_words.specs.Entries.{HasEntry, Noted}
 use Rattle.mesh_words.proofs.Functions.{update_same, update_at, update_other}
-use Rattle.mesh_state.specs.Ghosts.{Held, Life, Loose, Placed, stands, Ghost}
+use Rattle.mesh_state.specs.Ghosts.{Held, Life, Loose, Placed, Undone, stands, Ghost}
 use Rattle.mesh_state.specs.Chains.{IsPlace, ChainsRule}
 use Rattle.mesh_state.specs.Claims.{Shape, linked, draws}
 use Rattle.mesh_state.specs.Bisections.{MayRead, IsPatch}
 use Rattle.mesh_state.specs.Sure.{GuardsBlock, GuardsHead}
 use Rattle.mesh_state.specs.Rule.{Rule}
-use Rattle.mesh_state.proofs.FoundAgain.{one_more, placed, seen_live, names_on, goes_on, Moves}
+use Rattle.mesh_state.proofs.FoundAgain.{one_more, placed, seen_live, names_on, goes_on, workers_on, Moves}
 use Rattle.mesh_state.proofs.ChainSteps.{links_first, named}
 use Rattle.mesh_state.proofs.HeldClaims.{not_open, held_one, loose_not, free_not, free_loose, placed_one, uses, used_life, shape_on, one_user, heads_apart}
 use Rattle.mesh_state.proofs.Across.{Went, Of, some_worker, first_half, name_one, settled}
@@ -29,7 +29,7 @@ module _ (s : Setup) (w : Words) (n : ℕ) (v : Views) (g : Ghost) (r : Rule s w
   d = w.round + 1
 
   abbrev A : ℕ → ℕ → Type 0
-  A = Went w.died v.read
+  A = Went w.round w.died v.kind v.work v.read
 
   abbrev Can : ℕ → Type 0
   Can q = MayRead w.round v.ruling.phase v.read q
@@ -103,6 +103,12 @@ module _ (s : Setup) (w : Words) (n : ℕ) (v : Views) (g : Ghost) (r : Rule s w
     not_x : (z : ℕ) → Of x m z → (y : ℕ) → (y ≡ x) → (y ≢ z) ⊎ (y ≡ z)
     not_x z o y e = dite (ℕ_discrete y z) inr inl
 
+    placed_undone : (x m y k : ℕ) → Placed x m ≡ Undone y k → ⊥
+    placed_undone x m y k e = cc
+
+    loose_undone : (i y k : ℕ) → Loose i ≡ Undone y k → ⊥
+    loose_undone i y k e = cc
+
     -- how far the claim comes: a patch of one member is linked whole
     pub links : (q : Progress) → ((q ≡ Half b) ⊎ ((q ≡ Whole b) × (m ≡ 0)))
         → Rule s (record w { head = head' }) n (record v { claims = update v.claims j (moved_on (v.claims j) x q) }) (record g { stage = update g.stage x (Held j m q); life = life' })
@@ -135,8 +141,12 @@ module _ (s : Setup) (w : Words) (n : ℕ) (v : Views) (g : Ghost) (r : Rule s w
           (λ c h. (block_back s.elements v.ruling.workers g.stage x j m (Drawn b) q is not_drawn half_is i c h, (λ _. refl), refl, λ _. refl))
           (λ z e. let t = some_worker s w n v g r j kind in absurd (omega arith))
           (r.sure i);
-      goes = λ i. goes_on s w.name w.name w.head w.hist head' w.hist w.born w.died w.born w.died g.life life' (λ _ _ _ _ _. refl) w.round v.ruling.phase g.who v.read Can A step_chains.1 (λ a p e. (inl (inr (a, e)), r.pins.past a p e)) (λ a p c e h x. (a, e, h, x)) (λ p t. r.names.fits p t) i (r.goes i);
+      walks = λ i. workers_on s w.name w.name w.head w.hist head' w.hist w.born w.died w.born w.died g.life life' (λ _ _ _ _ _. refl) w.round v.ruling.phase g.who v.read Can A step_chains.1 (inl (inl refl)) (r.names.fits w.round (inl (inl refl))) (λ e. r.names.fits d (inr (refl, omega arith))) (v.kind i) i (v.work i) (λ b k h x. (inr (i, k, refl, h), x)) (r.walks i);
+      goes = λ i. goes_on s w.name w.name w.head w.hist head' w.hist w.born w.died w.born w.died g.life life' (λ _ _ _ _ _. refl) w.round v.ruling.phase g.who v.read Can A step_chains.1 (λ a p e. (inl (inr (a, e)), r.pins.past a p e)) (λ a p c e h x. (inl (a, e, h), x)) (λ p t. r.names.fits p t) i (r.goes i);
       rules = r.rules;
+      stock = let k = r.stock in record { finished = k.finished; cursor_is = k.cursor_is; free_is = k.free_is; left = k.left; never = λ c l. ⊎_elim (λ e. inl (off c (λ (f : c ≡ b). free_loose (x + 1) (sym e ∙ ap g.life f ∙ shape.0)) ∙ e)) inr (k.never c l) };
+      note = record { undone = λ c h. let t = r.note.undone c h in (t.0, t.1, off c (λ (f : c ≡ b). loose_undone (x + 1) t.0 t.1 (sym shape.0 ∙ ap g.life (sym f) ∙ t.2)) ∙ t.2); all = λ c y k h. dite (ℕ_discrete c b) (λ e. absurd (placed_undone x m y k (sym (update_at g.life b c (Placed x m) e) ∙ h))) (λ o. r.note.all c y k (sym (off c o) ∙ h)); placed = λ c y k h. ⊎_elim (λ e. inl (off c (λ (f : c ≡ b). loose_not (x + 1) y k (sym shape.0 ∙ ap g.life (sym f) ∙ e)) ∙ e)) (λ e. inr (off c (λ (f : c ≡ b). loose_undone (x + 1) y k (sym shape.0 ∙ ap g.life (sym f) ∙ e)) ∙ e)) (r.note.placed c y k h); seen = r.note.seen; quiet = r.note.quiet };
+      retired = λ c y i u e. ⊎_elim (λ t. let f : w.died c ≡ w.died b = ap w.died t.0 in let z = (r.sure j).died_is b 0 died guard in absurd (omega arith)) (λ t. r.retired c y i t.1 e) (back c y i u);
       holders = λ z i c p h. dite (ℕ_discrete z x) (λ f. let t = (held_one j i m c q p (sym (update_at g.stage x z (Held j m q) f) ∙ h)).0 in inr (ap v.kind (sym t) ∙ kind)) (λ o. r.holders z i c p (sym (update_other g.stage x z (Held j m q) o) ∙ h));
       hand = λ c h. absurd ((r.hand c h).0 one);
     }

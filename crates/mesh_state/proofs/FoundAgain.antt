@@ -1,14 +1,18 @@
 -- What is found before a step is found after it.
 use Rattle.std.proofs.Common.{◌≡◌, ℕ, ◌+◌, ◌<◌, ◌≤◌, Bool, true, false, List, [], ◌∷◌, ◌⊎◌, refl, sym, ap, ◌∙◌, subst, inl, inr, ⊎_elim, arith}
 use Rattle.mesh_words.specs.Setup.{Setup}
+use mathlib.Core.Logic.{dite}
+use native.Mathlib.Decide.{ℕ_discrete}
 use Rattle.mesh_words.specs.Words.{Node}
 use Rattle.mesh_words.specs.Places.{member_of, child_place}
-use Rattle.mesh_words.specs.Views.{Walk, Still, At, Past, Read}
+use Rattle.mesh_words.specs.Views.{Work, Walk, Still, At, Past, Read}
 use Rattle.mesh_words.specs.Entries.{HasEntry}
 use Rattle.mesh_state.specs.Ghosts.{Life, Free, Loose, Placed, Undone, chained, stands}
 use Rattle.mesh_state.specs.Chains.{Covers, Finds, Reaches, IsPlace}
 use Rattle.mesh_state.specs.Bisections.{IsPlaceOf, Fits, IsSound, MayRead, IsPatch, NamesRule}
+use Rattle.mesh_state.specs.Work.{IsWorkPlace, WorkWalks, WalkRule}
 use Rattle.mesh_state.specs.Readers.{Walks, ReaderRule}
+use Rattle.mesh_state.specs.Fresh.{idle}
 
 pub one_more : (a b : ℕ) → a + 1 ≡ b + 1 → a ≡ b
 one_more a b e = omega arith
@@ -163,6 +167,7 @@ module _ (s : Setup) (name name' : ℕ → ℕ) (head hist head' hist' : ℕ →
       patch = patch;
       calm = calm;
       grows = n.grows;
+      either = n.either;
       fresh = n.fresh;
     }
 
@@ -170,6 +175,7 @@ module _ (s : Setup) (name name' : ℕ → ℕ) (head hist head' hist' : ℕ →
     goes_on pinned gone fits j g = record {
       went = λ q b p h. let t = g.went q b p h in let k = pinned j q p in ((t.0.0, t.0.1, m.stand q b t.0.0 t.0.1 k.0 (gone j q b p h t.1) t.0.2), m.alive q b t.0.0 t.0.1 k.1 t.0.2 t.1);
       walk = λ q p. walk_on q p (read j).walk (g.walk q p);
+      places = λ q x n p h. seen_on (who q) q x n (fits q (pinned j q p).0) (g.places q x n p h);
       yes_notes = g.yes_notes;
       no_notes = g.no_notes;
     }
@@ -181,12 +187,80 @@ module _ (s : Setup) (name name' : ℕ → ℕ) (head hist head' hist' : ℕ →
         walk_on q p (Past x n b t) h = let k = pinned j q p in let a = g.went q b p h.0 in
             (h.0, m.stand q b t x k.0 (gone j q b p h.0 a.1) h.1, seen_on (who q) q x n (fits q k.0) h.2, λ c w. m.hists q b t x c k.0 (gone j q b p h.0 a.1) h.1 (h.3 c w))
 
+    -- what a worker knows of the last finished round, and where it walks
+    pub workers_on : K round → Fits s name head hist born died life (who round) round → (phase ≡ 1 → Fits s name head hist born died life (who (round + 1)) (round + 1)) → (kind seat : ℕ) (v : Work)
+        → ((b : ℕ) → kind ≡ 1 → HasEntry v.went b → (died b ≡ 0) ⊎ (round < died b) → A round b)
+        → WalkRule s round phase name hist born died life who kind seat v → WalkRule s round phase name' hist' born' died' life' who kind seat v
+    workers_on now last next kind seat v gone g = record {
+      still = g.still;
+      only = g.only;
+      half = g.half;
+      absent = g.absent;
+      stood = λ x n h. seen_on (who round) round x n last (g.stood x n h);
+      had = g.had;
+      went = λ b h. let t = g.went b h in ((t.0.0, t.0.1, m.stand round b t.0.0 t.0.1 now (gone b (worker b h) h t.1) t.0.2), m.alive round b t.0.0 t.0.1 (omega arith) t.0.2 t.1);
+      walk = walk_on v.walk g.walk;
+    }
+      where
+        worker : (b : ℕ) → HasEntry v.went b → kind ≡ 1
+        worker b h = dite (ℕ_discrete kind 1) (λ e. e) (λ o. absurd (subst (λ (l : List ℕ). HasEntry l b) (g.still o).0 h))
+
+        place_on : (x n : ℕ) → IsWorkPlace s round phase name who x n → IsWorkPlace s round phase name' who x n
+        place_on x n h = ⊎_elim (λ t. inl (t.0, seen_on (who (round + 1)) (round + 1) x n (next t.0) t.1)) (λ t. inr (seen_on (who round) round x n last t)) h
+
+        walk_on : (u : Walk) → WorkWalks s round phase name hist born died life who v.went u → WorkWalks s round phase name' hist' born' died' life' who v.went u
+        walk_on Still h = tt
+        walk_on (At x n b t) h = let a = g.went b h.0 in let f = gone b (worker b h.0) h.0 a.1 in
+            (h.0, m.stand round b t x now f h.1, place_on x n h.2, λ c w. ⊎_elim (λ z. inl (z.0, subst (Covers born' died' round) z.0 (m.on round b t x now h.1 (subst (Covers born died round) (sym z.0) z.1)))) (λ z. inr (m.hists round b t x c now f h.1 z)) (h.3 c w))
+        walk_on (Past x n b t) h = let a = g.went b h.0 in let f = gone b (worker b h.0) h.0 a.1 in
+            (h.0, m.stand round b t x now f h.1, place_on x n h.2, λ c w. m.hists round b t x c now f h.1 (h.3 c w))
+
+-- workers see what the first half adds
+pub workers_who : (s : Setup) (round phase : ℕ) (name : ℕ → ℕ) (hist : ℕ → Node) (born died : ℕ → ℕ) (life : ℕ → Life) (who who' : ℕ → ℕ → ℕ) → who' round ≡ who round → (phase ≡ 1 → (x n : ℕ) → IsPlaceOf s name (who (round + 1)) x n → IsPlaceOf s name (who' (round + 1)) x n)
+    → (kind seat : ℕ) (v : Work) → WalkRule s round phase name hist born died life who kind seat v → WalkRule s round phase name hist born died life who' kind seat v
+workers_who s round phase name hist born died life who who' same more kind seat v g = record {
+  still = g.still;
+  only = g.only;
+  half = g.half;
+  absent = λ n h. ap (λ (f : ℕ → ℕ). f n) same ∙ g.absent n h;
+  stood = λ x n h. subst (λ (f : ℕ → ℕ). IsPlaceOf s name f x n) (sym same) (g.stood x n h);
+  had = λ b n h. ap (λ (f : ℕ → ℕ). f n) same ∙ g.had b n h;
+  went = g.went;
+  walk = walk_on v.walk g.walk;
+}
+  where
+    place_on : (x n : ℕ) → IsWorkPlace s round phase name who x n → IsWorkPlace s round phase name who' x n
+    place_on x n h = ⊎_elim (λ t. inl (t.0, more t.0 x n t.1)) (λ t. inr (subst (λ (f : ℕ → ℕ). IsPlaceOf s name f x n) (sym same) t)) h
+
+    walk_on : (u : Walk) → WorkWalks s round phase name hist born died life who v.went u → WorkWalks s round phase name hist born died life who' v.went u
+    walk_on Still h = tt
+    walk_on (At x n b t) h = (h.0, h.1, place_on x n h.2, λ c w. h.3 c (sym (ap (λ (f : ℕ → ℕ). f n) same) ∙ w))
+    walk_on (Past x n b t) h = (h.0, h.1, place_on x n h.2, λ c w. h.3 c (sym (ap (λ (f : ℕ → ℕ). f n) same) ∙ w))
+
+-- a seat that does not walk
+pub walks_idle : (s : Setup) (round phase : ℕ) (name : ℕ → ℕ) (hist : ℕ → Node) (born died : ℕ → ℕ) (life : ℕ → Life) (who : ℕ → ℕ → ℕ) (kind seat half : ℕ) → (kind ≡ 1 → half ≡ phase) → WalkRule s round phase name hist born died life who kind seat (record idle { half = half })
+walks_idle s round phase name hist born died life who kind seat half said = record { half = said; still = λ _. (refl, refl); only = λ _ _. (refl, refl, refl, refl); absent = λ n h. absurd h; stood = λ x n h. absurd h; had = λ b n h. absurd h; went = λ b h. absurd h; walk = tt }
+
+-- a seat that is no worker's keeps what it knows of the last finished round
+pub walks_home : (s : Setup) (round phase phase' : ℕ) (name : ℕ → ℕ) (hist hist' : ℕ → Node) (born died born' died' : ℕ → ℕ) (life life' : ℕ → Life) (who : ℕ → ℕ → ℕ) (kind seat : ℕ) (v : Work) → (kind ≡ 1 → ⊥) → WalkRule s round phase name hist born died life who kind seat v → WalkRule s round phase' name hist' born' died' life' who kind seat v
+walks_home s round phase phase' name hist hist' born died born' died' life life' who kind seat v other g = let e = g.still other in record {
+  still = g.still;
+  only = g.only;
+  half = λ e. absurd (other e);
+  absent = g.absent;
+  stood = g.stood;
+  had = g.had;
+  went = λ b h. absurd (subst (λ (l : List ℕ). HasEntry l b) e.0 h);
+  walk = subst (λ (u : Walk). WorkWalks s round phase' name hist' born' died' life' who v.went u) (sym e.1) tt;
+}
+
 -- readers see the finished rounds only
 pub goes_who : (s : Setup) (round : ℕ) (name : ℕ → ℕ) (hist : ℕ → Node) (born died : ℕ → ℕ) (life : ℕ → Life) (who who' : ℕ → ℕ → ℕ) → ((q : ℕ) → q ≤ round → who' q ≡ who q) → (v : Read) → ((q : ℕ) → v.pin ≡ q + 1 → q ≤ round)
     → ReaderRule s round name hist born died life who v → ReaderRule s round name hist born died life who' v
 goes_who s round name hist born died life who who' same v low g = record {
   went = g.went;
   walk = λ q p. subst (λ (f : ℕ → ℕ). Walks s name hist born died life f q v.went v.walk) (sym (same q (low q p))) (g.walk q p);
+  places = λ q x n p h. subst (λ (f : ℕ → ℕ). IsPlaceOf s name f x n) (sym (same q (low q p))) (g.places q x n p h);
   yes_notes = λ n q h. let t = g.yes_notes n q h in (t.0, (t.1.0, ap (λ (f : ℕ → ℕ). f n) (same q t.0) ∙ t.1.1));
   no_notes = λ n q h. let t = g.no_notes n q h in (t.0, ap (λ (f : ℕ → ℕ). f n) (same q t.0) ∙ t.1);
 }

@@ -7,8 +7,9 @@ use Rattle.mesh_state.specs.Sure.{SureRule}
 use Rattle.mesh_state.specs.Fresh.{noted_below, fresh_words, fresh_kind, fresh_sure, fresh_views, fresh_ghost, FreshIsLawful}
 use Rattle.mesh_words.specs.Sums.{sum_below, one_where}
 use Rattle.mesh_words.specs.Words.{node}
-use Rattle.mesh_state.specs.Ghosts.{Open, Free, Placed}
+use Rattle.mesh_state.specs.Ghosts.{Open, Free, Placed, Undone}
 use Rattle.mesh_state.specs.Rule.{Rule}
+use Rattle.mesh_state.proofs.FoundAgain.{walks_idle}
 use Rattle.mesh_state.proofs.HeldClaims.{not_open}
 
 noted_is : (n : ℕ) (f : ℕ → ℕ) (i a : ℕ) → Noted (noted_below n f) i a → (i < n) × (f i ≡ a)
@@ -53,13 +54,18 @@ starts s a = record {
     patch = λ b x m u. absurd (free_not x m u);
     calm = λ b x m l u. omega arith;
     grows = λ i b l e. absurd (omega arith);
+    either = λ i b l e. absurd (omega arith);
     fresh = λ i e. refl;
   };
   pins = record { now = refl; later = λ q l. (refl, refl); count = λ q. let z : one_where 0 (q + 1) ≡ 0 = ap (λ (t : Bool). cond {A = ℕ} t 1 0) (ne_eqb 0 (q + 1) (λ (e : 0 ≡ q + 1). omega arith)) in omega arith; past = λ j q e. absurd (omega arith); few = λ j l. few j l; readers = λ j o. (refl, refl); bit = λ j. omega arith; bound = omega arith };
   works = λ j. record { only = λ _ _. (refl, refl, refl, refl); found = λ x k h. absurd h; known = λ k h. absurd h; open_ = λ k h. absurd h; given = λ b k h. absurd h };
+  walks = λ j. walks_idle s 0 0 (λ _. 0) (λ _. node 0 0) (λ _. 0) (λ _. 0) (λ _. Free) (λ _ _. 0) (fresh_kind j) j 0 (λ _. refl);
   sure = sure_is;
-  goes = λ j. record { went = λ q b p h. absurd h; walk = λ q p. tt; yes_notes = λ k q h. absurd h; no_notes = λ k q h. absurd h };
+  goes = λ j. record { went = λ q b p h. absurd h; walk = λ q p. tt; places = λ q x k p h. absurd h; yes_notes = λ k q h. absurd h; no_notes = λ k q h. absurd h };
   rules = record { owner = (refl, omega arith); one = λ j e. only j e; workers = refl; readers = refl; few_readers = omega arith; halves = λ _ _. refl; clear = λ q h. absurd h };
+  stock = record { finished = refl; cursor_is = λ k e. ((λ f. omega arith), omega arith); free_is = λ k e. omega arith; never = λ b l. inl refl; left = λ q k h. absurd h };
+  note = record { undone = λ b h. absurd h; all = λ b x m e. absurd (free_undone x m e); placed = λ b x m h. absurd h; seen = λ x e. absurd (omega arith); quiet = λ e. absurd (omega arith) };
+  retired = λ b x m u e. absurd (free_not x m u);
   holders = λ x j m p h. absurd (not_open j m p (sym h));
   hand = λ b h. ((λ e. omega arith), refl);
 }
@@ -67,6 +73,9 @@ starts s a = record {
     sure_is : (j : ℕ) → SureRule s.elements 0 (λ _. node 0 0) (λ _. node 0 0) (λ _. 0) (λ _. 0) (λ _. 0) (fresh_words s.pool).row (λ _. Open) j (fresh_sure s.pool j)
     sure_is zero = record { head_is = λ z l f h. absurd f; hist_is = λ b t l f h. absurd f; died_is = λ b k f h. absurd f; name_is = λ b t k f h. absurd f; born_is = λ b k f h i. (noted_is s.pool (λ _. 0) b k f).1; row_is = λ b k f h i. let t = noted_is s.pool (λ i. i) b k f in row_is s.pool b t.0 ∙ t.1 }
     sure_is (suc j) = record { head_is = λ z l f h. absurd f; hist_is = λ b t l f h. absurd f; died_is = λ b k f h. absurd f; name_is = λ b t k f h. absurd f; born_is = λ b k f h i. absurd f; row_is = λ b k f h i. absurd f }
+
+    free_undone : (x m : ℕ) → Free ≡ Undone x m → ⊥
+    free_undone x m e = cc
 
     free_not : (x m : ℕ) → Free ≡ Placed x m → ⊥
     free_not x m e = cc

@@ -6,6 +6,7 @@ use Rattle.mesh_words.specs.Setup.{Setup}
 use Rattle.mesh_words.specs.Functions.{update}
 use Rattle.mesh_words.specs.Sums.{sum_below, one_where}
 use Rattle.mesh_words.specs.Words.{Words}
+use Rattle.mesh_words.specs.Entries.{HasEntry}
 use Rattle.mesh_words.specs.Views.{Views, Read}
 use Rattle.mesh_words.proofs.Functions.{update_same, update_at, update_other, update_cases}
 use Rattle.mesh_words.proofs.Sums.{sum_update, sum_same, sum_le}
@@ -13,6 +14,7 @@ use Rattle.mesh_words.proofs.Entries.{entry_of_both}
 use Rattle.mesh_state.specs.Bisections.{MayRead}
 use Rattle.mesh_state.specs.Readers.{ReaderRule}
 use Rattle.mesh_state.specs.Ghosts.{Ghost}
+use Rattle.mesh_state.specs.Owner.{NoneWent}
 use Rattle.mesh_state.specs.Rule.{Rule}
 use Rattle.mesh_state.specs.Fresh.{blank}
 
@@ -44,6 +46,14 @@ module _ (s : Setup) (w : Words) (n : ℕ) (v : Views) (g : Ghost) (r : Rule s w
   was : (i k : ℕ) → k ≢ 0 → update v.kind j 0 i ≡ k → v.kind i ≡ k
   was i k z e = dite (ℕ_discrete i j) (λ f. absurd (z (sym e ∙ update_at v.kind j i 0 f))) (λ f. sym (update_other v.kind j i 0 f) ∙ e)
 
+  -- a seat that is no worker's was none
+  kept_work : (i : ℕ) → (update v.kind j 0 i ≡ 1 → ⊥) → v.kind i ≡ 1 → ⊥
+  kept_work i o k = o (dite (ℕ_discrete i j) (λ e. let y : v.kind i ≡ v.kind j = ap v.kind e in absurd (omega arith)) (λ f. update_other v.kind j i 0 f ∙ k))
+
+  none_went : NoneWent w.round v.read v.ruling.undone → NoneWent w.round read' v.ruling.undone
+  none_went ok = update_cases (λ _ x. (b : ℕ) → x.pin ≡ w.round + 1 → HasEntry x.went b → HasEntry v.ruling.undone b → ⊥) (update v.read 0 own) j (blank []) (λ b p h m. absurd h)
+      (λ i _. update_cases (λ _ x. (b : ℕ) → x.pin ≡ w.round + 1 → HasEntry x.went b → HasEntry v.ruling.undone b → ⊥) v.read 0 own (λ b p h m. ok 0 b p h m) (λ i _. ok i) i)
+
   pub leaves : (readers : ℕ) → v.ruling.readers ≡ readers + 1
       → Rule s w n (record v { kind = update v.kind j 0; read = update (update v.read 0 (record (v.read 0) { notes = (v.read 0).notes ++ (v.read j).notes })) j (blank []); ruling = record v.ruling { readers = readers } }) g
   leaves readers one = record {
@@ -51,7 +61,7 @@ module _ (s : Setup) (w : Words) (n : ℕ) (v : Views) (g : Ghost) (r : Rule s w
     claims = r.claims;
     labels = r.labels;
     chains = r.chains;
-    names = record { fits = λ q k. r.names.fits q (back q k); sound = λ q k. r.names.sound q (back q k); patch = r.names.patch; calm = r.names.calm; grows = r.names.grows; fresh = r.names.fresh };
+    names = record { fits = λ q k. r.names.fits q (back q k); sound = λ q k. r.names.sound q (back q k); patch = r.names.patch; calm = r.names.calm; grows = r.names.grows; either = r.names.either; fresh = r.names.fresh };
     pins = record {
       now = r.pins.now;
       later = r.pins.later;
@@ -64,11 +74,12 @@ module _ (s : Setup) (w : Words) (n : ℕ) (v : Views) (g : Ghost) (r : Rule s w
       bound = let a = sum_le n (λ i. (read' i).ready) (λ i. (v.read i).ready) ready_le in let b = r.pins.bound in omega arith;
     };
     works = λ i. let t = r.works i in record { only = λ o z. t.only (λ k. o (dite (ℕ_discrete i j) (λ e. let y : v.kind i ≡ v.kind j = ap v.kind e in absurd (omega arith)) (λ f. update_other v.kind j i 0 f ∙ k))) z; found = t.found; known = t.known; open_ = t.open_; given = t.given };
+    walks = λ i. let t = r.walks i in record { still = λ o. t.still (kept_work i o); only = λ o. t.only (kept_work i o); half = λ e. t.half (was i 1 (λ z. omega arith) e); absent = t.absent; stood = t.stood; had = t.had; went = t.went; walk = t.walk };
     sure = r.sure;
     goes = update_cases (λ _ u. ReaderRule s w.round w.name w.hist w.born w.died g.life g.who u) (update v.read 0 own) j (blank [])
-        record { went = λ q b p f. absurd f; walk = λ q p. tt; yes_notes = λ k q h. absurd h; no_notes = λ k q h. absurd h }
+        record { went = λ q b p f. absurd f; walk = λ q p. tt; places = λ q x k p h. absurd h; yes_notes = λ k q h. absurd h; no_notes = λ k q h. absurd h }
         (λ i _. update_cases (λ _ u. ReaderRule s w.round w.name w.hist w.born w.died g.life g.who u) v.read 0 own
-        (let a = r.goes 0 in let b = r.goes j in record { went = a.went; walk = a.walk; yes_notes = λ k q h. ⊎_elim (λ t. a.yes_notes k q t) (λ t. b.yes_notes k q t) (entry_of_both (v.read 0).notes (v.read j).notes _ h); no_notes = λ k q h. ⊎_elim (λ t. a.no_notes k q t) (λ t. b.no_notes k q t) (entry_of_both (v.read 0).notes (v.read j).notes _ h) })
+        (let a = r.goes 0 in let b = r.goes j in record { went = a.went; walk = a.walk; places = a.places; yes_notes = λ k q h. ⊎_elim (λ t. a.yes_notes k q t) (λ t. b.yes_notes k q t) (entry_of_both (v.read 0).notes (v.read j).notes _ h); no_notes = λ k q h. ⊎_elim (λ t. a.no_notes k q t) (λ t. b.no_notes k q t) (entry_of_both (v.read 0).notes (v.read j).notes _ h) })
         (λ i _. r.goes i) i);
     rules = record {
       owner = (update_other v.kind j 0 0 (λ e. far (sym e)) ∙ r.rules.owner.0, r.rules.owner.1);
@@ -79,6 +90,9 @@ module _ (s : Setup) (w : Words) (n : ℕ) (v : Views) (g : Ghost) (r : Rule s w
       halves = r.rules.halves;
       clear = r.rules.clear;
     };
+    stock = record { finished = r.stock.finished; cursor_is = r.stock.cursor_is; free_is = r.stock.free_is; never = r.stock.never; left = r.stock.left };
+    note = record { undone = r.note.undone; all = r.note.all; placed = r.note.placed; seen = λ x e. let t = r.note.seen x e in (t.0, t.1, t.2, λ f. none_went (t.3 f)); quiet = λ e. none_went (r.note.quiet e) };
+    retired = r.retired;
     holders = λ x i m p h. ⊎_elim inl (λ k. inr (dite (ℕ_discrete i j) (λ e. let y : v.kind i ≡ v.kind j = ap v.kind e in absurd (omega arith)) (λ f. update_other v.kind j i 0 f ∙ k))) (r.holders x i m p h);
     hand = r.hand;
   }

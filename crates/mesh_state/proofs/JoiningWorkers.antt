@@ -1,12 +1,12 @@
 -- A worker's pass ends, and the owner has its claims and what it knows.
-use Rattle.std.proofs.Common.{◌≡◌, ◌≢◌, ℕ, ◌+◌, ◌<◌, ◌≤◌, ◌==◌, cond, Bool, [], ◌++◌, ◌⊎◌, refl, sym, ap, ◌∙◌, inl, inr, ⊎_elim, arith, eq-eqb, ne_eqb}
+use Rattle.std.proofs.Common.{◌≡◌, ◌≢◌, ℕ, ◌+◌, ◌<◌, ◌≤◌, ◌==◌, cond, Bool, [], ◌++◌, ◌⊎◌, refl, sym, ap, ◌∙◌, inl, inr, ⊎_elim, arith, eq-eqb, ne_eqb, subst}
 use mathlib.Core.Logic.{dite}
 use native.Mathlib.Decide.{ℕ_discrete, dec_lt}
 use Rattle.mesh_words.specs.Setup.{Setup, places}
 use Rattle.mesh_words.specs.Functions.{update}
 use Rattle.mesh_words.specs.Sums.{sum_below, one_where}
 use Rattle.mesh_words.specs.Words.{Words}
-use Rattle.mesh_words.specs.Views.{Views, Work, unsure}
+use Rattle.mesh_words.specs.Views.{Views, Work, Still, unsure}
 use Rattle.mesh_words.specs.Claims.{Progress, Drawn, Half, Whole, Living, claim}
 use Rattle.mesh_words.specs.Entries.{HasEntry}
 use Rattle.mesh_words.proofs.Functions.{update_same, update_at, update_other, update_cases}
@@ -14,9 +14,10 @@ use Rattle.mesh_words.proofs.Sums.{sum_update, sum_same}
 use Rattle.mesh_words.proofs.Entries.{entry_of_both, entry_left, entry_right}
 use Rattle.mesh_state.specs.Ghosts.{Stage, Open, Held, Ghost}
 use Rattle.mesh_state.specs.Claims.{draws_of, bit_of}
-use Rattle.mesh_state.specs.Work.{WorkRule}
+use Rattle.mesh_state.specs.Work.{WorkRule, WalkRule}
 use Rattle.mesh_state.specs.Sure.{GuardsBlock, GuardsHead, SureRule}
 use Rattle.mesh_state.specs.Rule.{Rule}
+use Rattle.mesh_state.proofs.FoundAgain.{walks_idle}
 use Rattle.mesh_state.proofs.HeldClaims.{not_open, held_one}
 use Rattle.mesh_state.specs.Fresh.{idle}
 
@@ -67,12 +68,12 @@ module _ (s : Setup) (w : Words) (n : ℕ) (v : Views) (g : Ghost) (r : Rule s w
   kind_sum : (k : ℕ) → sum_below n (λ i. one_where (update v.kind j 0 i) k) + one_where (v.kind j) k ≡ sum_below n (λ i. one_where (v.kind i) k) + one_where 0 k
   kind_sum k = sum_update n (λ i. one_where (v.kind i) k) (λ i. one_where (update v.kind j 0 i) k) j inside (λ i o. ap (λ (x : ℕ). one_where x k) (update_other v.kind j i 0 o)) ∙ ap (λ (x : ℕ). sum_below n (λ i. one_where (v.kind i) k) + one_where x k) (update_same v.kind j 0)
 
-  joined : Work
-  joined = record { found = (v.work 0).found ++ (v.work j).found; known = (v.work 0).known ++ (v.work j).known; open_ = (v.work 0).open_ ++ (v.work j).open_; given = (v.work 0).given ++ (v.work j).given }
+  abbrev joined : Work
+  joined = record { half = 0; found = (v.work 0).found ++ (v.work j).found; known = (v.work 0).known ++ (v.work j).known; open_ = (v.work 0).open_ ++ (v.work j).open_; given = (v.work 0).given ++ (v.work j).given; absent = (v.work 0).absent ++ (v.work j).absent; stood = (v.work 0).stood ++ (v.work j).stood; had = (v.work 0).had ++ (v.work j).had; retired = (v.work 0).retired ++ (v.work j).retired; went = []; walk = Still }
 
   -- the owner has the claims and the knowledge of both, and is sure of no word
   pub joins : (workers : ℕ) → v.ruling.workers ≡ workers + 1
-      → Rule s w n (record v { kind = update v.kind j 0; claims = update (update v.claims 0 (v.claims 0 ++ v.claims j)) j []; work = update (update v.work 0 record { found = (v.work 0).found ++ (v.work j).found; known = (v.work 0).known ++ (v.work j).known; open_ = (v.work 0).open_ ++ (v.work j).open_; given = (v.work 0).given ++ (v.work j).given }) j idle; sure = update (update v.sure 0 unsure) j unsure; ruling = record v.ruling { workers = workers } }) (record g { stage = λ x. moved j (g.stage x) })
+      → Rule s w n (record v { kind = update v.kind j 0; claims = update (update v.claims 0 (v.claims 0 ++ v.claims j)) j []; work = update (update v.work 0 record { half = 0; found = (v.work 0).found ++ (v.work j).found; known = (v.work 0).known ++ (v.work j).known; open_ = (v.work 0).open_ ++ (v.work j).open_; given = (v.work 0).given ++ (v.work j).given; absent = (v.work 0).absent ++ (v.work j).absent; stood = (v.work 0).stood ++ (v.work j).stood; had = (v.work 0).had ++ (v.work j).had; retired = (v.work 0).retired ++ (v.work j).retired; went = []; walk = Still }) j idle; sure = update (update v.sure 0 unsure) j unsure; ruling = record v.ruling { workers = workers } }) (record g { stage = λ x. moved j (g.stage x) })
   joins workers one = record {
     names_apart = r.names_apart;
     claims = record {
@@ -109,6 +110,19 @@ module _ (s : Setup) (w : Words) (n : ℕ) (v : Views) (g : Ghost) (r : Rule s w
         })
         record { only = λ _ _. (refl, refl, refl, refl); found = λ x k h. absurd h; known = λ k h. absurd h; open_ = λ k h. absurd h; given = λ c k h. absurd h }
         (λ i a b. let t = r.works i in record { only = λ o. t.only (λ k. o (update_other v.kind j i 0 b ∙ k)); found = t.found; known = t.known; open_ = t.open_; given = t.given }) i;
+    walks = λ i. let K : ℕ → ℕ = update v.kind j 0 in two_at (λ i u. WalkRule s w.round v.ruling.phase w.name w.hist w.born w.died g.life g.who (K i) i u) v.work _ idle
+        (let a = r.walks 0 in let b = r.walks j in record {
+          still = λ _. (refl, refl);
+          only = λ _ z. absurd (z refl);
+          half = λ e. let z = update_other v.kind j 0 0 (λ e. far (sym e)) in let y = r.rules.owner.0 in absurd (omega arith);
+          absent = λ k h. ⊎_elim (λ t. a.absent k t) (λ t. b.absent k t) (entry_of_both (v.work 0).absent (v.work j).absent k h);
+          stood = λ x k h. ⊎_elim (λ t. a.stood x k t) (λ t. b.stood x k t) (entry_of_both (v.work 0).stood (v.work j).stood (x, k) h);
+          had = λ c k h. ⊎_elim (λ t. a.had c k t) (λ t. b.had c k t) (entry_of_both (v.work 0).had (v.work j).had (c, k) h);
+          went = λ c h. absurd h;
+          walk = tt;
+        })
+        (walks_idle s w.round v.ruling.phase w.name w.hist w.born w.died g.life g.who (K j) j 0 (λ e. let z = update_same v.kind j 0 in absurd (omega arith)))
+        (λ i a b. let t = r.walks i in record { still = λ o. t.still (λ k. o (update_other v.kind j i 0 b ∙ k)); only = λ o. t.only (λ k. o (update_other v.kind j i 0 b ∙ k)); half = λ e. t.half (sym (update_other v.kind j i 0 b) ∙ e); absent = t.absent; stood = t.stood; had = t.had; went = t.went; walk = t.walk }) i;
     sure = two_at (λ i u. SureRule s.elements workers w.head w.hist w.born w.died w.name w.row stage' i u) v.sure unsure unsure (nothing_sure 0) (nothing_sure j) (λ i a b. let t = r.sure i in record {
       head_is = λ z l f h. t.head_is z l f (head_was i a z h);
       hist_is = λ c u l f h. t.hist_is c u l f (block_was i a c h);
@@ -127,10 +141,22 @@ module _ (s : Setup) (w : Words) (n : ℕ) (v : Views) (g : Ghost) (r : Rule s w
       halves = λ a b. let z = r.rules.halves a b in omega arith;
       clear = r.rules.clear;
     };
+    stock = record { finished = r.stock.finished; cursor_is = r.stock.cursor_is; free_is = r.stock.free_is; never = r.stock.never; left = r.stock.left };
+    note = record { undone = r.note.undone; all = r.note.all; placed = r.note.placed; seen = r.note.seen; quiet = r.note.quiet };
+    retired = λ b x m u e. ⊎_elim (λ t. inl (moves_retired b t.0 t.1)) inr (r.retired b x m u e);
     holders = λ x i m p h. ⊎_elim (λ t. ⊎_elim inl (λ k. inr (update_other v.kind j i 0 t.0 ∙ k)) (r.holders x i m p t.1)) (λ t. inl t.0) (moved_back j (g.stage x) i m p h);
     hand = r.hand;
   }
     where
+      -- the owner has what the pass retired
+      moves_retired : (b i : ℕ) → HasEntry (v.work i).retired b → (k : ℕ) × HasEntry (update (update v.work 0 joined) j idle k).retired b
+      moves_retired b i h = dite (ℕ_discrete i j)
+          (λ e. (0, at_owner (entry_right (v.work 0).retired (v.work j).retired b (subst (λ (a : ℕ). HasEntry (v.work a).retired b) e h))))
+          (λ o. dite (ℕ_discrete i 0) (λ e. (0, at_owner (entry_left (v.work 0).retired (v.work j).retired b (subst (λ (a : ℕ). HasEntry (v.work a).retired b) e h)))) (λ z. (i, subst (λ (u : Work). HasEntry u.retired b) (sym (update_other (update v.work 0 joined) j i idle o ∙ update_other v.work 0 i joined z)) h)))
+        where
+          at_owner : HasEntry ((v.work 0).retired ++ (v.work j).retired) b → HasEntry (update (update v.work 0 joined) j idle 0).retired b
+          at_owner m = subst (λ (u : Work). HasEntry u.retired b) (sym (update_other (update v.work 0 joined) j 0 idle (λ e. far (sym e)) ∙ update_same v.work 0 joined)) m
+
       nothing_sure : (i : ℕ) → SureRule s.elements workers w.head w.hist w.born w.died w.name w.row stage' i unsure
       nothing_sure i = record { head_is = λ z l f h. absurd f; hist_is = λ b t l f h. absurd f; died_is = λ b k f h. absurd f; name_is = λ b t k f h. absurd f; born_is = λ b k f h i. absurd f; row_is = λ b k f h i. absurd f }
 

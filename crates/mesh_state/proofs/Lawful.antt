@@ -1,19 +1,92 @@
 -- The laws that hold between any two steps.
-use Rattle.std.proofs.Common.{◌≡◌, ℕ, ◌+◌, Bool, List, [], ◌∷◌, sym, ap, ◌∙◌, subst, ⊎_elim, arith}
+use Rattle.std.proofs.Common.{◌≡◌, ℕ, ◌+◌, ◌<◌, ◌≤◌, Bool, true, false, List, inl, inr, [], ◌∷◌, sym, ap, ◌∙◌, subst, ⊎_elim, arith}
 use Rattle.mesh_words.specs.Words.{Node}
 use Rattle.mesh_words.specs.Places.{member_of}
-use Rattle.mesh_state.specs.Ghosts.{Life, stands, chained}
+use Rattle.mesh_words.specs.Claims.{Progress, Claimed, Failed, Drawn, Half, Whole, Living}
+use Rattle.mesh_words.specs.Setup.{places}
+use Rattle.mesh_words.proofs.Sums.{flags_below}
+use Rattle.mesh_state.specs.Ghosts.{Stage, Open, Held, Life, stands, chained}
 use Rattle.mesh_state.specs.Chains.{Finds, Reaches}
-use Rattle.mesh_state.specs.Laws.{PinsBounded, OneHolder, WalksAgree, MembersTogether, NoEarlyReuse, ClearRounds}
-use Rattle.mesh_state.proofs.FoundAgain.{found_covers, standing, placed_chained}
-use Rattle.mesh_state.proofs.HeldClaims.{held_one}
+use Rattle.mesh_state.specs.Claims.{draws_of}
+use Rattle.mesh_state.specs.Bisections.{IsPlaceOf}
+use Rattle.mesh_state.specs.Laws.{block_of, PinsBounded, OneHolder, OneClaim, DrawsBounded, FreeRows, WalksAgree, WalksEnd, ParentsBisected, MembersTogether, PlacesAgree, NotesAgree, NoEarlyReuse, ClearRounds}
+use Rattle.mesh_state.proofs.FoundAgain.{one_more, placed, found_covers, standing, placed_chained}
+use Rattle.mesh_state.proofs.HeldClaims.{held_one, uses, one_user}
 use Rattle.mesh_state.proofs.Across.{place_one, name_one, no_pin}
 
 pub bounded : PinsBounded
-bounded s w n v g r = let b = r.pins.bound in omega arith
+bounded s w n v g r = let b = r.pins.bound in (omega arith, sym r.pins.now ∙ r.pins.count w.round)
 
 pub one_holder : OneHolder
 one_holder s w n v g r i j x m k p q a b = (held_one i j m k p q (sym (r.claims.held i x m p a) ∙ r.claims.held j x k q b)).0
+
+uses_block : (p : Progress) (b : ℕ) → block_of p ≡ b + 1 → uses p ≡ b + 1
+uses_block Claimed b e = e
+uses_block Failed b e = e
+uses_block (Drawn c) b e = e
+uses_block (Half c) b e = e
+uses_block (Whole c) b e = e
+uses_block (Living c) b e = e
+
+pub one_claim : OneClaim
+one_claim s w n v g r i j x y m k b p q a c e f = one_user s w.round w.cursor w.free v.ruling.phase w.row w.claimed w.head w.born g.life g.stage v.claims r.claims x y i j m k b p q (r.claims.held i x m p a) (r.claims.held j y k q c) (uses_block p b e) (uses_block q b f)
+
+few_draws : (t : Stage) → draws_of t ≤ 1
+few_draws Open = omega arith
+few_draws (Held j m Claimed) = omega arith
+few_draws (Held j m Failed) = omega arith
+few_draws (Held j m (Drawn b)) = omega arith
+few_draws (Held j m (Half b)) = omega arith
+few_draws (Held j m (Whole b)) = omega arith
+few_draws (Held j m (Living b)) = omega arith
+
+pub draws_bounded : DrawsBounded
+draws_bounded s w n v g r one = let a = r.claims.drawn one in let b = flags_below (places s) (λ x. draws_of (g.stage x)) (λ x. few_draws (g.stage x)) in omega arith
+
+pub free_rows : FreeRows
+free_rows s w n v g r i k a l = let t = r.claims.rows i a l in (t.0, t.1, λ b m e. r.claims.apart i k a l b m e)
+
+pub walks_end : WalksEnd
+walks_end s w n v g r b c x t st e = ⊎_elim
+    (λ o. let z : 0 ≡ c + 1 = sym (ap (λ (l : Node). l.block) o) ∙ e in absurd (omega arith))
+    (λ o. let same : o.0 ≡ c = one_more o.0 c (sym (ap (λ (l : Node). l.block) o.2) ∙ e) in subst (λ (i : ℕ). (0 < w.died i) × (w.died i ≤ w.round) × (0 < w.born b → w.died i < w.born b)) same (o.4, o.6, o.5))
+    (r.chains.hists b t x st)
+
+pub parents_bisected : ParentsBisected
+parents_bisected s w n v g r q may k b e = ⊎_elim (λ t. inl (f.1, t.0, t.1)) (λ t. inr (w.name (member_of t.0 t.1), t.0, t.2, t.5, t.4)) f.4
+  where
+    f : (t : Bool) × (x : ℕ) × (w.name (member_of b t) ≡ k) × (chained (g.life b) t ≡ x + 1) × IsPlaceOf s w.name (g.who q) x k × Reaches w.hist w.born w.died g.life q x b (w.head x)
+    f = (r.names.fits q may).found k b e
+
+pub members_together : MembersTogether
+members_together s w n v g r q may k i b e = (down, up)
+  where
+    -- the block of a name, its patch, and whether it is the first member
+    down : g.who q k ≡ b + 1 → g.who q (i + 1) ≡ b + 1
+    down h = let f = (r.names.fits q may).found k b h in let p = placed (g.life b) f.0 f.1 f.3 in let a = r.names.patch b p.0 p.1 p.2 in by f.0 f.2
+      where
+        by : (t : Bool) → w.name (member_of b t) ≡ k → g.who q (i + 1) ≡ b + 1
+        by false n1 = let f = (r.names.fits q may).found k b h in let p = placed (g.life b) f.0 f.1 f.3 in let a = r.names.patch b p.0 p.1 p.2 in ⊎_elim
+            (λ z. let y : 0 ≡ i + 1 = sym z.1 ∙ ap s.mate n1 ∙ e in absurd (omega arith))
+            (λ z. ap (g.who q) (sym (a.1 ∙ ap s.mate n1 ∙ e)) ∙ (r.names.fits q may).both b z.0 false true (ap (g.who q) n1 ∙ h) (ap (λ (l : Life). chained l true) p.2 ∙ z.2)) a.2
+        by true n1 = let f = (r.names.fits q may).found k b h in let p = placed (g.life b) f.0 f.1 f.3 in let a = r.names.patch b p.0 p.1 p.2 in ⊎_elim
+            (λ z. absurd (r.names_apart.leads_some (ap s.leads (sym (sym n1 ∙ a.1 ∙ z.1)) ∙ r.names_apart.mates_lead k i e)))
+            (λ z. absurd (r.names_apart.mate_leads (w.name (member_of b false)) k z.1 z.3 (r.names_apart.mates_lead k i e) (sym n1 ∙ a.1 ∙ z.3))) a.2
+
+    up : g.who q (i + 1) ≡ b + 1 → g.who q k ≡ b + 1
+    up h = let f = (r.names.fits q may).found (i + 1) b h in by f.0 f.2
+      where
+        by : (t : Bool) → w.name (member_of b t) ≡ i + 1 → g.who q k ≡ b + 1
+        by false n1 = let f = (r.names.fits q may).found (i + 1) b h in let p = placed (g.life b) f.0 f.1 f.3 in let a = r.names.patch b p.0 p.1 p.2 in absurd (r.names_apart.mate_leads k (w.name (member_of b false)) i e a.0 n1)
+        by true n1 = let f = (r.names.fits q may).found (i + 1) b h in let p = placed (g.life b) f.0 f.1 f.3 in let a = r.names.patch b p.0 p.1 p.2 in
+            let first : w.name (member_of b false) ≡ k = r.names_apart.mate_one (w.name (member_of b false)) k i (sym a.1 ∙ n1) e in
+            ap (g.who q) (sym first) ∙ (r.names.fits q may).both b p.0 true false (ap (g.who q) n1 ∙ h) (ap (λ (l : Life). chained l false) p.2)
+
+pub places_agree : PlacesAgree
+places_agree s w n v g r q may x y k i a = ((λ b. place_one s w n v g r q may x y k a b), λ b. name_one s w n v g r q x k i a b)
+
+pub notes_agree : NotesAgree
+notes_agree s w n v g r j k q = ((λ h. ((r.goes j).yes_notes k q h).1), λ h. ((r.goes j).no_notes k q h).1)
 
 found_stands : (hist : ℕ → Node) (born died : ℕ → ℕ) (life : ℕ → Life) (q x c : ℕ) (ts : List (ℕ × Bool)) (l : Node) → Finds hist born died life q x c l ts → (t : Bool) × (stands (life c) t ≡ x + 1)
 found_stands hist born died life q x c [] l h = absurd h
@@ -26,9 +99,6 @@ walks_agree s w n v g r q k x i b seen = (
       let ch : chained (g.life b) t.0 ≡ x + 1 = ⊎_elim (λ p. placed_chained (g.life b) t.0 x p.0 p.1 p.2 t.1) (λ p. let z = r.chains.undone b p.0 p.1 p.2 in let c0 = c.0 in absurd (omega arith)) (standing (g.life b) t.0 x t.1) in
       let u = r.names.sound q k b t.0 x ch c in ap (g.who q) (sym (name_one s w n v g r q x (w.name (member_of b t.0)) i u.1 seen)) ∙ u.0,
 )
-
-pub members_together : MembersTogether
-members_together s w n v g r q k b y t u e c = (r.names.fits q k).both b y t u e c
 
 pub no_early_reuse : NoEarlyReuse
 no_early_reuse s w n v g r j q b p h = (r.goes j).went q b p h

@@ -9,9 +9,13 @@ pub mod Publishing
 pub mod Retiring
 pub mod Claiming
 pub mod Draws
+pub mod Loads
 pub mod FirstLink
 pub mod SecondLink
+pub mod Filling
 pub mod Pinning
+pub mod WorkerWalks
+pub mod SecondHalf
 pub mod Phases
 pub mod Splitting
 pub mod JoiningWorkers
@@ -19,4 +23,8 @@ pub mod JoiningReaders
 pub mod Sweeping
 pub mod TakingBack
 pub mod Fresh
+pub mod SquareNotes
+pub mod SquareRound1
+pub mod SquareRound2
+pub mod SquareRound3
 pub mod Lawful

@@ -1,23 +1,26 @@
 -- The phases of a round, and its end.
-use Rattle.std.proofs.Common.{◌≡◌, ℕ, zero, suc, ◌+◌, ◌<◌, ◌≤◌, Bool, List, [], ◌∷◌, refl, sym, ap, ◌∙◌, subst, inl, inr, ⊎_elim, arith}
-use native.Mathlib.Decide.{dec_lt}
+use mathlib.Core.Logic.{dite}
+use Rattle.std.proofs.Common.{◌≡◌, ℕ, zero, suc, ◌+◌, ◌<◌, ◌≤◌, Bool, true, false, List, [], ◌∷◌, ◌++◌, ◌⊎◌, refl, sym, ap, ◌∙◌, subst, inl, inr, ⊎_elim, arith}
+use native.Mathlib.Decide.{dec_lt, ℕ_discrete}
 use Rattle.mesh_words.specs.Setup.{Setup, places}
 use Rattle.mesh_words.specs.Functions.{update}
 use Rattle.mesh_words.specs.Sums.{sum_below}
 use Rattle.mesh_words.specs.Words.{Words, Node}
-use Rattle.mesh_words.specs.Views.{Views}
+use Rattle.mesh_words.specs.Views.{Walk, Views}
 use Rattle.mesh_words.specs.Claims.{Progress, Living, Claim, claim}
 use Rattle.mesh_words.specs.Places.{member_of}
-use Rattle.mesh_words.specs.Entries.{HasEntry}
+use Rattle.mesh_words.specs.Entries.{HasEntry, Noted}
 use Rattle.mesh_words.proofs.Functions.{update_same, update_other, update_cases}
-use Rattle.mesh_state.specs.Ghosts.{Free, Stage, Open, Held, Life, Placed, chained, Ghost}
-use Rattle.mesh_state.specs.Chains.{Covers, Finds, Reaches, IsPlace}
+use Rattle.mesh_state.specs.Ghosts.{Free, Stage, Open, Held, Life, Placed, Undone, chained, Ghost}
+use Rattle.mesh_state.specs.Chains.{Covers, Finds, Reaches, IsPlace, IsHead}
 use Rattle.mesh_state.specs.Claims.{ClaimsRule, draws_of}
 use Rattle.mesh_state.specs.Bisections.{Fits, IsSound, IsKept, MayRead, NamesRule}
-use Rattle.mesh_state.specs.Work.{WorkRule}
+use Rattle.mesh_state.specs.Work.{WorkRule, WorkWalks, WalkRule, RetiredKnown}
 use Rattle.mesh_state.specs.Fresh.{idle}
 use Rattle.mesh_state.specs.Rule.{Labels, Rule}
-use Rattle.mesh_state.proofs.FoundAgain.{placed, goes_who}
+use Rattle.mesh_state.proofs.FoundAgain.{one_more, placed, goes_who, walks_idle}
+use Rattle.mesh_words.proofs.Entries.{entry_left, entry_right}
+use Rattle.mesh_state.proofs.ChainSteps.{named}
 use Rattle.mesh_state.proofs.BlockSteps.{ends_round}
 use Rattle.mesh_state.proofs.HeldClaims.{not_open}
 use Rattle.mesh_state.proofs.Across.{Went, low, some_worker}
@@ -55,11 +58,25 @@ module _ (s : Setup) (w : Words) (n : ℕ) (v : Views) (g : Ghost) (r : Rule s w
         given = λ b i f. absurd (subst (λ l. HasEntry l (b, i)) e.3 f);
       })
 
+  idle_walks : Home → (round p : ℕ) (name : ℕ → ℕ) (hist : ℕ → Node) (born died : ℕ → ℕ) (life : ℕ → Life) (who : ℕ → ℕ → ℕ) (j : ℕ) → WalkRule s round p name hist born died life who (v.kind j) j (update v.work 0 idle j)
+  idle_walks h round p name hist born died life who = update_cases (λ j u. WalkRule s round p name hist born died life who (v.kind j) j u) v.work 0 idle
+      (walks_idle s round p name hist born died life who (v.kind 0) 0 0 (λ e. absurd (not_work h 0 e)))
+      (λ j ne. let k = r.walks j in let e = k.still (not_work h j) in let f = k.only (not_work h j) ne in record {
+        still = k.still;
+        only = k.only;
+        half = λ e. absurd (not_work h j e);
+        absent = λ i a. absurd (subst (λ (l : List ℕ). HasEntry l i) f.0 a);
+        stood = λ x i a. absurd (subst (λ (l : List (ℕ × ℕ)). HasEntry l (x, i)) f.1 a);
+        had = λ b i a. absurd (subst (λ (l : List (ℕ × ℕ)). HasEntry l (b, i)) f.2 a);
+        went = λ b a. absurd (subst (λ (l : List ℕ). HasEntry l b) e.0 a);
+        walk = subst (λ (u : Walk). WorkWalks s round p name hist born died life who (v.work j).went u) (sym e.1) tt;
+      })
+
   -- the owner goes on to another phase of the same round, and forgets what held in this one
-  pub rephases : Home → (p : ℕ) (who : ℕ → ℕ → ℕ) (hand : List ℕ) → ((b : ℕ) → HasEntry hand b → (p ≡ 1 → ⊥) × (g.life b ≡ Free)) → ((q : ℕ) → q ≤ w.round → who q ≡ g.who q)
+  pub rephases : Home → (p : ℕ) (who : ℕ → ℕ → ℕ) (hand : List ℕ) (cursor : ℕ) (retired : List ℕ) → RetiredKnown w.round w.died g.life (update v.work 0 idle) retired → ((k : ℕ) → cursor ≡ k + 1 → (p ≡ 1 → ⊥) × (w.cursor ≡ k)) → ((b : ℕ) → HasEntry hand b → (p ≡ 1 → ⊥) × (g.life b ≡ Free)) → ((q : ℕ) → q ≤ w.round → who q ≡ g.who q)
       → ClaimsRule s w.round w.cursor w.free p w.row w.claimed w.head w.born g.life g.stage v.claims → Labels s w.round p w.name g.stage who → NamesRule s w.round p w.name w.head w.hist w.born w.died g.life who v.read
-      → Rule s w n (record v { work = update v.work 0 idle; ruling = record v.ruling { phase = p; hand = hand } }) (record g { who = who })
-  rephases h p who hand free old claims labels names = record {
+      → Rule s w n (record v { work = update v.work 0 idle; ruling = record v.ruling { phase = p; hand = hand; cursor = cursor; retired = retired } }) (record g { who = who })
+  rephases h p who hand cursor retired known sure free old claims labels names = record {
     names_apart = r.names_apart;
     claims = claims;
     labels = labels;
@@ -67,9 +84,13 @@ module _ (s : Setup) (w : Words) (n : ℕ) (v : Views) (g : Ghost) (r : Rule s w
     names = names;
     pins = r.pins;
     works = idle_works h w.round p w.name w.born w.died g.life (who d);
+    walks = idle_walks h w.round p w.name w.hist w.born w.died g.life who;
     sure = r.sure;
     goes = λ i. goes_who s w.round w.name w.hist w.born w.died g.life g.who who old (v.read i) (λ q e. r.pins.past i q e) (r.goes i);
     rules = record { owner = r.rules.owner; one = r.rules.one; workers = r.rules.workers; readers = r.rules.readers; few_readers = r.rules.few_readers; halves = λ _ _. h; clear = r.rules.clear };
+    stock = record { finished = r.stock.finished; cursor_is = sure; free_is = r.stock.free_is; never = r.stock.never; left = r.stock.left };
+    note = record { undone = r.note.undone; all = r.note.all; placed = r.note.placed; seen = r.note.seen; quiet = r.note.quiet };
+    retired = known;
     holders = r.holders;
     hand = free;
   }
@@ -104,6 +125,7 @@ module _ (s : Setup) (w : Words) (n : ℕ) (v : Views) (g : Ghost) (r : Rule s w
     patch = r.names.patch;
     calm = λ b x m l. r.names.calm b x m (calm l);
     grows = λ i b l. r.names.grows i b (grows l);
+    either = λ i b l. r.names.either i b (said l);
     fresh = λ i z. r.names.fresh i (fresh z);
   }
     where
@@ -111,26 +133,36 @@ module _ (s : Setup) (w : Words) (n : ℕ) (v : Views) (g : Ghost) (r : Rule s w
       back q (inl k) = inl k
       back q (inr k) = inr (k.0, said k.1)
 
+  -- but in the second half and while the round is closed nothing is retired in the round
+  calm_retired : (v.ruling.phase ≡ 2 → ⊥) × (v.ruling.phase ≡ 3 → ⊥) → RetiredKnown w.round w.died g.life (update v.work 0 idle) v.ruling.retired
+  calm_retired l b x m u e = let c = r.names.calm b x m l u in absurd (omega arith)
+
+  -- with no pass at work the owner knows each block that was retired
+  owner_retired : Home → RetiredKnown w.round w.died g.life (update v.work 0 idle) ((v.work 0).retired ++ v.ruling.retired)
+  owner_retired h b x m u e = inr (⊎_elim
+      (λ t. dite (ℕ_discrete t.0 0) (λ z. entry_left (v.work 0).retired v.ruling.retired b (subst (λ (a : ℕ). HasEntry (v.work a).retired b) z t.1)) (λ z. absurd (subst (λ (l : List ℕ). HasEntry l b) ((r.walks t.0).only (not_work h t.0) z).3 t.1)))
+      (λ t. entry_right (v.work 0).retired v.ruling.retired b t) (r.retired b x m u e))
+
   -- the first half begins
-  pub begins : v.ruling.phase ≡ 0 → w.cursor ≡ 0 → Rule s w n (record v { work = update v.work 0 idle; ruling = record v.ruling { phase = 1; hand = [] } }) (record g { who = g.who })
-  begins z c = rephases (r.rules.halves (λ e. omega arith) (λ e. omega arith)) 1 g.who [] (λ b f. absurd f) (λ _ _. refl)
-      (claims_phase 1 (λ o e. omega arith) (λ _. c ∙ sym (zero_total (places s) (λ x. draws_of (g.stage x)) (λ x. ap draws_of (r.claims.none x z)))) (λ x j m q h e. absurd (not_open j m q (sym h ∙ r.claims.none x z))) (λ x e. absurd (omega arith)))
+  pub begins : v.ruling.phase ≡ 0 → v.ruling.cursor ≡ 1 → Rule s w n (record v { work = update v.work 0 idle; ruling = record v.ruling { phase = 1; hand = []; cursor = 0 } }) (record g { who = g.who })
+  begins z c = rephases (r.rules.halves (λ e. omega arith) (λ e. omega arith)) 1 g.who [] 0 v.ruling.retired (calm_retired ((λ e. omega arith), λ e. omega arith)) (λ k e. absurd (omega arith)) (λ b f. absurd f) (λ _ _. refl)
+      (claims_phase 1 (λ o e. omega arith) (λ _. (r.stock.cursor_is 0 c).1 ∙ sym (zero_total (places s) (λ x. draws_of (g.stage x)) (λ x. ap draws_of (r.claims.none x z)))) (λ x j m q h e. absurd (not_open j m q (sym h ∙ r.claims.none x z))) (λ x e. absurd (omega arith)))
       (λ x j m q h e. absurd (not_open j m q (sym h ∙ r.claims.none x z)))
       (names_phase 1 (λ _. omega arith) (λ _. ((λ e. omega arith), λ e. omega arith)) (λ _. omega arith) (λ e. absurd (omega arith)))
 
   -- the second half is planned: by the owner's view each claim has a living block
   pub plans : v.ruling.phase ≡ 1 → Home → ((x m : ℕ) (p : Progress) → HasEntry (v.claims 0) (claim x m p) → (b : ℕ) × (p ≡ Living b)) → Rule s w n (record v { work = update v.work 0 idle; ruling = record v.ruling { phase = 2 } }) (record g { who = g.who })
-  plans one h lives = rephases h 2 g.who v.ruling.hand (λ b f. ((λ e. absurd (omega arith)), (r.hand b f).1)) (λ _ _. refl)
+  plans one h lives = rephases h 2 g.who v.ruling.hand v.ruling.cursor v.ruling.retired (calm_retired ((λ e. omega arith), λ e. omega arith)) (λ k e. ((λ f. absurd (omega arith)), (r.stock.cursor_is k e).1)) (λ b f. ((λ e. absurd (omega arith)), (r.hand b f).1)) (λ _ _. refl)
       (claims_phase 2 (λ o e. omega arith) (λ e. absurd (omega arith)) (λ x j m q e _. lives x m q (subst (λ (i : ℕ). HasEntry (v.claims i) (claim x m q)) (home_claims h x j m q e) (r.claims.holds j x m q e))) (λ x e. absurd (omega arith)))
       (λ x j m q e f. absurd (omega arith)) (names_phase 2 (λ _. omega arith) (λ l. absurd (l.0 refl)) (λ l. absurd (omega arith)) (λ e. absurd (omega arith)))
 
-  pub closes : v.ruling.phase ≡ 2 → Home → Rule s w n (record v { work = update v.work 0 idle; ruling = record v.ruling { phase = 3 } }) (record g { who = g.who })
-  closes two h = rephases h 3 g.who v.ruling.hand (λ b f. ((λ e. absurd (omega arith)), (r.hand b f).1)) (λ _ _. refl) (claims_phase 3 (λ o e. o refl) (λ e. absurd (omega arith)) (λ x j m q e f. absurd (omega arith)) (λ x e. absurd (omega arith)))
+  pub closes : v.ruling.phase ≡ 2 → Home → Rule s w n (record v { work = update v.work 0 idle; ruling = record v.ruling { phase = 3; retired = (v.work 0).retired ++ v.ruling.retired } }) (record g { who = g.who })
+  closes two h = rephases h 3 g.who v.ruling.hand v.ruling.cursor ((v.work 0).retired ++ v.ruling.retired) (owner_retired h) (λ k e. ((λ f. absurd (omega arith)), (r.stock.cursor_is k e).1)) (λ b f. ((λ e. absurd (omega arith)), (r.hand b f).1)) (λ _ _. refl) (claims_phase 3 (λ o e. o refl) (λ e. absurd (omega arith)) (λ x j m q e f. absurd (omega arith)) (λ x e. absurd (omega arith)))
       (λ x j m q e f. absurd (omega arith)) (names_phase 3 (λ _. omega arith) (λ l. absurd (l.1 refl)) (λ l. absurd (omega arith)) (λ e. absurd (omega arith)))
 
   -- the round is refused
   pub refuses : v.ruling.phase ≡ 1 → Home → Rule s w n (record v { work = update v.work 0 idle; ruling = record v.ruling { phase = 4 } }) (record g { who = g.who })
-  refuses one h = rephases h 4 g.who v.ruling.hand (λ b f. ((λ e. absurd (omega arith)), (r.hand b f).1)) (λ _ _. refl) (claims_phase 4 (λ o e. omega arith) (λ e. absurd (omega arith)) (λ x j m q e f. absurd (omega arith)) (λ x e. absurd (omega arith)))
+  refuses one h = rephases h 4 g.who v.ruling.hand v.ruling.cursor v.ruling.retired (calm_retired ((λ e. omega arith), λ e. omega arith)) (λ k e. ((λ f. absurd (omega arith)), (r.stock.cursor_is k e).1)) (λ b f. ((λ e. absurd (omega arith)), (r.hand b f).1)) (λ _ _. refl) (claims_phase 4 (λ o e. omega arith) (λ e. absurd (omega arith)) (λ x j m q e f. absurd (omega arith)) (λ x e. absurd (omega arith)))
       (λ x j m q e f. absurd (omega arith)) (names_phase 4 (λ l. absurd (omega arith)) (λ _. ((λ e. omega arith), λ e. omega arith)) (λ l. absurd (omega arith)) (λ e. absurd (omega arith)))
 
   -- the next round reads as this one, while nothing is born or retired in it
@@ -153,7 +185,7 @@ module _ (s : Setup) (w : Words) (n : ℕ) (v : Views) (g : Ghost) (r : Rule s w
 
   -- the round is taken back: its claims have ended, and the round in work is again as the last
   pub restores : v.ruling.phase ≡ 4 → v.claims 0 ≡ [] → Rule s w n (record v { work = update v.work 0 idle; ruling = record v.ruling { phase = 0 } }) (record g { who = update g.who d (g.who w.round) })
-  restores four none = rephases home 0 who' v.ruling.hand (λ b f. ((λ e. absurd (omega arith)), (r.hand b f).1)) old
+  restores four none = rephases home 0 who' v.ruling.hand v.ruling.cursor v.ruling.retired (calm_retired ((λ e. omega arith), λ e. omega arith)) (λ k e. ((λ f. absurd (omega arith)), (r.stock.cursor_is k e).1)) (λ b f. ((λ e. absurd (omega arith)), (r.hand b f).1)) old
       (claims_phase 0 (λ o e. omega arith) (λ e. absurd (omega arith)) (λ x j m q e f. absurd (omega arith)) (λ x _. all_open home none x)) (λ x j m q e f. absurd (omega arith))
       record {
         fits = λ q k. ⊎_elim (λ e. subst (λ (f : ℕ → ℕ). Fits s w.name w.head w.hist w.born w.died g.life f q) (sym (old q (low s w n v g r q e))) (r.names.fits q (inl e)))
@@ -163,6 +195,7 @@ module _ (s : Setup) (w : Words) (n : ℕ) (v : Views) (g : Ghost) (r : Rule s w
         patch = r.names.patch;
         calm = λ b x m l u. r.names.calm b x m ((λ e. omega arith), λ e. omega arith) u;
         grows = λ i b l e. ap (λ (f : ℕ → ℕ). f i) (update_same g.who d (g.who w.round)) ∙ (sym (ap (λ (f : ℕ → ℕ). f i) (old w.round (omega arith))) ∙ e);
+        either = λ i b l e. inl (ap (λ (f : ℕ → ℕ). f i) (update_same g.who d (g.who w.round)) ∙ (sym (ap (λ (f : ℕ → ℕ). f i) (old w.round (omega arith))) ∙ e));
         fresh = λ i z. ap (λ (f : ℕ → ℕ). f i) (update_same g.who d (g.who w.round)) ∙ sym (ap (λ (f : ℕ → ℕ). f i) (old w.round (omega arith)));
       }
     where
@@ -181,10 +214,14 @@ module _ (s : Setup) (w : Words) (n : ℕ) (v : Views) (g : Ghost) (r : Rule s w
         λ k. let k1 = k.1 in (k.0, elim (dec_lt w.round (w.born b)) [ yes l ↦ absurd (let a = r.claims.kept b p.0 p.1 p.2 (omega arith) (λ e. omega arith) in not_open a.0 p.1 (Living b) (sym a.1 ∙ all_open home none p.0)) | no o ↦ omega arith ], ⊎_elim inl (λ l. inr (omega arith)) k.2),
       )
 
+  -- the owner is sure of the place's LINK, which names another block or has a retired round
+  abbrev pub IsStamped : ℕ → ℕ → Type 0
+  IsStamped x b = (l : Node) × Noted (v.sure 0).head x l × ((l.block ≡ b + 1 → ⊥) ⊎ (0 < l.died))
+
   -- the round is finished
-  pub advances : v.ruling.phase ≡ 3 → v.claims 0 ≡ [] → ((x b : ℕ) → IsPlace s.elements g.life x → (w.head x).block ≡ b + 1 → (w.head x).died ≡ 0 → w.died b ≡ 0)
-      → Rule s (record w { round = d; taken = 0 }) n (record v { work = update v.work 0 idle; ruling = record v.ruling { phase = 0 } }) (record g { who = update g.who (d + 1) (g.who d) })
-  advances three none stamped = record {
+  pub advances : v.ruling.phase ≡ 3 → v.claims 0 ≡ [] → ((b : ℕ) → HasEntry ((v.work 0).retired ++ v.ruling.retired) b → (x : ℕ) × (m : ℕ) × HasEntry v.ruling.placed (b, x, m) × IsStamped x b × ((y : ℕ) → m ≡ y + 1 → IsStamped y b))
+      → Rule s (record w { round = d; taken = 0 }) n (record v { work = update v.work 0 idle; ruling = record v.ruling { phase = 0; finished = v.ruling.finished + 1; left = (w.round, w.taken) ∷ v.ruling.left; retired = []; seen = 0; quiet = 0 } }) (record g { who = update g.who (d + 1) (g.who d) })
+  advances three none shown = record {
     names_apart = r.names_apart;
     claims = record {
       held = r.claims.held;
@@ -202,7 +239,7 @@ module _ (s : Setup) (w : Words) (n : ℕ) (v : Views) (g : Ghost) (r : Rule s w
       none = λ x _. open_ x;
     };
     labels = λ x j m q e f. absurd (omega arith);
-    chains = ends_round (λ _. Unit {0}) (Went w.died v.read) s.elements w.round w.head w.hist w.born w.died g.life r.chains stamped;
+    chains = ends_round (λ _. Unit {0}) (Went w.round w.died v.kind v.work v.read) s.elements w.round w.head w.hist w.born w.died g.life r.chains stamped;
     names = record {
       fits = λ q k. ⊎_elim (λ e. kept_fits q e)
           (λ e. subst (λ (i : ℕ). Fits s w.name w.head w.hist w.born w.died g.life (who' i) i) (sym e.0) (subst (λ (f : ℕ → ℕ). Fits s w.name w.head w.hist w.born w.died g.life f (d + 1)) (sym (update_same g.who (d + 1) (g.who d))) (refits d same_ (g.who d) (r.names.fits d said)))) k;
@@ -211,6 +248,7 @@ module _ (s : Setup) (w : Words) (n : ℕ) (v : Views) (g : Ghost) (r : Rule s w
       patch = r.names.patch;
       calm = λ b x m l u. elim (dec_lt 0 (w.died b)) [ yes p ↦ (r.chains.dieds b x m u p).2 | no o ↦ omega arith ];
       grows = λ i b l e. ap (λ (f : ℕ → ℕ). f i) (update_same g.who (d + 1) (g.who d)) ∙ (sym (ap (λ (f : ℕ → ℕ). f i) (old d (omega arith))) ∙ e);
+      either = λ i b l e. inl (ap (λ (f : ℕ → ℕ). f i) (update_same g.who (d + 1) (g.who d)) ∙ (sym (ap (λ (f : ℕ → ℕ). f i) (old d (omega arith))) ∙ e));
       fresh = λ i z. ap (λ (f : ℕ → ℕ). f i) (update_same g.who (d + 1) (g.who d)) ∙ sym (ap (λ (f : ℕ → ℕ). f i) (old d (omega arith)));
     };
     pins = record {
@@ -224,16 +262,45 @@ module _ (s : Setup) (w : Words) (n : ℕ) (v : Views) (g : Ghost) (r : Rule s w
       bound = let b = r.pins.bound in omega arith;
     };
     works = idle_works home d 0 w.name w.born w.died g.life (who' (d + 1));
+    walks = idle_walks home d 0 w.name w.hist w.born w.died g.life who';
     sure = r.sure;
     goes = λ i. let t = goes_who s w.round w.name w.hist w.born w.died g.life g.who who' (λ q l. old q (omega arith)) (v.read i) (λ q e. r.pins.past i q e) (r.goes i) in
-        record { went = t.went; walk = t.walk; yes_notes = λ k q h. let a = t.yes_notes k q h in let a0 = a.0 in (omega arith, a.1); no_notes = λ k q h. let a = t.no_notes k q h in let a0 = a.0 in (omega arith, a.1) };
+        record { went = t.went; walk = t.walk; places = t.places; yes_notes = λ k q h. let a = t.yes_notes k q h in let a0 = a.0 in (omega arith, a.1); no_notes = λ k q h. let a = t.no_notes k q h in let a0 = a.0 in (omega arith, a.1) };
     rules = record { owner = r.rules.owner; one = r.rules.one; workers = r.rules.workers; readers = r.rules.readers; few_readers = r.rules.few_readers; halves = λ _ _. home; clear = λ q h. let t = r.rules.clear q h in let t0 = t.0 in (omega arith, t.1) };
+    stock = record { finished = ap (λ (i : ℕ). i + 1) r.stock.finished; cursor_is = λ k e. ((λ f. absurd (omega arith)), (r.stock.cursor_is k e).1); free_is = r.stock.free_is; never = r.stock.never; left = λ q k h. ⊎_elim (λ e. let a : q ≡ w.round = ap (λ (t : ℕ × ℕ). t.0) e in let b : k ≡ w.taken = ap (λ (t : ℕ × ℕ). t.1) e in (omega arith, ap g.pins a ∙ r.pins.now ∙ sym b)) (λ t. let u = r.stock.left q k t in let u0 = u.0 in (omega arith, u.1)) h };
+    note = record { undone = r.note.undone; all = r.note.all; placed = r.note.placed; seen = λ x e. absurd (omega arith); quiet = λ e. absurd (omega arith) };
+    retired = λ b x m u e. elim (dec_lt 0 (w.died b)) [ yes p ↦ let t = (r.chains.dieds b x m u p).2 in absurd (omega arith) | no o ↦ absurd (omega arith) ];
     holders = r.holders;
     hand = λ b f. ((λ e. absurd (omega arith)), (r.hand b f).1);
   }
     where
       home : Home
       home = r.rules.halves (λ e. omega arith) (λ e. omega arith)
+
+      -- the LINK of a place that names a retired block has its round
+      off : (x b : ℕ) → IsStamped x b → (w.head x).block ≡ b + 1 → (w.head x).died ≡ 0 → ⊥
+      off x b t e z = let h = (r.sure 0).head_is x t.0 t.1 (inl (refl, home)) in ⊎_elim (λ q. q (ap (λ (l : Node). l.block) (sym h) ∙ e)) (λ q. let y : t.0.died ≡ 0 = ap (λ (l : Node). l.died) (sym h) ∙ z in omega arith) t.2
+
+      stamped : (x b : ℕ) → IsPlace s.elements g.life x → (w.head x).block ≡ b + 1 → (w.head x).died ≡ 0 → w.died b ≡ 0
+      stamped x b live e z = let t = named (λ _. Unit {0}) (Went w.round w.died v.kind v.work v.read) s.elements w.round w.head w.hist w.born w.died g.life r.chains x b (w.head x) (r.chains.heads x live) e in let p = placed (g.life b) t.0 x t.1 in
+          ⊎_elim (λ k. k) (λ k. absurd (at t.0 t.1 p.0 p.1 p.2 (shown b (⊎_elim (λ q. absurd (idle_none q.0 q.1)) (λ q. q) (owner_retired home b p.0 p.1 p.2 k))))) (died_of (r.chains.heads x live))
+        where
+          idle_none : (j : ℕ) → HasEntry (update v.work 0 idle j).retired b → ⊥
+          idle_none = update_cases (λ j u. HasEntry u.retired b → ⊥) v.work 0 idle (λ h. h) (λ j ne h. subst (λ (l : List ℕ). HasEntry l b) ((r.walks j).only (not_work home j) ne).3 h)
+
+          died_of : IsHead w.round w.died g.life x (w.head x) → (w.died b ≡ 0) ⊎ (w.died b ≡ w.round + 1)
+          died_of (inl o) = let y : 0 ≡ b + 1 = sym (ap (λ (l : Node). l.block) o) ∙ e in absurd (omega arith)
+          died_of (inr o) = subst (λ (i : ℕ). (w.died i ≡ 0) ⊎ (w.died i ≡ w.round + 1)) (one_more o.0 b (sym o.2 ∙ e)) (o.5 z)
+
+          at : (t : Bool) → chained (g.life b) t ≡ x + 1 → (a i : ℕ) → g.life b ≡ Placed a i → (y : ℕ) × (m : ℕ) × HasEntry v.ruling.placed (b, y, m) × IsStamped y b × ((q : ℕ) → m ≡ q + 1 → IsStamped q b) → ⊥
+          at t c a i u k = ⊎_elim (λ e. side t k (ap (λ (l : Life). chained l t) (sym e) ∙ c)) (λ e. clash a i k.0 k.1 (sym u ∙ e)) (r.note.placed b k.0 k.1 k.2)
+            where
+              clash : (a i y m : ℕ) → Placed a i ≡ Undone y m → ⊥
+              clash a i y m e = cc
+
+              side : (t : Bool) → (k : (y : ℕ) × (m : ℕ) × HasEntry v.ruling.placed (b, y, m) × IsStamped y b × ((q : ℕ) → m ≡ q + 1 → IsStamped q b)) → chained (Placed k.0 k.1) t ≡ x + 1 → ⊥
+              side true k q = off x b (k.4 x q) e z
+              side false k q = off x b (subst (λ (i : ℕ). IsStamped i b) (one_more k.0 x q) k.3) e z
 
       open_ : (x : ℕ) → g.stage x ≡ Open
       open_ x = all_open home none x

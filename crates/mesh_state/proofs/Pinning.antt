@@ -7,15 +7,16 @@ use Rattle.mesh_words.specs.Functions.{update}
 use Rattle.mesh_words.specs.Sums.{sum_below, one_where}
 use Rattle.mesh_words.specs.Words.{Words, Node}
 use Rattle.mesh_words.specs.Views.{Views, Walk, Still, At, Past, Note, Read}
-use Rattle.mesh_words.specs.Places.{member_of}
+use Rattle.mesh_words.specs.Places.{member_of, child_place}
 use Rattle.mesh_words.specs.Entries.{HasEntry}
 use Rattle.mesh_words.proofs.Functions.{update_same, update_at, update_other, update_cases}
 use Rattle.mesh_words.proofs.Sums.{one_if, none_if, sum_update, sum_le}
-use Rattle.mesh_state.specs.Ghosts.{chained, stands, Ghost}
+use Rattle.mesh_state.specs.Ghosts.{Life, Undone, chained, stands, Ghost}
 use Rattle.mesh_state.specs.Chains.{Reaches, IsHead}
 use Rattle.mesh_state.specs.Bisections.{IsPlaceOf, IsKept, MayRead}
 use Rattle.mesh_state.specs.Pins.{PinsRule}
 use Rattle.mesh_state.specs.Readers.{Walks, ReaderRule}
+use Rattle.mesh_state.specs.Owner.{NoneWent}
 use Rattle.mesh_state.specs.Rule.{Rule}
 use Rattle.mesh_state.proofs.FoundAgain.{one_more, chained_stands, placed_chained, standing, none_found, first_block, seen_live}
 use Rattle.mesh_state.proofs.ChainSteps.{named, older_head, dead_end}
@@ -23,24 +24,32 @@ use Rattle.mesh_state.proofs.Across.{Went, no_pin, zero_or_more, place_one, name
 
 module _ (s : Setup) (w : Words) (n : ℕ) (v : Views) (g : Ghost) (r : Rule s w n v g) where
   -- what a step of a reader's view is to show
-  pub rereads : (j taken : ℕ) (released pins : ℕ → ℕ) (u : Read) → PinsRule s w.round taken released n v.kind (update v.read j u) pins → ((q : ℕ) → HasEntry v.ruling.clear q → (q < w.round) × (released q ≡ pins q))
+  pub rereads : (j taken : ℕ) (released pins : ℕ → ℕ) (u : Read) → PinsRule s w.round taken released n v.kind (update v.read j u) pins → ((q : ℕ) → HasEntry v.ruling.clear q → (q < w.round) × (released q ≡ pins q)) → ((q k : ℕ) → HasEntry v.ruling.left (q, k) → (q < w.round) × (pins q ≡ k)) → w.taken ≤ taken → ((b : ℕ) → u.pin ≡ w.round + 1 → HasEntry u.went b → ((x m : ℕ) → g.life b ≡ Undone x m → ⊥) ⊎ (((v.read j).pin ≡ w.round + 1) × HasEntry (v.read j).went b))
       → ((q : ℕ) → u.pin ≡ q + 1 → IsKept w.round v.read q) → ReaderRule s w.round w.name w.hist w.born w.died g.life g.who u
       → Rule s (record w { taken = taken; released = released }) n (record v { read = update v.read j u }) (record g { pins = pins })
-  rereads j taken released pins u p clear kept goes = record {
+  rereads j taken released pins u p clear left more walks kept goes = record {
     names_apart = r.names_apart;
     claims = r.claims;
     labels = r.labels;
     chains = r.chains;
-    names = record { fits = λ q k. r.names.fits q (back q k); sound = λ q k. r.names.sound q (back q k); patch = r.names.patch; calm = r.names.calm; grows = r.names.grows; fresh = r.names.fresh };
+    names = record { fits = λ q k. r.names.fits q (back q k); sound = λ q k. r.names.sound q (back q k); patch = r.names.patch; calm = r.names.calm; grows = r.names.grows; either = r.names.either; fresh = r.names.fresh };
     pins = p;
     works = r.works;
+    walks = r.walks;
     sure = r.sure;
     goes = update_cases (λ _ x. ReaderRule s w.round w.name w.hist w.born w.died g.life g.who x) v.read j u goes (λ i _. r.goes i);
     rules = record { owner = r.rules.owner; one = r.rules.one; workers = r.rules.workers; readers = r.rules.readers; few_readers = r.rules.few_readers; halves = r.rules.halves; clear = clear };
+    stock = record { finished = r.stock.finished; cursor_is = r.stock.cursor_is; free_is = r.stock.free_is; never = r.stock.never; left = left };
+    note = record { undone = r.note.undone; all = r.note.all; placed = r.note.placed; seen = λ x e. let t = r.note.seen x e in let t2 = t.2 in (t.0, t.1, omega arith, λ f. none (t.3 f)); quiet = λ e. none (r.note.quiet e) };
+    retired = r.retired;
     holders = r.holders;
     hand = r.hand;
   }
     where
+      none : NoneWent w.round v.read v.ruling.undone → NoneWent w.round (update v.read j u) v.ruling.undone
+      none ok = update_cases (λ i x. (b : ℕ) → x.pin ≡ w.round + 1 → HasEntry x.went b → HasEntry v.ruling.undone b → ⊥) v.read j u
+          (λ b p h m. ⊎_elim (λ t. let y = r.note.undone b m in t y.0 y.1 y.2) (λ t. ok j b t.0 t.1 m) (walks b p h)) (λ i _. ok i)
+
       back : (q : ℕ) → MayRead w.round v.ruling.phase (update v.read j u) q → MayRead w.round v.ruling.phase v.read q
       back q (inr k) = inr k
       back q (inl (inl e)) = inl (inl e)
@@ -79,12 +88,12 @@ module _ (s : Setup) (w : Words) (n : ℕ) (v : Views) (g : Ghost) (r : Rule s w
       (same_pin j u k refl (⊎_elim (λ t. let e = t.0 in omega arith) (λ e. omega arith) how) (⊎_elim
       (λ t. let l = t.1 in let e = t.0 in let f = few_ready (λ i. (update v.read j u i).ready) (update_cases (λ _ x. x.ready ≤ 1) v.read j u (omega arith) (λ i _. r.pins.bit i)) (update_cases (λ i x. (v.kind i ≡ 2 → ⊥) → x.ready ≡ 0) v.read j u (λ o. absurd (o k)) (λ i _ o. (r.pins.readers i o).1)) in omega arith)
       (λ e. let a = ready_sum j u (inside j k) in let b = r.pins.bound in omega arith) how))
-      r.rules.clear (λ q h. inr (j, h)) record { went = g0.went; walk = g0.walk; yes_notes = g0.yes_notes; no_notes = g0.no_notes }
+      r.rules.clear r.stock.left (omega arith) (λ b p h. inr (p, h)) (λ q h. inr (j, h)) record { went = g0.went; walk = g0.walk; places = g0.places; yes_notes = g0.yes_notes; no_notes = g0.no_notes }
 
   -- a pin is taken: the bound holds
   pub pins : (j : ℕ) → v.kind j ≡ 2 → (v.read j).pin ≡ 0 → (v.read j).ready ≡ 1
-      → Rule s (record w { taken = w.taken + 1; released = w.released }) n (record v { read = update v.read j record { pin = w.round + 1; ready = 0; went = []; walk = Still; notes = (v.read j).notes } }) (record g { pins = update g.pins w.round (g.pins w.round + 1) })
-  pins j k none ready = let u : Read = record { pin = w.round + 1; ready = 0; went = []; walk = Still; notes = (v.read j).notes } in let p' : ℕ → ℕ = update g.pins w.round (g.pins w.round + 1) in
+      → Rule s (record w { taken = w.taken + 1; released = w.released }) n (record v { read = update v.read j record { pin = w.round + 1; ready = 0; went = []; walk = Still; notes = (v.read j).notes; places = [] } }) (record g { pins = update g.pins w.round (g.pins w.round + 1) })
+  pins j k none ready = let u : Read = record { pin = w.round + 1; ready = 0; went = []; walk = Still; notes = (v.read j).notes; places = [] } in let p' : ℕ → ℕ = update g.pins w.round (g.pins w.round + 1) in
       rereads j (w.taken + 1) w.released p' u
       record {
         now = let a = r.pins.now in let b : p' w.round ≡ g.pins w.round + 1 = update_same g.pins w.round (g.pins w.round + 1) in omega arith;
@@ -99,12 +108,13 @@ module _ (s : Setup) (w : Words) (n : ℕ) (v : Views) (g : Ghost) (r : Rule s w
         bound = let a = ready_sum j u (inside j k) in let b = r.pins.bound in omega arith;
       }
       (λ q h. let t = r.rules.clear q h in let l = t.0 in (t.0, t.1 ∙ sym (update_other g.pins w.round q (g.pins w.round + 1) (λ (e : q ≡ w.round). omega arith))))
-      (λ q h. inl (omega arith)) record { went = λ q b h m. absurd m; walk = λ q h. tt; yes_notes = (r.goes j).yes_notes; no_notes = (r.goes j).no_notes }
+      (λ q i h. let t = r.stock.left q i h in let l = t.0 in (t.0, update_other g.pins w.round q (g.pins w.round + 1) (λ (e : q ≡ w.round). omega arith) ∙ t.1))
+      (omega arith) (λ b p h. absurd h) (λ q h. inl (omega arith)) record { went = λ q b h m. absurd m; walk = λ q h. tt; places = λ q x k h m. absurd m; yes_notes = (r.goes j).yes_notes; no_notes = (r.goes j).no_notes }
 
   -- a pin is given back
   pub unpins : (j q0 : ℕ) → v.kind j ≡ 2 → (v.read j).pin ≡ q0 + 1
-      → Rule s (record w { taken = w.taken; released = update w.released q0 (w.released q0 + 1) }) n (record v { read = update v.read j record { pin = 0; ready = (v.read j).ready; went = []; walk = Still; notes = (v.read j).notes } }) (record g { pins = g.pins })
-  unpins j q0 k had = let u : Read = record { pin = 0; ready = (v.read j).ready; went = []; walk = Still; notes = (v.read j).notes } in let low_ = r.pins.past j q0 had in
+      → Rule s (record w { taken = w.taken; released = update w.released q0 (w.released q0 + 1) }) n (record v { read = update v.read j record { pin = 0; ready = (v.read j).ready; went = []; walk = Still; notes = (v.read j).notes; places = [] } }) (record g { pins = g.pins })
+  unpins j q0 k had = let u : Read = record { pin = 0; ready = (v.read j).ready; went = []; walk = Still; notes = (v.read j).notes; places = [] } in let low_ = r.pins.past j q0 had in
       rereads j w.taken (update w.released q0 (w.released q0 + 1)) g.pins u
       record {
         now = r.pins.now;
@@ -119,7 +129,7 @@ module _ (s : Setup) (w : Words) (n : ℕ) (v : Views) (g : Ghost) (r : Rule s w
         bound = let a = ready_sum j u (inside j k) in let b = r.pins.bound in omega arith;
       }
       (λ q h. let t = r.rules.clear q h in (t.0, update_other w.released q0 q (w.released q0 + 1) (λ (e : q ≡ q0). no_pin s w n v g r q h j (had ∙ ap (λ (x : ℕ). x + 1) (sym e))) ∙ t.1))
-      (λ q h. absurd (omega arith)) record { went = λ q b h m. absurd m; walk = λ q h. absurd (omega arith); yes_notes = (r.goes j).yes_notes; no_notes = (r.goes j).no_notes }
+      r.stock.left (omega arith) (λ b p h. absurd h) (λ q h. absurd (omega arith)) record { went = λ q b h m. absurd m; walk = λ q h. absurd (omega arith); places = λ q x k h m. absurd m; yes_notes = (r.goes j).yes_notes; no_notes = (r.goes j).no_notes }
 
   -- a walk goes on: the reader's pin stays
   module _ (j q0 : ℕ) (kind : v.kind j ≡ 2) (pinned : (v.read j).pin ≡ q0 + 1) where
@@ -132,16 +142,23 @@ module _ (s : Setup) (w : Words) (n : ℕ) (v : Views) (g : Ghost) (r : Rule s w
     same_q : (q : ℕ) → (v.read j).pin ≡ q + 1 → q0 ≡ q
     same_q q p = one_more q0 q (sym pinned ∙ p)
 
-    abbrev walked : List ℕ → Walk → List Note → Read
-    walked went walk notes = record (v.read j) { went = went; walk = walk; notes = notes }
+    abbrev walked : List ℕ → Walk → List Note → List (ℕ × ℕ) → Read
+    walked went walk notes places = record (v.read j) { went = went; walk = walk; notes = notes; places = places }
 
-    walks_on : (went : List ℕ) (walk : Walk) (notes : List Note) → ((b : ℕ) → HasEntry went b → ((t : Bool) × (x : ℕ) × (stands (g.life b) t ≡ x + 1)) × ((w.died b ≡ 0) ⊎ (q0 < w.died b)))
+    walks_on : (went : List ℕ) (walk : Walk) (notes : List Note) (places : List (ℕ × ℕ)) → ((b : ℕ) → HasEntry went b → ((t : Bool) × (x : ℕ) × (stands (g.life b) t ≡ x + 1)) × ((w.died b ≡ 0) ⊎ (q0 < w.died b)))
         → Walks s w.name w.hist w.born w.died g.life (g.who q0) q0 went walk
-        → ((i q : ℕ) → HasEntry notes record { round = q; name = i; bisected = true } → (q ≤ w.round) × ((b : ℕ) × (g.who q i ≡ b + 1))) → ((i q : ℕ) → HasEntry notes record { round = q; name = i; bisected = false } → (q ≤ w.round) × (g.who q i ≡ 0))
-        → Rule s w n (record v { read = update v.read j (walked went walk notes) }) g
-    walks_on went walk notes ok here yes_ no_ = rereads j w.taken w.released g.pins (walked went walk notes) (same_pin j (walked went walk notes) kind refl (r.pins.bit j) (let a = ready_sum j (walked went walk notes) (inside j kind) in let b = r.pins.bound in omega arith))
-        r.rules.clear (λ q h. inr (j, h))
-        record { went = λ q b p h. subst (λ (x : ℕ). ((t : Bool) × (y : ℕ) × (stands (g.life b) t ≡ y + 1)) × ((w.died b ≡ 0) ⊎ (x < w.died b))) (same_q q p) (ok b h); walk = λ q p. subst (λ (x : ℕ). Walks s w.name w.hist w.born w.died g.life (g.who x) x went walk) (same_q q p) here; yes_notes = yes_; no_notes = no_ }
+        → ((i q : ℕ) → HasEntry notes record { round = q; name = i; bisected = true } → (q ≤ w.round) × ((b : ℕ) × (g.who q i ≡ b + 1))) → ((i q : ℕ) → HasEntry notes record { round = q; name = i; bisected = false } → (q ≤ w.round) × (g.who q i ≡ 0)) → ((x i : ℕ) → HasEntry places (x, i) → IsPlaceOf s w.name (g.who q0) x i) → ((b : ℕ) → (v.read j).pin ≡ w.round + 1 → HasEntry went b → ((x m : ℕ) → g.life b ≡ Undone x m → ⊥) ⊎ (((v.read j).pin ≡ w.round + 1) × HasEntry (v.read j).went b))
+        → Rule s w n (record v { read = update v.read j (walked went walk notes places) }) g
+    walks_on went walk notes places ok here yes_ no_ at fresh = rereads j w.taken w.released g.pins (walked went walk notes places) (same_pin j (walked went walk notes places) kind refl (r.pins.bit j) (let a = ready_sum j (walked went walk notes places) (inside j kind) in let b = r.pins.bound in omega arith))
+        r.rules.clear r.stock.left (omega arith) fresh (λ q h. inr (j, h))
+        record { went = λ q b p h. subst (λ (x : ℕ). ((t : Bool) × (y : ℕ) × (stands (g.life b) t ≡ y + 1)) × ((w.died b ≡ 0) ⊎ (x < w.died b))) (same_q q p) (ok b h); walk = λ q p. subst (λ (x : ℕ). Walks s w.name w.hist w.born w.died g.life (g.who x) x went walk) (same_q q p) here; places = λ q x i p h. subst (λ (y : ℕ). IsPlaceOf s w.name (g.who y) x i) (same_q q p) (at x i h); yes_notes = yes_; no_notes = no_ }
+
+    places_ok : (x i : ℕ) → HasEntry (v.read j).places (x, i) → IsPlaceOf s w.name (g.who q0) x i
+    places_ok x i h = (r.goes j).places q0 x i pinned h
+
+    -- the place of an element that the pass found, or a macro element's
+    pub place_is : (x i : ℕ) → HasEntry (v.read j).places (x, i) ⊎ ((x < s.elements) × (i ≡ s.top x)) → IsPlaceOf s w.name (g.who q0) x i
+    place_is x i h = ⊎_elim (λ t. places_ok x i t) inl h
 
     went_ok : (b : ℕ) → HasEntry (v.read j).went b → ((t : Bool) × (x : ℕ) × (stands (g.life b) t ≡ x + 1)) × ((w.died b ≡ 0) ⊎ (q0 < w.died b))
     went_ok b h = (r.goes j).went q0 b pinned h
@@ -177,26 +194,27 @@ module _ (s : Setup) (w : Words) (n : ℕ) (v : Views) (g : Ghost) (r : Rule s w
 
     pub next_word : (x k b : ℕ) (t : Bool) → (v.read j).walk ≡ Past x k b t → Leads x k (w.hist (member_of b t))
     next_word x k b t at = let h = subst (Walks s w.name w.hist w.born w.died g.life (g.who q0) q0 (v.read j).went) at ((r.goes j).walk q0 pinned) in
-        (older_head (λ _. Unit {0}) (Went w.died v.read) s.elements w.round w.head w.hist w.born w.died g.life r.chains x (w.born b) (w.hist (member_of b t)) (r.chains.hists b t x h.1), h.2, h.3)
+        (older_head (λ _. Unit {0}) (Went w.round w.died v.kind v.work v.read) s.elements w.round w.head w.hist w.born w.died g.life r.chains x (w.born b) (w.hist (member_of b t)) (r.chains.hists b t x h.1), h.2, h.3)
 
     -- the word stops the walk: the name is not bisected
-    pub ends : (x k : ℕ) (l : Node) → Leads x k l → (l.block ≡ 0) ⊎ ((0 < l.died) × (l.died ≤ q0)) → Rule s w n (record v { read = update v.read j (walked (v.read j).went Still (record { round = q0; name = k; bisected = false } ∷ (v.read j).notes)) }) g
+    pub ends : (x k : ℕ) (l : Node) → Leads x k l → (l.block ≡ 0) ⊎ ((0 < l.died) × (l.died ≤ q0)) → Rule s w n (record v { read = update v.read j (walked (v.read j).went Still (record { round = q0; name = k; bisected = false } ∷ (v.read j).notes) (v.read j).places) }) g
     ends x k l f stop = let z : g.who q0 k ≡ 0 = ⊎_elim (λ e. e) (λ t. absurd (none t.0 (f.2 t.0 t.1) stop f.0)) (zero_or_more (g.who q0 k)) in
-        walks_on (v.read j).went Still (record { round = q0; name = k; bisected = false } ∷ (v.read j).notes) went_ok tt (note_no_yes k) (note_no k z)
+        walks_on (v.read j).went Still (record { round = q0; name = k; bisected = false } ∷ (v.read j).notes) (v.read j).places went_ok tt (note_no_yes k) (note_no k z) places_ok (λ b p h. inr (p, h))
       where
         none : (c : ℕ) → Reaches w.hist w.born w.died g.life q0 x c l → (l.block ≡ 0) ⊎ ((0 < l.died) × (l.died ≤ q0)) → IsHead w.round w.died g.life x l → ⊥
         none c h (inl e) o = none_found w.hist w.born w.died g.life q0 x c l e h
         none c h (inr e) (inl o) = none_found w.hist w.born w.died g.life q0 x c l (ap (λ (m : Node). m.block) o) h
-        none c h (inr e) (inr o) = let dd = o.4 e.0 in let e0 = e.0 in let e1 = e.1 in dead_end (λ _. Unit {0}) (Went w.died v.read) s.elements w.round w.head w.hist w.born w.died g.life r.chains q0 x c h.0 l o.0 o.1 o.2 o.3 (omega arith) (omega arith) h.1
+        none c h (inr e) (inr o) = let dd = o.4 e.0 in let e0 = e.0 in let e1 = e.1 in dead_end (λ _. Unit {0}) (Went w.round w.died v.kind v.work v.read) s.elements w.round w.head w.hist w.born w.died g.life r.chains q0 x c h.0 l o.0 o.1 o.2 o.3 (omega arith) (omega arith) h.1
 
     -- the word leads to a block, and the walk goes there
-    pub goes_to : (x k b : ℕ) (l : Node) → Leads x k l → l.block ≡ b + 1 → (l.died ≡ 0) ⊎ (q0 < l.died) → (t : Bool) × Rule s w n (record v { read = update v.read j (walked (b ∷ (v.read j).went) (At x k b t) (v.read j).notes) }) g
-    goes_to x k b l f is may = let o = named (λ _. Unit {0}) (Went w.died v.read) s.elements w.round w.head w.hist w.born w.died g.life r.chains x b l f.0 is in let st = chained_stands (g.life b) o.0 x o.1 in let al = alive may f.0 in (
+    pub goes_to : (x k b : ℕ) (l : Node) → Leads x k l → l.block ≡ b + 1 → (l.died ≡ 0) ⊎ (q0 < l.died) → (t : Bool) × Rule s w n (record v { read = update v.read j (walked (b ∷ (v.read j).went) (At x k b t) (v.read j).notes (v.read j).places) }) g
+    goes_to x k b l f is may = let o = named (λ _. Unit {0}) (Went w.round w.died v.kind v.work v.read) s.elements w.round w.head w.hist w.born w.died g.life r.chains x b l f.0 is in let st = chained_stands (g.life b) o.0 x o.1 in let al = alive may f.0 in (
       o.0,
-      walks_on (b ∷ (v.read j).went) (At x k b o.0) (v.read j).notes
+      walks_on (b ∷ (v.read j).went) (At x k b o.0) (v.read j).notes (v.read j).places
           (λ c h. ⊎_elim (λ e. subst (λ (y : ℕ). ((t : Bool) × (x : ℕ) × (stands (g.life y) t ≡ x + 1)) × ((w.died y ≡ 0) ⊎ (q0 < w.died y))) (sym e) ((o.0, x, st), al)) (went_ok c) h)
           (inl refl, st, f.1, λ c e. let h = first_block w.hist w.born w.died g.life q0 x c b l is (f.2 c e) in ⊎_elim inl (λ y. inr (subst (λ (i : Bool). Reaches w.hist w.born w.died g.life q0 x c (w.hist (member_of b i))) (r.chains.sides b h.0 o.0 x h.1 st) y)) h.2)
-          (λ i q h. (r.goes j).yes_notes i q h) (λ i q h. (r.goes j).no_notes i q h),
+          (λ i q h. (r.goes j).yes_notes i q h) (λ i q h. (r.goes j).no_notes i q h) places_ok
+          (λ c p h. ⊎_elim (λ e. inl (λ y m f. let z : 0 ≡ x + 1 = sym (ap (λ (l : Life). chained l o.0) (ap g.life (sym e) ∙ f)) ∙ o.1 in omega arith)) (λ t. inr (p, t)) h),
     )
       where
         alive : (l.died ≡ 0) ⊎ (q0 < l.died) → IsHead w.round w.died g.life x l → (w.died b ≡ 0) ⊎ (q0 < w.died b)
@@ -205,14 +223,19 @@ module _ (s : Setup) (w : Words) (n : ℕ) (v : Views) (g : Ghost) (r : Rule s w
         alive (inr m) (inr o) = let e : w.died o.0 ≡ w.died b = ap w.died (one_more o.0 b (sym o.2 ∙ is)) in let y : l.died ≡ w.died o.0 = o.4 (omega arith) in inr (omega arith)
 
     -- BORN of the block: the name is bisected
-    pub finds_it : (x k b : ℕ) (t : Bool) → (v.read j).walk ≡ At x k b t → 0 < w.born b → w.born b ≤ q0 → Rule s w n (record v { read = update v.read j (walked (v.read j).went Still (record { round = q0; name = k; bisected = true } ∷ (v.read j).notes)) }) g
+    pub finds_it : (x k b : ℕ) (t : Bool) → (v.read j).walk ≡ At x k b t → 0 < w.born b → w.born b ≤ q0 → Rule s w n (record v { read = update v.read j (walked (v.read j).went Still (record { round = q0; name = k; bisected = true } ∷ (v.read j).notes) ((child_place s.elements b t false, s.child k false) ∷ (child_place s.elements b t true, s.child k true) ∷ (v.read j).places)) }) g
     finds_it x k b t at p l = let h = subst (Walks s w.name w.hist w.born w.died g.life (g.who q0) q0 (v.read j).went) at ((r.goes j).walk q0 pinned) in
         let c : chained (g.life b) t ≡ x + 1 = ⊎_elim (λ y. placed_chained (g.life b) t x y.0 y.1 y.2 h.1) (λ y. let z = r.chains.undone b y.0 y.1 y.2 in absurd (omega arith)) (standing (g.life b) t x h.1) in
         let u = r.names.sound q0 can b t x c (p, l, (went_ok b h.0).1) in let e = name_one s w n v g r q0 x (w.name (member_of b t)) k u.1 h.2 in
-        walks_on (v.read j).went Still (record { round = q0; name = k; bisected = true } ∷ (v.read j).notes) went_ok tt (note_yes k b (ap (g.who q0) (sym e) ∙ u.0)) (note_yes_no k)
+        walks_on (v.read j).went Still (record { round = q0; name = k; bisected = true } ∷ (v.read j).notes) ((child_place s.elements b t false, s.child k false) ∷ (child_place s.elements b t true, s.child k true) ∷ (v.read j).places) went_ok tt (note_yes k b (ap (g.who q0) (sym e) ∙ u.0)) (note_yes_no k)
+        (λ y i m. ⊎_elim (λ f. kid_at u.0 e false y i f) (λ m2. ⊎_elim (λ f. kid_at u.0 e true y i f) (λ m3. places_ok y i m3) m2) m) (λ c p h. inr (p, h))
+      where
+        -- a child's place and name
+        kid_at : g.who q0 (w.name (member_of b t)) ≡ b + 1 → w.name (member_of b t) ≡ k → (c : Bool) (y i : ℕ) → ◌≡◌ {A = ℕ × ℕ} (y, i) (child_place s.elements b t c, s.child k c) → IsPlaceOf s w.name (g.who q0) y i
+        kid_at bis is c y i f = inr (b, t, c, ap (λ (z : ℕ × ℕ). z.0) f, bis, ap (λ (z : ℕ × ℕ). z.1) f ∙ ap (λ (z : ℕ). s.child z c) (sym is))
 
     -- or the block is passed by
-    pub passes : (x k b : ℕ) (t : Bool) → (v.read j).walk ≡ At x k b t → (w.born b ≡ 0) ⊎ (q0 < w.born b) → Rule s w n (record v { read = update v.read j (walked (v.read j).went (Past x k b t) (v.read j).notes) }) g
+    pub passes : (x k b : ℕ) (t : Bool) → (v.read j).walk ≡ At x k b t → (w.born b ≡ 0) ⊎ (q0 < w.born b) → Rule s w n (record v { read = update v.read j (walked (v.read j).went (Past x k b t) (v.read j).notes (v.read j).places) }) g
     passes x k b t at not = let h = subst (Walks s w.name w.hist w.born w.died g.life (g.who q0) q0 (v.read j).went) at ((r.goes j).walk q0 pinned) in
-        walks_on (v.read j).went (Past x k b t) (v.read j).notes went_ok (h.0, h.1, h.2, λ c e. ⊎_elim (λ y. let z : w.born b ≡ w.born c = ap w.born y.0 in let y0 = y.1.0 in let y1 = y.1.1 in absurd (omega arith)) (λ y. y) (h.3 c e))
-        (λ i q u. (r.goes j).yes_notes i q u) (λ i q u. (r.goes j).no_notes i q u)
+        walks_on (v.read j).went (Past x k b t) (v.read j).notes (v.read j).places went_ok (h.0, h.1, h.2, λ c e. ⊎_elim (λ y. let z : w.born b ≡ w.born c = ap w.born y.0 in let y0 = y.1.0 in let y1 = y.1.1 in absurd (omega arith)) (λ y. y) (h.3 c e))
+        (λ i q u. (r.goes j).yes_notes i q u) (λ i q u. (r.goes j).no_notes i q u) places_ok (λ b p h. inr (p, h))

@@ -14,13 +14,13 @@ use Rattle.mesh_state.specs.Ghosts.{Stage, Held, Life, Placed, chained, Ghost}
 use Rattle.mesh_state.specs.Chains.{ChainsRule}
 use Rattle.mesh_state.specs.Claims.{Shape, linked}
 use Rattle.mesh_state.specs.Bisections.{IsPlaceOf, IsKept, IsPatch}
-use Rattle.mesh_state.specs.Work.{WorkRule}
+use Rattle.mesh_state.specs.Work.{WorkRule, WalkRule}
 use Rattle.mesh_state.specs.Rule.{Rule}
-use Rattle.mesh_state.proofs.FoundAgain.{one_more, goes_on, goes_who, Moves}
+use Rattle.mesh_state.proofs.FoundAgain.{one_more, goes_on, goes_who, workers_on, workers_who, Moves}
 use Rattle.mesh_state.proofs.BlockSteps.{undead, bears}
 use Rattle.mesh_state.proofs.HeldClaims.{not_open, held_one, free_not, placed_one, shape_on, one_user, goes}
 use Rattle.mesh_state.proofs.Across.{Went, is_living, Of, chained_of, low, some_worker, first_half, unmet}
-use Rattle.mesh_state.proofs.SureWords.{sure_on, block_back, head_back}
+use Rattle.mesh_state.proofs.SureWords.{retired_on, sure_on, block_back, head_back}
 use Rattle.mesh_state.proofs.Bisections as rounds
 
 module _ (s : Setup) (w : Words) (n : ℕ) (v : Views) (g : Ghost) (r : Rule s w n v g) where
@@ -28,7 +28,7 @@ module _ (s : Setup) (w : Words) (n : ℕ) (v : Views) (g : Ghost) (r : Rule s w
   d = w.round + 1
 
   abbrev pub A : ℕ → ℕ → Type 0
-  A = Went w.died v.read
+  A = Went w.round w.died v.kind v.work v.read
 
   -- the label of a claim, in the first half
   abbrev pub Label : ℕ → ℕ → Progress → Type 0
@@ -157,14 +157,18 @@ module _ (s : Setup) (w : Words) (n : ℕ) (v : Views) (g : Ghost) (r : Rule s w
             open_ = λ k h. let t = ((r.works i).open_ k h).0 in let e = one in absurd (omega arith);
             given = λ c k h. let t = ((r.works i).given c k h).0 in let e = one in absurd (omega arith);
           });
+      walks = update_cases (λ i u. WalkRule s w.round v.ruling.phase w.name w.hist born' w.died g.life who' (v.kind i) i u) v.work j (record (v.work j) { known = known }) (let u = walker j in record { still = u.still; only = u.only; half = u.half; absent = u.absent; stood = u.stood; had = u.had; went = u.went; walk = u.walk }) (λ i _. walker i);
       sure = λ i. sure_on s.elements v.ruling.workers v.ruling.workers w.head w.hist w.head w.hist w.born w.died w.name w.row born' w.died w.name w.row g.stage stage' i (v.sure i)
           (λ z h. (head_back s.elements v.ruling.workers g.stage x j m (Whole b) (Living b) is (λ c e. absurd (not_drawn c e)) (λ c e. absurd (not_half c e)) i z h, refl))
           (λ c h. (block_back s.elements v.ruling.workers g.stage x j m (Whole b) (Living b) is (λ c e. absurd (not_drawn c e)) (λ c e. absurd (not_half c e)) i c h, (λ _. refl), refl, λ _. refl))
           (λ z e. let t = some_worker s w n v g r j kind in absurd (omega arith))
           (r.sure i);
-      goes = λ i. let t = goes_on s w.name w.name w.head w.hist w.head w.hist w.born w.died born' w.died g.life g.life (λ _ _ _ _ _. refl) w.round v.ruling.phase g.who v.read (IsKept w.round v.read) A step_chains.1 (λ i q p. (inr (i, p), r.pins.past i q p)) (λ i q c p h a. (i, p, h, a)) (λ q k. r.names.fits q (inl k)) i (r.goes i) in
+      goes = λ i. let t = goes_on s w.name w.name w.head w.hist w.head w.hist w.born w.died born' w.died g.life g.life (λ _ _ _ _ _. refl) w.round v.ruling.phase g.who v.read (IsKept w.round v.read) A step_chains.1 (λ i q p. (inr (i, p), r.pins.past i q p)) (λ i q c p h a. (inl (i, p, h), a)) (λ q k. r.names.fits q (inl k)) i (r.goes i) in
           goes_who s w.round w.name w.hist born' w.died g.life g.who who' (λ q l. update_other g.who d q now (λ (e : q ≡ w.round + 1). omega arith)) (v.read i) (λ q p. r.pins.past i q p) t;
       rules = r.rules;
+      stock = r.stock;
+      note = r.note;
+      retired = retired_on w.round w.died g.life v.work (update v.work j (record (v.work j) { known = known })) v.ruling.retired (update_cases (λ i u. u.retired ≡ (v.work i).retired) v.work j (record (v.work j) { known = known }) refl (λ _ _. refl)) r.retired;
       holders = λ z i k q h. dite (ℕ_discrete z x) (λ f. ⊎_elim (λ e. inl (sym (held_one j i m k (Living b) q (sym (update_at g.stage x z (Held j m (Living b)) f) ∙ h)).0 ∙ e)) (λ e. inr (ap v.kind (sym (held_one j i m k (Living b) q (sym (update_at g.stage x z (Held j m (Living b)) f) ∙ h)).0) ∙ e)) (r.holders x j m (Whole b) is)) (λ o. r.holders z i k q (sym (update_other g.stage x z (Held j m (Living b)) o) ∙ h));
       hand = λ c h. absurd ((r.hand c h).0 one);
     }
@@ -174,6 +178,10 @@ module _ (s : Setup) (w : Words) (n : ℕ) (v : Views) (g : Ghost) (r : Rule s w
 
         not_half : (c : ℕ) → Living b ≡ Half c → ⊥
         not_half c e = cc
+
+        walker : (i : ℕ) → WalkRule s w.round v.ruling.phase w.name w.hist born' w.died g.life who' (v.kind i) i (v.work i)
+        walker i = workers_who s w.round v.ruling.phase w.name w.hist born' w.died g.life g.who who' (update_other g.who d w.round now (λ (e : w.round ≡ w.round + 1). omega arith)) (λ _ y k h. here y k (seen_stays y k h)) (v.kind i) i (v.work i)
+            (workers_on s w.name w.name w.head w.hist w.head w.hist w.born w.died born' w.died g.life g.life (λ _ _ _ _ _. refl) w.round v.ruling.phase g.who v.read (IsKept w.round v.read) A step_chains.1 (inl refl) (r.names.fits w.round (inl (inl refl))) (λ e. r.names.fits d (inr (refl, omega arith))) (v.kind i) i (v.work i) (λ c k h x. (inr (i, k, refl, h), x)) (r.walks i))
 
         now_is : (k a : ℕ) → now k ≡ a + 1 → who' d k ≡ a + 1
         now_is k a e = ap (λ (f : ℕ → ℕ). f k) (update_same g.who d now) ∙ e

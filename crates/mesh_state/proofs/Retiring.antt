@@ -1,11 +1,11 @@
 -- A patch is retired in the second half.
-use Rattle.std.proofs.Common.{◌≡◌, ℕ, ◌+◌, ◌<◌, ◌≤◌, Bool, true, false, List, ◌⊎◌, refl, sym, ap, ◌∙◌, subst, inl, inr, ⊎_elim, arith}
+use Rattle.std.proofs.Common.{◌≡◌, ℕ, ◌+◌, ◌<◌, ◌≤◌, Bool, true, false, List, ◌⊎◌, refl, sym, ap, ◌∙◌, subst, inl, inr, ⊎_elim, arith, ◌∷◌}
 use mathlib.Core.Logic.{dite}
 use native.Mathlib.Decide.{ℕ_discrete}
 use Rattle.mesh_words.specs.Setup.{Setup}
 use Rattle.mesh_words.specs.Functions.{update}
 use Rattle.mesh_words.specs.Words.{Words}
-use Rattle.mesh_words.specs.Views.{Views}
+use Rattle.mesh_words.specs.Views.{Views, Work}
 use Rattle.mesh_words.specs.Claims.{Drawn, Half, Living}
 use Rattle.mesh_words.specs.Places.{member_of}
 use Rattle.mesh_words.specs.Entries.{HasEntry}
@@ -13,10 +13,10 @@ use Rattle.mesh_words.proofs.Functions.{update_same, update_at, update_other, up
 use Rattle.mesh_state.specs.Ghosts.{Life, Placed, chained, Ghost}
 use Rattle.mesh_state.specs.Chains.{Covers, ChainsRule}
 use Rattle.mesh_state.specs.Bisections.{IsKept}
-use Rattle.mesh_state.specs.Work.{WorkRule}
+use Rattle.mesh_state.specs.Work.{WorkRule, WalkRule}
 use Rattle.mesh_state.specs.Sure.{GuardsBlock}
 use Rattle.mesh_state.specs.Rule.{Rule}
-use Rattle.mesh_state.proofs.FoundAgain.{goes_on, goes_who, Moves}
+use Rattle.mesh_state.proofs.FoundAgain.{goes_on, goes_who, workers_on, workers_who, Moves}
 use Rattle.mesh_state.proofs.BlockSteps.{kills}
 use Rattle.mesh_state.proofs.Across.{Went, low, some_worker}
 use Rattle.mesh_state.proofs.SureWords.{sure_on}
@@ -27,7 +27,7 @@ module _ (s : Setup) (w : Words) (n : ℕ) (v : Views) (g : Ghost) (r : Rule s w
   d = w.round + 1
 
   abbrev A : ℕ → ℕ → Type 0
-  A = Went w.died v.read
+  A = Went w.round w.died v.kind v.work v.read
 
   module _ (j b k : ℕ) (given : HasEntry (v.work j).given (b, k)) (kind : v.kind j ≡ 1) (zero_ : w.died b ≡ 0)
       (leaves : (c : Bool) → HasEntry (v.work j).open_ (s.child k c)) (mates : (i : ℕ) → s.mate k ≡ i + 1 → (c : Bool) → HasEntry (v.work j).open_ (s.child (i + 1) c)) where
@@ -73,7 +73,7 @@ module _ (s : Setup) (w : Words) (n : ℕ) (v : Views) (g : Ghost) (r : Rule s w
 
     -- and its members are known as not bisected from now on
     pub retires : (names : List ℕ) → ((i : ℕ) → HasEntry names i → HasEntry (v.work j).open_ i ⊎ ((t : Bool) × (y : ℕ) × (chained (g.life b) t ≡ y + 1) × (i ≡ w.name (member_of b t))))
-        → (wh : ℕ → ℕ → ℕ) × Rule s (record w { died = update w.died b d }) n (record v { work = update v.work j (record (v.work j) { open_ = names }) }) (record g { who = wh })
+        → (wh : ℕ → ℕ → ℕ) × Rule s (record w { died = update w.died b d }) n (record v { work = update v.work j (record (v.work j) { open_ = names; retired = b ∷ (v.work j).retired }) }) (record g { who = wh })
     retires names right = (
       who',
       record {
@@ -83,7 +83,7 @@ module _ (s : Setup) (w : Words) (n : ℕ) (v : Views) (g : Ghost) (r : Rule s w
         chains = step_chains.0;
         names = rounds.names_retire s r.names_apart w.round v.ruling.phase w.name w.head w.hist w.born w.died g.life g.who v.read r.names (low s w n v g r) b X M at two was leaf A step_chains.1;
         pins = r.pins;
-        works = update_cases (λ i u. WorkRule s w.round v.ruling.phase w.name w.born (update w.died b d) g.life (who' d) (v.kind i) i u) v.work j (record (v.work j) { open_ = names })
+        works = update_cases (λ i u. WorkRule s w.round v.ruling.phase w.name w.born (update w.died b d) g.life (who' d) (v.kind i) i u) v.work j (record (v.work j) { open_ = names; retired = b ∷ (v.work j).retired })
             record {
               only = λ a. absurd (a kind);
               found = λ y i h. let t = ((r.works j).found y i h).0 in let e = two in absurd (omega arith);
@@ -98,19 +98,31 @@ module _ (s : Setup) (w : Words) (n : ℕ) (v : Views) (g : Ghost) (r : Rule s w
               open_ = λ i h. let t = (r.works a).open_ i h in (t.0, now_is i (still_open i t.1));
               given = λ c i h. on_given c i ((r.works a).given c i h);
             });
+        walks = update_cases (λ i u. WalkRule s w.round v.ruling.phase w.name w.hist w.born (update w.died b d) g.life who' (v.kind i) i u) v.work j (record (v.work j) { open_ = names; retired = b ∷ (v.work j).retired }) (let u = walker j in record { still = u.still; only = λ o. absurd (o kind); half = u.half; absent = u.absent; stood = u.stood; had = u.had; went = u.went; walk = u.walk }) (λ i _. walker i);
         sure = λ i. sure_on s.elements v.ruling.workers v.ruling.workers w.head w.hist w.head w.hist w.born w.died w.name w.row w.born (update w.died b d) w.name w.row g.stage g.stage i (v.sure i)
             (λ z h. (h, refl))
             (λ c h. absurd (no_block i c h))
             (λ z e. let t = some_worker s w n v g r j kind in absurd (omega arith))
             (r.sure i);
         goes = λ i. goes_who s w.round w.name w.hist w.born (update w.died b d) g.life g.who who' (λ q l. update_other g.who d q now (λ (e : q ≡ w.round + 1). omega arith)) (v.read i) (λ q p. r.pins.past i q p)
-            (goes_on s w.name w.name w.head w.hist w.head w.hist w.born w.died w.born (update w.died b d) g.life g.life (λ _ _ _ _ _. refl) w.round v.ruling.phase g.who v.read (IsKept w.round v.read) A step_chains.1 (λ a q p. (inr (a, p), r.pins.past a q p)) (λ a q c p h x. (a, p, h, x)) (λ q x. r.names.fits q (inl x)) i (r.goes i));
+            (goes_on s w.name w.name w.head w.hist w.head w.hist w.born w.died w.born (update w.died b d) g.life g.life (λ _ _ _ _ _. refl) w.round v.ruling.phase g.who v.read (IsKept w.round v.read) A step_chains.1 (λ a q p. (inr (a, p), r.pins.past a q p)) (λ a q c p h x. (inl (a, p, h), x)) (λ q x. r.names.fits q (inl x)) i (r.goes i));
         rules = r.rules;
+        stock = r.stock;
+        note = r.note;
+        retired = λ c y k h e. dite (ℕ_discrete c b) (λ f. inl (j, subst (λ (u : Work). HasEntry u.retired c) (sym (update_same v.work j (record (v.work j) { open_ = names; retired = b ∷ (v.work j).retired }))) (inl f)))
+            (λ f. ⊎_elim (λ t. inl (t.0, keeps t.0 c t.1)) inr (r.retired c y k h (sym (update_other w.died b c d f) ∙ e)));
         holders = r.holders;
         hand = r.hand;
       },
     )
       where
+        walker : (i : ℕ) → WalkRule s w.round v.ruling.phase w.name w.hist w.born (update w.died b d) g.life who' (v.kind i) i (v.work i)
+        walker i = workers_who s w.round v.ruling.phase w.name w.hist w.born (update w.died b d) g.life g.who who' (update_other g.who d w.round now (λ (e : w.round ≡ w.round + 1). omega arith)) (λ e _ _ _. let t = two in absurd (omega arith)) (v.kind i) i (v.work i)
+            (workers_on s w.name w.name w.head w.hist w.head w.hist w.born w.died w.born (update w.died b d) g.life g.life (λ _ _ _ _ _. refl) w.round v.ruling.phase g.who v.read (IsKept w.round v.read) A step_chains.1 (inl refl) (r.names.fits w.round (inl (inl refl))) (λ e. let t = two in absurd (omega arith)) (v.kind i) i (v.work i) (λ c k h x. (inr (i, k, refl, h), x)) (r.walks i))
+
+        keeps : (i c : ℕ) → HasEntry (v.work i).retired c → HasEntry (update v.work j (record (v.work j) { open_ = names; retired = b ∷ (v.work j).retired }) i).retired c
+        keeps i c h = update_cases (λ a u. a ≡ i → HasEntry u.retired c) v.work j (record (v.work j) { open_ = names; retired = b ∷ (v.work j).retired }) (λ e. inr (subst (λ (a : ℕ). HasEntry (v.work a).retired c) (sym e) h)) (λ a _ e. subst (λ (a : ℕ). HasEntry (v.work a).retired c) (sym e) h) i refl
+
         now_is : (i : ℕ) → now i ≡ 0 → who' d i ≡ 0
         now_is i e = ap (λ (f : ℕ → ℕ). f i) (update_same g.who d now) ∙ e
 

@@ -1,5 +1,5 @@
--- A drawn block is filled, and the second member is linked.
-use Rattle.std.proofs.Common.{◌≡◌, ◌≢◌, ℕ, ◌+◌, Bool, true, ◌∷◌, refl, sym, ap, ◌∙◌, subst, inl, inr, ⊎_elim, arith}
+-- The second member is linked.
+use Rattle.std.proofs.Common.{◌≡◌, ◌≢◌, ℕ, ◌+◌, true, ◌∷◌, refl, sym, ap, ◌∙◌, subst, inl, inr, ⊎_elim, arith}
 use mathlib.Core.Logic.{dite}
 use native.Mathlib.Decide.{ℕ_discrete}
 use Rattle.mesh_words.specs.Setup.{Setup}
@@ -9,16 +9,15 @@ use Rattle.mesh_words.specs.Views.{Views}
 use Rattle.mesh_words.specs.Claims.{Progress, Drawn, Half, Whole, claim, moved_on}
 use Rattle.mesh_words.specs.Places.{member_of}
 use Rattle.mesh_words.specs.Entries.{HasEntry, Noted}
-use Rattle.mesh_words.proofs.Functions.{update_at, update_other, update_cases}
-use Rattle.mesh_words.proofs.PlaceNumbers.{member_one}
-use Rattle.mesh_state.specs.Ghosts.{Held, Life, Loose, Placed, Undone, chained, Ghost}
+use Rattle.mesh_words.proofs.Functions.{update_at, update_other}
+use Rattle.mesh_state.specs.Ghosts.{Held, Life, Placed, chained, Ghost}
 use Rattle.mesh_state.specs.Chains.{Finds, IsPlace}
 use Rattle.mesh_state.specs.Bisections.{IsPlaceOf, MayRead}
-use Rattle.mesh_state.specs.Sure.{GuardsBlock, GuardsHead, SureRule}
+use Rattle.mesh_state.specs.Sure.{GuardsHead}
 use Rattle.mesh_state.specs.Rule.{Rule}
-use Rattle.mesh_state.proofs.FoundAgain.{one_more, chained_stands, seen_live, names_on, goes_on, Moves}
+use Rattle.mesh_state.proofs.FoundAgain.{one_more, chained_stands, seen_live, names_on, goes_on, workers_on, Moves}
 use Rattle.mesh_state.proofs.ChainSteps.{moves_head, chains_head}
-use Rattle.mesh_state.proofs.BlockSteps.{undead, resets}
+use Rattle.mesh_state.proofs.BlockSteps.{undead}
 use Rattle.mesh_state.proofs.HeldClaims.{not_open, held_one, placed_one, free_not, loose_not, uses, used_life, shape_on, one_user, heads_apart}
 use Rattle.mesh_state.proofs.Across.{Went, some_worker, first_half}
 use Rattle.mesh_state.proofs.SureWords.{sure_on, block_back, head_back, not_kid}
@@ -30,7 +29,7 @@ module _ (s : Setup) (w : Words) (n : ℕ) (v : Views) (g : Ghost) (r : Rule s w
   d = w.round + 1
 
   abbrev A : ℕ → ℕ → Type 0
-  A = Went w.died v.read
+  A = Went w.round w.died v.kind v.work v.read
 
   abbrev Can : ℕ → Type 0
   Can q = MayRead w.round v.ruling.phase v.read q
@@ -91,8 +90,12 @@ module _ (s : Setup) (w : Words) (n : ℕ) (v : Views) (g : Ghost) (r : Rule s w
           (λ c h. (block_back s.elements v.ruling.workers g.stage x j (y + 1) (Half b) (Whole b) is (λ c e. absurd (not_drawn c e)) (λ c e. absurd (not_half c e)) i c h, (λ _. refl), refl, λ _. refl))
           (λ z e. let t = some_worker s w n v g r j kind in absurd (omega arith))
           (r.sure i);
-      goes = λ i. goes_on s w.name w.name w.head w.hist head' w.hist w.born w.died w.born w.died g.life g.life (λ _ _ _ _ _. refl) w.round v.ruling.phase g.who v.read Can A moves (λ a p e. (inl (inr (a, e)), r.pins.past a p e)) (λ a p c e h x. (a, e, h, x)) (λ p t. r.names.fits p t) i (r.goes i);
+      walks = λ i. workers_on s w.name w.name w.head w.hist head' w.hist w.born w.died w.born w.died g.life g.life (λ _ _ _ _ _. refl) w.round v.ruling.phase g.who v.read Can A moves (inl (inl refl)) (r.names.fits w.round (inl (inl refl))) (λ e. r.names.fits d (inr (refl, omega arith))) (v.kind i) i (v.work i) (λ b k h x. (inr (i, k, refl, h), x)) (r.walks i);
+      goes = λ i. goes_on s w.name w.name w.head w.hist head' w.hist w.born w.died w.born w.died g.life g.life (λ _ _ _ _ _. refl) w.round v.ruling.phase g.who v.read Can A moves (λ a p e. (inl (inr (a, e)), r.pins.past a p e)) (λ a p c e h x. (inl (a, e, h), x)) (λ p t. r.names.fits p t) i (r.goes i);
       rules = r.rules;
+      stock = r.stock;
+      note = r.note;
+      retired = r.retired;
       holders = λ z i c p h. dite (ℕ_discrete z x) (λ f. let t = (held_one j i (y + 1) c (Whole b) p (sym (update_at g.stage x z (Held j (y + 1) (Whole b)) f) ∙ h)).0 in inr (ap v.kind (sym t) ∙ kind)) (λ o. r.holders z i c p (sym (update_other g.stage x z (Held j (y + 1) (Whole b)) o) ∙ h));
       hand = r.hand;
     }
@@ -113,37 +116,3 @@ module _ (s : Setup) (w : Words) (n : ℕ) (v : Views) (g : Ghost) (r : Rule s w
             (λ f. not_half t.2 (held_one j i (y + 1) t.1 (Whole b) (Half t.2) (sym (update_at g.stage x t.0 (Held j (y + 1) (Whole b)) f) ∙ h.0)).2)
             (λ o. o (own_place s w n v g r x j (y + 1) (Half b) is y (inr refl) t.0 i t.1 (Half t.2) (sym (update_other g.stage x t.0 (Held j (y + 1) (Whole b)) o) ∙ h.0) (inr (h.1 ∙ ap (λ (c : ℕ). c + 1) e)))))
             t.3
-
-  -- a history word of the drawn block is filled: no one reads it yet
-  pub fills_hist : (j x m b : ℕ) (t : Bool) (l : Node) → HasEntry (v.claims j) (claim x m (Drawn b)) → v.kind j ≡ 1
-      → Rule s (record w { hist = update w.hist (member_of b t) l }) n (record v { sure = update v.sure j (record (v.sure j) { hist = (member_of b t, l) ∷ (v.sure j).hist }) }) g
-  fills_hist j x m b t l mine kind = let is = r.claims.held j x m (Drawn b) mine in let sh = r.claims.shape x j m (Drawn b) is in let hist' : ℕ → Node = update w.hist (member_of b t) l in
-      let off : (c : ℕ) → c ≢ b → (u : Bool) → hist' (member_of c u) ≡ w.hist (member_of c u) = λ c o u. update_other w.hist (member_of b t) (member_of c u) l (λ e. o (member_one c b u t e).0) in
-      let m0 = resets Can A s.elements w.round w.head w.hist w.born w.died g.life r.chains b (λ u. ap (λ (i : Life). chained i u) sh.0) hist' w.born w.died (λ c o. (off c o, refl, refl)) (r.chains.borns b) (λ y k u. absurd (clash (x + 1) y k (sym sh.0 ∙ u))) in
-      let mine_only : (i c : ℕ) → GuardsBlock v.ruling.workers g.stage i c → c ≡ b → i ≡ j = λ i c h e. ⊎_elim (λ o. let z = some_worker s w n v g r j kind in let y = o.1 in absurd (omega arith))
-      (λ o. ⊎_elim (λ f. holder is f (sole o.0 i o.1 (Drawn c) is f refl (ap (λ (a : ℕ). a + 1) e))) (λ f. holder is f (sole o.0 i o.1 (Half c) is f refl (ap (λ (a : ℕ). a + 1) e))) o.2) h in
-      record {
-        names_apart = r.names_apart;
-        claims = r.claims;
-        labels = r.labels;
-        chains = m0.0;
-        names = names_on s w.name w.name w.head w.hist w.head hist' w.born w.died w.born w.died g.life g.life (λ _ _ _ _ _. refl) w.round v.ruling.phase g.who v.read Can A m0.1 (λ _ k. k) r.names.patch r.names.calm r.names;
-        pins = r.pins;
-        works = r.works;
-        sure = update_cases (λ i u. SureRule s.elements v.ruling.workers w.head hist' w.born w.died w.name w.row g.stage i u) v.sure j (record (v.sure j) { hist = (member_of b t, l) ∷ (v.sure j).hist })
-            (let i = r.sure j in record { head_is = i.head_is; hist_is = λ c u k f h. ⊎_elim (λ z. update_at w.hist (member_of b t) (member_of c u) l (sym z.0) ∙ z.1) (λ z. update_other w.hist (member_of b t) (member_of c u) l (λ e. z.0 (sym e)) ∙ i.hist_is c u k z.1 h) f; died_is = i.died_is; name_is = i.name_is; born_is = i.born_is; row_is = i.row_is })
-            (λ i ne. let a = r.sure i in record { head_is = a.head_is; hist_is = λ c u k f h. off c (λ e. ne (mine_only i c h e)) u ∙ a.hist_is c u k f h; died_is = a.died_is; name_is = a.name_is; born_is = a.born_is; row_is = a.row_is });
-        goes = λ i. goes_on s w.name w.name w.head w.hist w.head hist' w.born w.died w.born w.died g.life g.life (λ _ _ _ _ _. refl) w.round v.ruling.phase g.who v.read Can A m0.1 (λ a p e. (inl (inr (a, e)), r.pins.past a p e)) (λ a p c e h x. (a, e, h, x)) (λ p k. r.names.fits p k) i (r.goes i);
-        rules = r.rules;
-        holders = r.holders;
-        hand = r.hand;
-      }
-    where
-      clash : (u y k : ℕ) → Loose u ≡ Undone y k → ⊥
-      clash u y k e = cc
-
-      sole : (z i k : ℕ) (p : Progress) → g.stage x ≡ Held j m (Drawn b) → g.stage z ≡ Held i k p → uses (Drawn b) ≡ b + 1 → uses p ≡ b + 1 → x ≡ z
-      sole z i k p is h u q = one_user s w.round w.cursor w.free v.ruling.phase w.row w.claimed w.head w.born g.life g.stage v.claims r.claims x z j i m k b (Drawn b) p is h u q
-
-      holder : {z i k : ℕ} {p : Progress} → g.stage x ≡ Held j m (Drawn b) → g.stage z ≡ Held i k p → x ≡ z → i ≡ j
-      holder is h e = (held_one _ _ _ _ _ _ (sym h ∙ ap g.stage (sym e) ∙ is)).0

@@ -13,10 +13,12 @@ use Rattle.mesh_words.proofs.Functions.{update_same, update_at, update_other, up
 use Rattle.mesh_words.proofs.Sums.{sum_same}
 use Rattle.mesh_state.specs.Ghosts.{Held, Ghost}
 use Rattle.mesh_state.specs.Bisections.{MayRead}
-use Rattle.mesh_state.specs.Work.{WorkRule}
+use Rattle.mesh_state.specs.Work.{WorkRule, WalkRule}
 use Rattle.mesh_state.specs.Sure.{SureRule}
 use Rattle.mesh_state.specs.Readers.{ReaderRule}
+use Rattle.mesh_state.specs.Owner.{NoneWent}
 use Rattle.mesh_state.specs.Rule.{Rule}
+use Rattle.mesh_state.proofs.FoundAgain.{walks_idle}
 use Rattle.mesh_words.proofs.Sums.{one_if, none_if}
 use Rattle.mesh_state.specs.Fresh.{idle, blank}
 
@@ -53,7 +55,7 @@ module _ (s : Setup) (w : Words) (n : ℕ) (v : Views) (g : Ghost) (r : Rule s w
 
     -- A pass is made: the owner is no longer sure of any word, where it is a pass at work
     pub splits : (notes : List Note) → ((k : Note) → HasEntry notes k → HasEntry (v.read 0).notes k)
-        → Rule s w (n + 1) (record v { kind = kind'; claims = update v.claims n []; work = update v.work n idle; sure = update (update v.sure 0 unsure) n unsure; read = update v.read n (blank notes); ruling = record v.ruling { workers = workers; readers = readers } }) g
+        → Rule s w (n + 1) (record v { kind = kind'; claims = update v.claims n []; work = update v.work n (record idle { half = v.ruling.phase }); sure = update (update v.sure 0 unsure) n unsure; read = update v.read n (blank notes); ruling = record v.ruling { workers = workers; readers = readers } }) g
     splits notes told = record {
       names_apart = r.names_apart;
       claims = record {
@@ -73,7 +75,7 @@ module _ (s : Setup) (w : Words) (n : ℕ) (v : Views) (g : Ghost) (r : Rule s w
       };
       labels = r.labels;
       chains = r.chains;
-      names = record { fits = λ q k. r.names.fits q (back q k); sound = λ q k. r.names.sound q (back q k); patch = r.names.patch; calm = r.names.calm; grows = r.names.grows; fresh = r.names.fresh };
+      names = record { fits = λ q k. r.names.fits q (back q k); sound = λ q k. r.names.sound q (back q k); patch = r.names.patch; calm = r.names.calm; grows = r.names.grows; either = r.names.either; fresh = r.names.fresh };
       pins = record {
         now = r.pins.now;
         later = r.pins.later;
@@ -86,9 +88,12 @@ module _ (s : Setup) (w : Words) (n : ℕ) (v : Views) (g : Ghost) (r : Rule s w
         bound = let a = sum (λ (u : Read). u.ready) refl in let b = r.pins.bound in omega arith;
       };
       works = λ j. dite (ℕ_discrete j n)
-          (λ e. subst (λ (u : Work). WorkRule s w.round v.ruling.phase w.name w.born w.died g.life (g.who (w.round + 1)) (kind' j) j u) (sym (update_at v.work n j idle e))
+          (λ e. subst (λ (u : Work). WorkRule s w.round v.ruling.phase w.name w.born w.died g.life (g.who (w.round + 1)) (kind' j) j u) (sym (update_at v.work n j (record idle { half = v.ruling.phase }) e))
           record { only = λ _ _. (refl, refl, refl, refl); found = λ x i f. absurd f; known = λ i f. absurd f; open_ = λ i f. absurd f; given = λ b i f. absurd f })
-          (λ o. subst (λ (u : Work × ℕ). WorkRule s w.round v.ruling.phase w.name w.born w.died g.life (g.who (w.round + 1)) u.1 j u.0) (λ i. (sym (update_other v.work n j idle o) i, sym (update_other v.kind n j kind o) i)) (r.works j));
+          (λ o. subst (λ (u : Work × ℕ). WorkRule s w.round v.ruling.phase w.name w.born w.died g.life (g.who (w.round + 1)) u.1 j u.0) (λ i. (sym (update_other v.work n j (record idle { half = v.ruling.phase }) o) i, sym (update_other v.kind n j kind o) i)) (r.works j));
+      walks = λ j. dite (ℕ_discrete j n)
+          (λ e. subst (λ (u : Work). WalkRule s w.round v.ruling.phase w.name w.hist w.born w.died g.life g.who (kind' j) j u) (sym (update_at v.work n j (record idle { half = v.ruling.phase }) e)) (walks_idle s w.round v.ruling.phase w.name w.hist w.born w.died g.life g.who (kind' j) j v.ruling.phase (λ _. refl)))
+          (λ o. subst (λ (u : Work × ℕ). WalkRule s w.round v.ruling.phase w.name w.hist w.born w.died g.life g.who u.1 j u.0) (λ i. (sym (update_other v.work n j (record idle { half = v.ruling.phase }) o) i, sym (update_other v.kind n j kind o) i)) (r.walks j));
       sure = update_cases (λ j u. SureRule s.elements workers w.head w.hist w.born w.died w.name w.row g.stage j u) (update v.sure 0 unsure) n unsure
           nothing_sure
           (λ j _. update_cases (λ j u. SureRule s.elements workers w.head w.hist w.born w.died w.name w.row g.stage j u) v.sure 0 unsure nothing_sure (λ i ne. let t = r.sure i in record {
@@ -100,7 +105,7 @@ module _ (s : Setup) (w : Words) (n : ℕ) (v : Views) (g : Ghost) (r : Rule s w
             row_is = λ b k f z _. absurd (ne z);
           }) j);
       goes = update_cases (λ _ u. ReaderRule s w.round w.name w.hist w.born w.died g.life g.who u) v.read n (blank notes)
-          record { went = λ q b p f. absurd f; walk = λ q p. tt; yes_notes = λ k q h. (r.goes 0).yes_notes k q (told _ h); no_notes = λ k q h. (r.goes 0).no_notes k q (told _ h) }
+          record { went = λ q b p f. absurd f; walk = λ q p. tt; places = λ q x k p f. absurd f; yes_notes = λ k q h. (r.goes 0).yes_notes k q (told _ h); no_notes = λ k q h. (r.goes 0).no_notes k q (told _ h) }
           (λ j _. r.goes j);
       rules = record {
         owner = (update_other v.kind n 0 kind (λ e. not_first (sym e)) ∙ r.rules.owner.0, omega arith);
@@ -111,6 +116,9 @@ module _ (s : Setup) (w : Words) (n : ℕ) (v : Views) (g : Ghost) (r : Rule s w
         halves = λ a b. ⊎_elim (λ t. absurd (⊎_elim a b t.1)) (λ t. t.2 ∙ r.rules.halves a b) which;
         clear = r.rules.clear;
       };
+      stock = record { finished = r.stock.finished; cursor_is = r.stock.cursor_is; free_is = r.stock.free_is; never = r.stock.never; left = r.stock.left };
+      note = record { undone = r.note.undone; all = r.note.all; placed = r.note.placed; seen = λ x e. let t = r.note.seen x e in (t.0, t.1, t.2, λ f. none (t.3 f)); quiet = λ e. none (r.note.quiet e) };
+      retired = λ b x m u e. ⊎_elim (λ t. inl (dite (ℕ_discrete t.0 n) (λ f. absurd (subst (λ (l : List ℕ). HasEntry l b) ((r.walks n).only (λ k. let z = new_kind in omega arith) not_first).3 (subst (λ (i : ℕ). HasEntry (v.work i).retired b) f t.1))) (λ o. (t.0, subst (λ (u : Work). HasEntry u.retired b) (sym (update_other v.work n t.0 (record idle { half = v.ruling.phase }) o)) t.1)))) inr (r.retired b x m u e);
       holders = λ x j m p h. ⊎_elim inl (λ k. inr (update_other v.kind n j kind (λ (e : j ≡ n). new_claims x m p (h ∙ ap (λ (i : ℕ). Held i m p) e)) ∙ k)) (r.holders x j m p h);
       hand = r.hand;
     }
@@ -120,6 +128,9 @@ module _ (s : Setup) (w : Words) (n : ℕ) (v : Views) (g : Ghost) (r : Rule s w
 
         sum : (f : Read → ℕ) → f (blank notes) ≡ 0 → sum_below (n + 1) (λ j. f (update v.read n (blank notes) j)) ≡ sum_below n (λ j. f (v.read j))
         sum f z = one_more_seat (λ j. f (v.read j)) (λ j. f (update v.read n (blank notes) j)) (λ i l. ap f (update_other v.read n i (blank notes) (λ (e : i ≡ n). omega arith))) ∙ (let a : f (update v.read n (blank notes) n) ≡ f (blank notes) = ap f (update_same v.read n (blank notes)) in omega arith)
+
+        none : NoneWent w.round v.read v.ruling.undone → NoneWent w.round (update v.read n (blank notes)) v.ruling.undone
+        none ok = update_cases (λ _ x. (b : ℕ) → x.pin ≡ w.round + 1 → HasEntry x.went b → HasEntry v.ruling.undone b → ⊥) v.read n (blank notes) (λ b p h m. absurd h) (λ i _. ok i)
 
         back : (q : ℕ) → MayRead w.round v.ruling.phase (update v.read n (blank notes)) q → MayRead w.round v.ruling.phase v.read q
         back q (inr k) = inr k

@@ -1,5 +1,5 @@
 -- Words that are sure stay so: no other seat changes them.
-use Rattle.std.proofs.Common.{◌≡◌, ℕ, ◌+◌, ◌<◌, Bool, false, ◌⊎◌, sym, ap, ◌∙◌, subst, inl, inr, ⊎_elim, arith}
+use Rattle.std.proofs.Common.{◌≡◌, ℕ, ◌+◌, ◌<◌, Bool, false, List, ◌⊎◌, sym, ap, ◌∙◌, subst, inl, inr, ⊎_elim, arith}
 use mathlib.Core.Logic.{dite}
 use native.Mathlib.Decide.{ℕ_discrete}
 use Rattle.mesh_words.specs.Functions.{update}
@@ -10,6 +10,9 @@ use Rattle.mesh_words.proofs.Functions.{update_at, update_other}
 use Rattle.mesh_words.proofs.PlaceNumbers.{child_one, child_outside}
 use Rattle.mesh_state.specs.Ghosts.{Stage, Held, Life, Loose, stands}
 use Rattle.mesh_state.specs.Chains.{IsPlace}
+use Rattle.mesh_words.specs.Entries.{HasEntry}
+use Rattle.mesh_words.specs.Views.{Work}
+use Rattle.mesh_state.specs.Work.{RetiredKnown}
 use Rattle.mesh_state.specs.Sure.{GuardsBlock, GuardsHead, SureRule}
 use Rattle.mesh_state.proofs.HeldClaims.{held_one}
 
@@ -56,3 +59,7 @@ module _ (e workers : ℕ) (stage : ℕ → Stage) (x j m : ℕ) (p q : Progress
 pub not_kid : (e : ℕ) (life : ℕ → Life) (x c u : ℕ) (t d : Bool) → IsPlace e life x → life c ≡ Loose u → x ≡ child_place e c t d → ⊥
 not_kid e life x c u t d (inl l) h s = child_outside e c t d (subst (λ (y : ℕ). y < e) s l)
 not_kid e life x c u t d (inr k) h s = let q = child_one e k.0 c k.1 k.2 t d (sym k.4 ∙ s) in let z : 0 ≡ k.3 + 1 = sym (ap (λ (l : Life). stands l false) (ap life q.0 ∙ h)) ∙ k.5 in absurd (omega arith)
+
+-- where the seats note the same blocks as retired
+pub retired_on : (round : ℕ) (died : ℕ → ℕ) (life : ℕ → Life) (work work' : ℕ → Work) (retired : List ℕ) → ((j : ℕ) → (work' j).retired ≡ (work j).retired) → RetiredKnown round died life work retired → RetiredKnown round died life work' retired
+retired_on round died life work work' retired same k b x m u e = ⊎_elim (λ t. inl (t.0, subst (λ (l : List ℕ). HasEntry l b) (sym (same t.0)) t.1)) inr (k b x m u e)

@@ -42,4 +42,6 @@ pub record NamesRule (s : Setup) (round phase : ℕ) (name : ℕ → ℕ) (head 
   pub calm : (b x m : ℕ) → (phase ≡ 2 → ⊥) × (phase ≡ 3 → ⊥) → life b ≡ Placed x m → died b ≤ round
   -- the first half only adds to the last finished round's forest, from which the round begins
   pub grows : (n b : ℕ) → phase < 2 → who round n ≡ b + 1 → who (round + 1) n ≡ b + 1
+  -- and the second half only takes from it
+  pub either : (n b : ℕ) → phase < 4 → who round n ≡ b + 1 → (who (round + 1) n ≡ b + 1) ⊎ (who (round + 1) n ≡ 0)
   pub fresh : (n : ℕ) → phase ≡ 0 → who (round + 1) n ≡ who round n

@@ -1,37 +1,82 @@
--- What the composed rule says of the words and the views alone.
-use Rattle.std.specs.Prelude.{◌≡◌, ℕ, ◌+◌, ◌≤◌, ◌<◌, Bool, ◌⊎◌}
+-- What the rule says of any lawful state, and so of the table between any two steps.
+use Rattle.std.specs.Prelude.{◌≡◌, ℕ, ◌+◌, ◌*◌, ◌≤◌, ◌<◌, Bool, true, false, ◌⊎◌, ◌↔◌}
 use Rattle.mesh_words.specs.Setup.{Setup}
 use Rattle.mesh_words.specs.Words.{Words}
 use Rattle.mesh_words.specs.Views.{Views}
-use Rattle.mesh_words.specs.Claims.{Progress, claim}
+use Rattle.mesh_words.specs.Claims.{Progress, Claimed, Failed, Drawn, Half, Whole, Living, claim}
 use Rattle.mesh_words.specs.Places.{member_of}
 use Rattle.mesh_words.specs.Entries.{HasEntry}
-use Rattle.mesh_state.specs.Ghosts.{stands, chained, Ghost}
+use Rattle.mesh_words.specs.Sums.{sum_below, one_where}
+use Rattle.mesh_state.specs.Ghosts.{stands, Free, Ghost}
 use Rattle.mesh_state.specs.Chains.{Reaches}
 use Rattle.mesh_state.specs.Bisections.{IsPlaceOf, MayRead}
 use Rattle.mesh_state.specs.Rule.{Rule}
 
--- the pins taken in a round stay within the bound
-abbrev pub PinsBounded : Type 0
-PinsBounded = (s : Setup) (w : Words) (n : ℕ) (v : Views) (g : Ghost) → Rule s w n v g → w.taken ≤ s.limit + s.passes + 1
+-- so it is in each lawful state; n is the number of seats that were ever made
+abbrev pub Always : (Setup → Words → ℕ → Views → Ghost → Type 0) → Type 0
+Always P = (s : Setup) (w : Words) (n : ℕ) (v : Views) (g : Ghost) → Rule s w n v g → P s w n v g
 
--- a claim stands in one view
+-- so it is of each round that may be read: `who` says which block bisects a name at the round
+abbrev pub AtRounds : (Setup → Words → Ghost → ℕ → (ℕ → ℕ) → Type 0) → Type 0
+AtRounds P = Always (λ s w n v g. (q : ℕ) → MayRead w.round v.ruling.phase v.read q → P s w g q (g.who q))
+
+-- the block of a claim, one more than its number, or 0
+abbrev pub block_of : Progress → ℕ
+block_of Claimed = 0
+block_of Failed = 0
+block_of (Drawn b) = b + 1
+block_of (Half b) = b + 1
+block_of (Whole b) = b + 1
+block_of (Living b) = b + 1
+
+-- the claim of a place stands in one view
 abbrev pub OneHolder : Type 0
-OneHolder = (s : Setup) (w : Words) (n : ℕ) (v : Views) (g : Ghost) → Rule s w n v g → (i j x m k : ℕ) (p q : Progress) → HasEntry (v.claims i) (claim x m p) → HasEntry (v.claims j) (claim x k q) → i ≡ j
+OneHolder = Always (λ s w n v g. (i j x m k : ℕ) (p q : Progress) → HasEntry (v.claims i) (claim x m p) → HasEntry (v.claims j) (claim x k q) → i ≡ j)
 
--- at a round that may be read, the walk from the place of a name finds the block that the history says, and no other
+-- a block is of one claim
+abbrev pub OneClaim : Type 0
+OneClaim = Always (λ s w n v g. (i j x y m k b : ℕ) (p q : Progress) → HasEntry (v.claims i) (claim x m p) → HasEntry (v.claims j) (claim y k q) → block_of p ≡ b + 1 → block_of q ≡ b + 1 → x ≡ y)
+
+-- in the first half there are at most as many draws as places
+abbrev pub DrawsBounded : Type 0
+DrawsBounded = Always (λ s w n v g. v.ruling.phase ≡ 1 → w.cursor ≤ s.elements + 4 * s.pool)
+
+-- the rows from CURSOR on and below FREE name free blocks, each once
+abbrev pub FreeRows : Type 0
+FreeRows = Always (λ s w n v g. (i k : ℕ) → w.cursor ≤ i → i < w.free → (g.life (w.row i) ≡ Free) × (w.born (w.row i) ≡ 0) × (w.cursor ≤ k → k < w.free → w.row i ≡ w.row k → i ≡ k))
+
+-- a walk from the place of a name finds the block that bisects it at the round, and no other
 abbrev pub WalksAgree : Type 0
-WalksAgree = (s : Setup) (w : Words) (n : ℕ) (v : Views) (g : Ghost) → Rule s w n v g → (q : ℕ) → MayRead w.round v.ruling.phase v.read q → (x k b : ℕ) → IsPlaceOf s w.name (g.who q) x k
-    → (g.who q k ≡ b + 1 → Reaches w.hist w.born w.died g.life q x b (w.head x)) × (Reaches w.hist w.born w.died g.life q x b (w.head x) → g.who q k ≡ b + 1)
+WalksAgree = AtRounds (λ s w g q who. (x k b : ℕ) → IsPlaceOf s w.name who x k → (who k ≡ b + 1 → Reaches w.hist w.born w.died g.life q x b (w.head x)) × (Reaches w.hist w.born w.died g.life q x b (w.head x) → who k ≡ b + 1))
 
--- the members of a block are bisected together
+-- walks end: the block that a HISTORY word names was retired in a finished round, before the block that has the word was published
+abbrev pub WalksEnd : Type 0
+WalksEnd = Always (λ s w n v g. (b c x : ℕ) (t : Bool) → stands (g.life b) t ≡ x + 1 → (w.hist (member_of b t)).block ≡ c + 1 → (0 < w.died c) × (w.died c ≤ w.round) × (0 < w.born b → w.died c < w.born b))
+
+-- a name that is bisected at a round is a macro element's, or its parent is bisected at the round
+abbrev pub ParentsBisected : Type 0
+ParentsBisected = AtRounds (λ s w g q who. (k b : ℕ) → who k ≡ b + 1 → ((x : ℕ) × (x < s.elements) × (k ≡ s.top x)) ⊎ ((p a : ℕ) × (c : Bool) × (k ≡ s.child p c) × (who p ≡ a + 1)))
+
+-- the two members of a patch are bisected by one block, or neither is
 abbrev pub MembersTogether : Type 0
-MembersTogether = (s : Setup) (w : Words) (n : ℕ) (v : Views) (g : Ghost) → Rule s w n v g → (q : ℕ) → MayRead w.round v.ruling.phase v.read q → (b y : ℕ) (t u : Bool) → g.who q (w.name (member_of b t)) ≡ b + 1 → chained (g.life b) u ≡ y + 1 → g.who q (w.name (member_of b u)) ≡ b + 1
+MembersTogether = AtRounds (λ s w g q who. (k i b : ℕ) → s.mate k ≡ i + 1 → (who k ≡ b + 1 ↔ who (i + 1) ≡ b + 1))
+
+-- a name has one place at a round, and a place one name
+abbrev pub PlacesAgree : Type 0
+PlacesAgree = AtRounds (λ s w g q who. (x y k i : ℕ) → IsPlaceOf s w.name who x k → (IsPlaceOf s w.name who y k → x ≡ y) × (IsPlaceOf s w.name who x i → k ≡ i))
+
+-- what a reader noted of a round agrees with the round
+abbrev pub NotesAgree : Type 0
+NotesAgree = Always (λ s w n v g. (j k q : ℕ) → (HasEntry (v.read j).notes record { round = q; name = k; bisected = true } → (b : ℕ) × (g.who q k ≡ b + 1)) × (HasEntry (v.read j).notes record { round = q; name = k; bisected = false } → g.who q k ≡ 0))
+
+-- the pins taken in a round stay within the bound, and each was given back or is in a view
+abbrev pub PinsBounded : Type 0
+PinsBounded = Always (λ s w n v g. (w.taken ≤ s.limit + s.passes + 1) × (w.taken ≡ w.released w.round + sum_below n (λ j. one_where (v.read j).pin (w.round + 1))))
 
 -- a block to which a reader has gone since its pin stands in a chain or was taken back, and its last round is above the pin
 abbrev pub NoEarlyReuse : Type 0
-NoEarlyReuse = (s : Setup) (w : Words) (n : ℕ) (v : Views) (g : Ghost) → Rule s w n v g → (j q b : ℕ) → (v.read j).pin ≡ q + 1 → HasEntry (v.read j).went b → ((t : Bool) × (x : ℕ) × (stands (g.life b) t ≡ x + 1)) × ((w.died b ≡ 0) ⊎ (q < w.died b))
+NoEarlyReuse = Always (λ s w n v g. (j q b : ℕ) → (v.read j).pin ≡ q + 1 → HasEntry (v.read j).went b → ((t : Bool) × (x : ℕ) × (stands (g.life b) t ≡ x + 1)) × ((w.died b ≡ 0) ⊎ (q < w.died b)))
 
 -- of a round that the owner knows as clear no view has a pin
 abbrev pub ClearRounds : Type 0
-ClearRounds = (s : Setup) (w : Words) (n : ℕ) (v : Views) (g : Ghost) → Rule s w n v g → (q j : ℕ) → HasEntry v.ruling.clear q → (v.read j).pin ≡ q + 1 → ⊥
+ClearRounds = Always (λ s w n v g. (q j : ℕ) → HasEntry v.ruling.clear q → (v.read j).pin ≡ q + 1 → ⊥)

@@ -10,3 +10,4 @@ pub mod Owner
 pub mod Rule
 pub mod Fresh
 pub mod Laws
+pub mod SquareRun

@@ -11,10 +11,10 @@ use Rattle.mesh_state.specs.Chains.{ChainsRule}
 use Rattle.mesh_state.specs.Claims.{linked, ClaimsRule}
 use Rattle.mesh_state.specs.Bisections.{NamesRule, IsPlaceOf}
 use Rattle.mesh_state.specs.Pins.{PinsRule}
-use Rattle.mesh_state.specs.Work.{WorkRule}
+use Rattle.mesh_state.specs.Work.{WorkRule, WalkRule, RetiredKnown}
 use Rattle.mesh_state.specs.Sure.{SureRule}
 use Rattle.mesh_state.specs.Readers.{ReaderRule}
-use Rattle.mesh_state.specs.Owner.{OwnerRule}
+use Rattle.mesh_state.specs.Owner.{OwnerRule, StockRule, NoteRule}
 
 -- in the first half the members of a claim's patch stand at its places, and are not bisected at the last finished round
 abbrev pub Labels : Setup → ℕ → ℕ → (ℕ → ℕ) → (ℕ → Stage) → (ℕ → ℕ → ℕ) → Type 0
@@ -30,9 +30,13 @@ pub record Rule (s : Setup) (w : Words) (n : ℕ) (v : Views) (g : Ghost) : Type
   pub names : NamesRule s w.round v.ruling.phase w.name w.head w.hist w.born w.died g.life g.who v.read
   pub pins : PinsRule s w.round w.taken w.released n v.kind v.read g.pins
   pub works : (j : ℕ) → WorkRule s w.round v.ruling.phase w.name w.born w.died g.life (g.who (w.round + 1)) (v.kind j) j (v.work j)
+  pub walks : (j : ℕ) → WalkRule s w.round v.ruling.phase w.name w.hist w.born w.died g.life g.who (v.kind j) j (v.work j)
   pub sure : (j : ℕ) → SureRule s.elements v.ruling.workers w.head w.hist w.born w.died w.name w.row g.stage j (v.sure j)
   pub goes : (j : ℕ) → ReaderRule s w.round w.name w.hist w.born w.died g.life g.who (v.read j)
   pub rules : OwnerRule s.passes w.round w.released g.pins n v.kind v.ruling
+  pub stock : StockRule w.round w.cursor w.free w.row g.life g.pins v.ruling
+  pub note : NoteRule w.round w.taken g.life v.read v.ruling
+  pub retired : RetiredKnown w.round w.died g.life v.work v.ruling.retired
   -- a claim is the owner's or a worker's
   pub holders : (x j m : ℕ) (p : Progress) → g.stage x ≡ Held j m p → (j ≡ 0) ⊎ (v.kind j ≡ 1)
   -- blocks that the owner knows as free are so, but in the first half

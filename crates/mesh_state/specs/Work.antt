@@ -1,10 +1,12 @@
 -- What the passes at work know.
-use Rattle.std.specs.Prelude.{◌≡◌, ℕ, ◌+◌, ◌<◌, ◌≤◌, false, [], ◌⊎◌}
+use Rattle.std.specs.Prelude.{◌≡◌, ℕ, ◌+◌, ◌<◌, ◌≤◌, Bool, false, List, [], ◌⊎◌}
 use Rattle.mesh_words.specs.Entries.{HasEntry}
 use Rattle.mesh_words.specs.Places.{member_of}
 use Rattle.mesh_words.specs.Setup.{Setup}
-use Rattle.mesh_words.specs.Views.{Work}
-use Rattle.mesh_state.specs.Ghosts.{Life, Placed}
+use Rattle.mesh_words.specs.Views.{Walk, Still, At, Past, Work}
+use Rattle.mesh_words.specs.Words.{Node}
+use Rattle.mesh_state.specs.Ghosts.{Life, Placed, stands}
+use Rattle.mesh_state.specs.Chains.{Covers, Reaches}
 use Rattle.mesh_state.specs.Bisections.{IsPlaceOf}
 
 -- `who` says which blocks bisect names at the round in work
@@ -18,3 +20,31 @@ pub record WorkRule (s : Setup) (round phase : ℕ) (name born died : ℕ → �
   pub open_ : (n : ℕ) → HasEntry v.open_ n → (phase ≡ 2) × (who n ≡ 0)
   -- a block that was found for a patch of the retire list is its block, of a finished round, and is not retired by that
   pub given : (b k : ℕ) → HasEntry v.given (b, k) → (phase ≡ 2) × (name (member_of b false) ≡ k) × ((x : ℕ) × (m : ℕ) × (life b ≡ Placed x m) × (0 < born b) × (born b ≤ round) × ((died b ≡ 0) ⊎ (died b ≡ round + 1)))
+
+-- the element n stands at x at the last finished round, or, in the first half, at the round in work
+abbrev pub IsWorkPlace : Setup → ℕ → ℕ → (ℕ → ℕ) → (ℕ → ℕ → ℕ) → ℕ → ℕ → Type 0
+IsWorkPlace s round phase name who x n = ((phase ≡ 1) × IsPlaceOf s name (who (round + 1)) x n) ⊎ IsPlaceOf s name (who round) x n
+
+-- Where a worker's walk is: it stands still; or it has gone to a block's member from the place of a name, whose block at the last finished round, if there is one, is this or is found behind it; or it has passed that block by
+abbrev pub WorkWalks : Setup → ℕ → ℕ → (ℕ → ℕ) → (ℕ → Node) → (ℕ → ℕ) → (ℕ → ℕ) → (ℕ → Life) → (ℕ → ℕ → ℕ) → List ℕ → Walk → Type 0
+WorkWalks s round phase name hist born died life who went Still = Unit {0}
+WorkWalks s round phase name hist born died life who went (At x n b t) = HasEntry went b × (stands (life b) t ≡ x + 1) × IsWorkPlace s round phase name who x n × ((c : ℕ) → who round n ≡ c + 1 → ((b ≡ c) × Covers born died round c) ⊎ Reaches hist born died life round x c (hist (member_of b t)))
+WorkWalks s round phase name hist born died life who went (Past x n b t) = HasEntry went b × (stands (life b) t ≡ x + 1) × IsWorkPlace s round phase name who x n × ((c : ℕ) → who round n ≡ c + 1 → Reaches hist born died life round x c (hist (member_of b t)))
+
+-- what the passes at work know of the last finished round, and where they walk
+pub record WalkRule (s : Setup) (round phase : ℕ) (name : ℕ → ℕ) (hist : ℕ → Node) (born died : ℕ → ℕ) (life : ℕ → Life) (who : ℕ → ℕ → ℕ) (kind : ℕ) (seat : ℕ) (v : Work) : Type 0 where
+  -- only workers' passes walk, and only they and the owner know of the work
+  pub still : (kind ≡ 1 → ⊥) → (v.went ≡ []) × (v.walk ≡ Still)
+  pub only : (kind ≡ 1 → ⊥) → (seat ≡ 0 → ⊥) → (v.absent ≡ []) × (v.stood ≡ []) × (v.had ≡ []) × (v.retired ≡ [])
+  -- a worker's pass knows its half
+  pub half : kind ≡ 1 → v.half ≡ phase
+  pub absent : (n : ℕ) → HasEntry v.absent n → who round n ≡ 0
+  pub stood : (x n : ℕ) → HasEntry v.stood (x, n) → IsPlaceOf s name (who round) x n
+  pub had : (b n : ℕ) → HasEntry v.had (b, n) → who round n ≡ b + 1
+  -- a block to which the pass went stands somewhere, and was not retired by the last finished round
+  pub went : (b : ℕ) → HasEntry v.went b → ((t : Bool) × (x : ℕ) × (stands (life b) t ≡ x + 1)) × ((died b ≡ 0) ⊎ (round < died b))
+  pub walk : WorkWalks s round phase name hist born died life who v.went v.walk
+
+-- each block that was retired in the round in work is known to have been so by some seat
+abbrev pub RetiredKnown : ℕ → (ℕ → ℕ) → (ℕ → Life) → (ℕ → Work) → List ℕ → Type 0
+RetiredKnown round died life work retired = (b x m : ℕ) → life b ≡ Placed x m → died b ≡ round + 1 → ((j : ℕ) × HasEntry (work j).retired b) ⊎ HasEntry retired b

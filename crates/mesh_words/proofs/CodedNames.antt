@@ -20,6 +20,13 @@ both false b e = absurd (not e)
     not : false ≡ true → ⊥
     not e = cc
 
+both_true : (a b : Bool) → a ≡ true → b ≡ true → (a && b) ≡ true
+both_true true b e f = f
+both_true false b e f = absurd (not e)
+  where
+    not : false ≡ true → ⊥
+    not e = cc
+
 -- a code of at most 24 letters tells its name
 code_one : (n m : Name) → depth n ≤ 24 → depth m ≤ 24 → name_code n ≡ name_code m → n ≡ m
 code_one n m h g e = sym (code_back n h) ∙ ap (λ (k : ℕ). name_in (k - 1)) e ∙ code_back m g
@@ -160,6 +167,7 @@ codes_apart mesh across l passes tells = record {
   top_one = λ i j e. let t = code_one (i, []) (j, []) (omega arith) (omega arith) e in ap (λ (n : Name). n.0) t;
   child_one = one mesh;
   top_child = top_not mesh;
+  mates_lead = λ n k e. let a = mate_is mesh across tells n k e in ap digit (both_true (is_code mesh n) (owns across (name_in (n - 1))) a.0 a.1);
   mate_one = mates mesh across tells;
   mate_leads = leader_not mesh across tells;
   leads_some = none_leads mesh across tells;

@@ -27,11 +27,12 @@ pub record Setup : Type 0 where
 abbrev pub places : Setup → ℕ
 places s = s.elements + 4 * s.pool
 
--- the laws of the names: different elements have different names, a patch has one first member, which is no second one, and 0 is no name that leads
+-- the laws of the names: different elements have different names, a name with a mate leads, a patch has one first member, which is no second one, and 0 is no name that leads
 pub record NamesApart (s : Setup) : Type 0 where
   pub top_one : (i j : ℕ) → s.top i ≡ s.top j → i ≡ j
   pub child_one : (n m : ℕ) (c d : Bool) → s.child n c ≡ s.child m d → (n ≡ m) × (c ≡ d)
   pub top_child : (i n : ℕ) (c : Bool) → s.top i ≡ s.child n c → ⊥
+  pub mates_lead : (n k : ℕ) → s.mate n ≡ k + 1 → s.leads n ≡ 1
   pub mate_one : (n m k : ℕ) → s.mate n ≡ k + 1 → s.mate m ≡ k + 1 → n ≡ m
   pub mate_leads : (n m k : ℕ) → s.mate n ≡ k + 1 → s.leads m ≡ 1 → m ≡ k + 1 → ⊥
   pub leads_some : s.leads 0 ≡ 1 → ⊥

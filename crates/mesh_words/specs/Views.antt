@@ -3,8 +3,16 @@ use Rattle.std.specs.Prelude.{ℕ, Bool, List, []}
 use Rattle.mesh_words.specs.Words.{Node}
 use Rattle.mesh_words.specs.Claims.{Claim}
 
+-- a walk stands still, has gone to a block's member from the place of an element with this name, or has passed the block by
+pub data Walk : Type 0 where
+  Still : Walk
+  At : ℕ → ℕ → ℕ → Bool → Walk
+  Past : ℕ → ℕ → ℕ → Bool → Walk
+
 -- what a worker's pass knows of the round in work
 pub record Work : Type 0 where
+  -- 1 in the first half of the round and 2 in the second
+  pub half : ℕ
   -- places where it found elements, each with the element's name
   pub found : List (ℕ × ℕ)
   -- names that are bisected, and names that are not
@@ -12,6 +20,16 @@ pub record Work : Type 0 where
   pub open_ : List ℕ
   -- blocks of patches that are to be retired, each with its first member's name
   pub given : List (ℕ × ℕ)
+  -- names that the last finished round has not, and places of elements at that round
+  pub absent : List ℕ
+  pub stood : List (ℕ × ℕ)
+  -- blocks that bisect a name at the last finished round, each with the name
+  pub had : List (ℕ × ℕ)
+  -- the blocks that it retired
+  pub retired : List ℕ
+  -- the blocks to which it has gone, and where its walk is
+  pub went : List ℕ
+  pub walk : Walk
 
 -- contents of words that no other seat changes: by place, by member, by block, by row
 pub record Sure : Type 0 where
@@ -25,12 +43,6 @@ pub record Sure : Type 0 where
 -- no content
 abbrev pub unsure : Sure
 unsure = record { head = []; hist = []; born = []; died = []; name = []; row = [] }
-
--- a walk stands still, has gone to a block's member from the place of an element with this name, or has passed the block by
-pub data Walk : Type 0 where
-  Still : Walk
-  At : ℕ → ℕ → ℕ → Bool → Walk
-  Past : ℕ → ℕ → ℕ → Bool → Walk
 
 -- whether a name is bisected at a round
 pub record Note : Type 0 where
@@ -48,18 +60,37 @@ pub record Read : Type 0 where
   pub went : List ℕ
   pub walk : Walk
   pub notes : List Note
+  -- places of elements at the pinned round, each with the element's name
+  pub places : List (ℕ × ℕ)
 
 -- what the owner knows
 pub record Ruling : Type 0 where
   -- 0 before the round's first pass, 1 in the first half, 2 in the second half, 3 while the round is closed, 4 while it is taken back
   pub phase : ℕ
+  -- the last finished round
+  pub finished : ℕ
   -- how many workers' and readers' passes are out
   pub workers : ℕ
   pub readers : ℕ
-  -- left rounds of which no pin is out
+  -- left rounds with the pins that were taken in them, and left rounds of which no pin is out
+  pub left : List (ℕ × ℕ)
   pub clear : List ℕ
   -- free blocks
   pub hand : List ℕ
+  -- one more than CURSOR and than FREE, or 0 where they are not known
+  pub cursor : ℕ
+  pub free : ℕ
+  -- blocks from this number on were not drawn in earlier rounds
+  pub ever : ℕ
+  -- the blocks that were retired in the round, once the second half has ended
+  pub retired : List ℕ
+  -- blocks with their places: that of the first member, and one more than that of the second (or 0)
+  pub placed : List (ℕ × ℕ × ℕ)
+  -- blocks that were taken back and are not free yet
+  pub undone : List ℕ
+  -- one more than what was found in RELEASED of the last finished round, or 0; and 1 where no pass with a pin of that round has gone to one of those blocks
+  pub seen : ℕ
+  pub quiet : ℕ
 
 -- The views. The kinds of seat: 0 of one that was joined, 1 a worker's, 2 a reader's, 3 the owner's, whose seat is 0
 pub record Views : Type 0 where

@@ -1,0 +1,176 @@
+-- What a seat learns of a word that it loads.
+use Rattle.mesh_words.specs.Claims.{Living, claim}
+use Rattle.std.proofs.Common.{◌≡◌, inl, ℕ, ◌+◌, ◌<◌, ◌≤◌, ◌∷◌, refl, sym, ap, ◌∙◌, subst, ⊎_elim, arith}
+use Rattle.mesh_words.specs.Setup.{Setup}
+use Rattle.mesh_words.specs.Functions.{update}
+use Rattle.mesh_words.specs.Words.{Words}
+use Rattle.mesh_words.specs.Views.{Views, Sure, Ruling}
+use Rattle.mesh_words.specs.Entries.{HasEntry, Noted}
+use native.Mathlib.Decide.{dec_lt}
+use Rattle.mesh_words.specs.Sums.{one_where}
+use Rattle.mesh_words.proofs.Functions.{update_cases}
+use Rattle.mesh_words.proofs.Sums.{one_if, summand}
+use Rattle.mesh_state.specs.Ghosts.{Free, Placed, Ghost}
+use Rattle.mesh_state.specs.Sure.{SureRule}
+use Rattle.mesh_state.specs.Owner.{OwnerRule, StockRule, NoteRule}
+use Rattle.mesh_state.specs.Rule.{Rule}
+
+module _ (s : Setup) (w : Words) (n : ℕ) (v : Views) (g : Ghost) (r : Rule s w n v g) where
+  learns_sure : (j : ℕ) (u : Sure) → SureRule s.elements v.ruling.workers w.head w.hist w.born w.died w.name w.row g.stage j u → Rule s w n (record v { sure = update v.sure j u }) g
+  learns_sure j u ok = record { names_apart = r.names_apart; claims = r.claims; labels = r.labels; chains = r.chains; names = r.names; pins = r.pins; works = r.works; walks = r.walks; sure = update_cases (λ i x. SureRule s.elements v.ruling.workers w.head w.hist w.born w.died w.name w.row g.stage i x) v.sure j u ok (λ i _. r.sure i); goes = r.goes; rules = r.rules; stock = r.stock; note = r.note; retired = r.retired; holders = r.holders; hand = r.hand }
+
+  -- words of which a seat is sure while it guards them
+  pub loads_head : (j x : ℕ) → Rule s w n (record v { sure = update v.sure j (record (v.sure j) { head = (x, w.head x) ∷ (v.sure j).head }) }) g
+  loads_head j x = let i = r.sure j in learns_sure j (record (v.sure j) { head = (x, w.head x) ∷ (v.sure j).head }) record {
+    head_is = λ z l f h. ⊎_elim (λ t. ap w.head (sym t.0) ∙ t.1) (λ t. i.head_is z l t.1 h) f;
+    hist_is = i.hist_is;
+    born_is = i.born_is;
+    died_is = i.died_is;
+    name_is = i.name_is;
+    row_is = i.row_is;
+  }
+
+  pub loads_hist : (j x : ℕ) → Rule s w n (record v { sure = update v.sure j (record (v.sure j) { hist = (x, w.hist x) ∷ (v.sure j).hist }) }) g
+  loads_hist j x = let i = r.sure j in learns_sure j (record (v.sure j) { hist = (x, w.hist x) ∷ (v.sure j).hist }) record {
+    head_is = i.head_is;
+    hist_is = λ b t l f h. ⊎_elim (λ q. ap w.hist (sym q.0) ∙ q.1) (λ q. i.hist_is b t l q.1 h) f;
+    born_is = i.born_is;
+    died_is = i.died_is;
+    name_is = i.name_is;
+    row_is = i.row_is;
+  }
+
+  pub loads_born : (j x : ℕ) → Rule s w n (record v { sure = update v.sure j (record (v.sure j) { born = (x, w.born x) ∷ (v.sure j).born }) }) g
+  loads_born j x = let i = r.sure j in learns_sure j (record (v.sure j) { born = (x, w.born x) ∷ (v.sure j).born }) record {
+    head_is = i.head_is;
+    hist_is = i.hist_is;
+    born_is = λ b k f a h. ⊎_elim (λ t. ap w.born (sym t.0) ∙ t.1) (λ t. i.born_is b k t.1 a h) f;
+    died_is = i.died_is;
+    name_is = i.name_is;
+    row_is = i.row_is;
+  }
+
+  pub loads_died : (j x : ℕ) → Rule s w n (record v { sure = update v.sure j (record (v.sure j) { died = (x, w.died x) ∷ (v.sure j).died }) }) g
+  loads_died j x = let i = r.sure j in learns_sure j (record (v.sure j) { died = (x, w.died x) ∷ (v.sure j).died }) record {
+    head_is = i.head_is;
+    hist_is = i.hist_is;
+    born_is = i.born_is;
+    died_is = λ b k f h. ⊎_elim (λ t. ap w.died (sym t.0) ∙ t.1) (λ t. i.died_is b k t.1 h) f;
+    name_is = i.name_is;
+    row_is = i.row_is;
+  }
+
+  pub loads_name : (j x : ℕ) → Rule s w n (record v { sure = update v.sure j (record (v.sure j) { name = (x, w.name x) ∷ (v.sure j).name }) }) g
+  loads_name j x = let i = r.sure j in learns_sure j (record (v.sure j) { name = (x, w.name x) ∷ (v.sure j).name }) record {
+    head_is = i.head_is;
+    hist_is = i.hist_is;
+    born_is = i.born_is;
+    died_is = i.died_is;
+    name_is = λ b t k f h. ⊎_elim (λ q. ap w.name (sym q.0) ∙ q.1) (λ q. i.name_is b t k q.1 h) f;
+    row_is = i.row_is;
+  }
+
+  pub loads_row : (j x : ℕ) → Rule s w n (record v { sure = update v.sure j (record (v.sure j) { row = (x, w.row x) ∷ (v.sure j).row }) }) g
+  loads_row j x = let i = r.sure j in learns_sure j (record (v.sure j) { row = (x, w.row x) ∷ (v.sure j).row }) record {
+    head_is = i.head_is;
+    hist_is = i.hist_is;
+    born_is = i.born_is;
+    died_is = i.died_is;
+    name_is = i.name_is;
+    row_is = λ a b f e h. ⊎_elim (λ t. ap w.row (sym t.0) ∙ t.1) (λ t. i.row_is a b t.1 e h) f;
+  }
+
+  -- what the owner learns
+  learns : (u : Ruling) → OwnerRule s.passes w.round w.released g.pins n v.kind u → StockRule w.round w.cursor w.free w.row g.life g.pins u → NoteRule w.round w.taken g.life v.read (record v.ruling { placed = u.placed; seen = u.seen; quiet = u.quiet }) → ((b : ℕ) → HasEntry u.hand b → (v.ruling.phase ≡ 1 → ⊥) × (g.life b ≡ Free)) → u.phase ≡ v.ruling.phase → u.workers ≡ v.ruling.workers → Rule s w n (record v { ruling = record v.ruling { clear = u.clear; hand = u.hand; cursor = u.cursor; free = u.free; ever = u.ever; placed = u.placed; seen = u.seen; quiet = u.quiet } }) g
+  learns u rules stock note hand a b = record {
+    names_apart = r.names_apart;
+    claims = r.claims;
+    labels = r.labels;
+    chains = r.chains;
+    names = r.names;
+    pins = r.pins;
+    works = r.works;
+    walks = r.walks;
+    sure = r.sure;
+    goes = r.goes;
+    rules = record { owner = r.rules.owner; one = r.rules.one; workers = r.rules.workers; readers = r.rules.readers; few_readers = r.rules.few_readers; halves = r.rules.halves; clear = rules.clear };
+    stock = record { finished = r.stock.finished; cursor_is = λ k e. let t = stock.cursor_is k e in ((λ f. t.0 (a ∙ f)), t.1); free_is = stock.free_is; never = stock.never; left = r.stock.left };
+    note = record { undone = note.undone; all = note.all; placed = note.placed; seen = note.seen; quiet = note.quiet };
+    retired = r.retired;
+    holders = r.holders;
+    hand = hand;
+  }
+
+  same_note : NoteRule w.round w.taken g.life v.read (record v.ruling { placed = v.ruling.placed; seen = v.ruling.seen; quiet = v.ruling.quiet })
+  same_note = record { undone = r.note.undone; all = r.note.all; placed = r.note.placed; seen = r.note.seen; quiet = r.note.quiet }
+
+  -- RELEASED of a round that was left shows that each of its pins was given back
+  pub notes_clear : (q k : ℕ) → HasEntry v.ruling.left (q, k) → w.released q ≡ k → Rule s w n (record v { ruling = record v.ruling { clear = q ∷ v.ruling.clear } }) g
+  notes_clear q k h e = let t = r.stock.left q k h in learns (record v.ruling { clear = q ∷ v.ruling.clear })
+      record { owner = r.rules.owner; one = r.rules.one; workers = r.rules.workers; readers = r.rules.readers; few_readers = r.rules.few_readers; halves = r.rules.halves; clear = λ i m. ⊎_elim (λ z. (subst (λ (x : ℕ). x < w.round) (sym z) t.0, ap w.released z ∙ e ∙ sym t.1 ∙ ap g.pins (sym z))) (r.rules.clear i) m }
+      record { finished = r.stock.finished; cursor_is = r.stock.cursor_is; free_is = r.stock.free_is; never = r.stock.never; left = r.stock.left } same_note r.hand refl refl
+
+  -- CURSOR, but in the first half
+  pub loads_cursor : (v.ruling.phase ≡ 1 → ⊥) → Rule s w n (record v { ruling = record v.ruling { cursor = w.cursor + 1 } }) g
+  loads_cursor o = learns (record v.ruling { cursor = w.cursor + 1 })
+      record { owner = r.rules.owner; one = r.rules.one; workers = r.rules.workers; readers = r.rules.readers; few_readers = r.rules.few_readers; halves = r.rules.halves; clear = r.rules.clear }
+      record { finished = r.stock.finished; cursor_is = λ k e. (o, omega arith); free_is = r.stock.free_is; never = r.stock.never; left = r.stock.left } same_note r.hand refl refl
+
+  pub loads_free : Rule s w n (record v { ruling = record v.ruling { free = w.free + 1 } }) g
+  loads_free = learns (record v.ruling { free = w.free + 1 })
+      record { owner = r.rules.owner; one = r.rules.one; workers = r.rules.workers; readers = r.rules.readers; few_readers = r.rules.few_readers; halves = r.rules.halves; clear = r.rules.clear }
+      record { finished = r.stock.finished; cursor_is = r.stock.cursor_is; free_is = λ k e. omega arith; never = r.stock.never; left = r.stock.left } same_note r.hand refl refl
+
+  -- a number above that of each block that was drawn
+  pub notes_ever : (e : ℕ) → v.ruling.ever ≤ e → Rule s w n (record v { ruling = record v.ruling { ever = e } }) g
+  notes_ever e l = learns (record v.ruling { ever = e })
+      record { owner = r.rules.owner; one = r.rules.one; workers = r.rules.workers; readers = r.rules.readers; few_readers = r.rules.few_readers; halves = r.rules.halves; clear = r.rules.clear }
+      record { finished = r.stock.finished; cursor_is = r.stock.cursor_is; free_is = r.stock.free_is; never = λ b m. r.stock.never b (omega arith); left = r.stock.left } same_note r.hand refl refl
+
+  -- a row from CURSOR on and below FREE names a free block
+  pub notes_free : (i b c k : ℕ) → (v.ruling.phase ≡ 1 → ⊥) → v.ruling.workers ≡ 0 → v.ruling.cursor ≡ c + 1 → v.ruling.free ≡ k + 1 → c ≤ i → i < k → Noted (v.sure 0).row i b → Rule s w n (record v { ruling = record v.ruling { hand = b ∷ v.ruling.hand } }) g
+  notes_free i b c k o home ci fi l m f = learns (record v.ruling { hand = b ∷ v.ruling.hand })
+      record { owner = r.rules.owner; one = r.rules.one; workers = r.rules.workers; readers = r.rules.readers; few_readers = r.rules.few_readers; halves = r.rules.halves; clear = r.rules.clear }
+      record { finished = r.stock.finished; cursor_is = r.stock.cursor_is; free_is = r.stock.free_is; never = r.stock.never; left = r.stock.left } same_note
+      (λ a h. ⊎_elim (λ e. (o, ap g.life (e ∙ sym ((r.sure 0).row_is i b f refl home)) ∙ (r.claims.rows i (let z = (r.stock.cursor_is c ci).1 in omega arith) (let z = r.stock.free_is k fi in omega arith)).0)) (r.hand a) h) refl refl
+
+  -- RELEASED of the last finished round is loaded first
+  pub finds_released : Rule s w n (record v { ruling = record v.ruling { seen = w.released w.round + 1 } }) g
+  finds_released = learns (record v.ruling { seen = w.released w.round + 1 })
+      record { owner = r.rules.owner; one = r.rules.one; workers = r.rules.workers; readers = r.rules.readers; few_readers = r.rules.few_readers; halves = r.rules.halves; clear = r.rules.clear }
+      record { finished = r.stock.finished; cursor_is = r.stock.cursor_is; free_is = r.stock.free_is; never = r.stock.never; left = r.stock.left }
+      record {
+        undone = r.note.undone;
+        all = r.note.all;
+        placed = r.note.placed;
+        seen = λ x e. let c = r.pins.count w.round in let t = r.pins.now in let q : x ≡ w.released w.round = omega arith in (w.taken, omega arith, omega arith, λ f j b p h m. out j p (omega arith));
+        quiet = r.note.quiet;
+      } r.hand refl refl
+    where
+      -- where each pin was given back none is out
+      out : (j : ℕ) → (v.read j).pin ≡ w.round + 1 → w.taken ≡ w.released w.round → ⊥
+      out j p e = let c = r.pins.count w.round in let t = r.pins.now in elim (dec_lt j n) [
+        | yes l ↦ let o = one_if (v.read j).pin (w.round + 1) p in let m = summand n (λ i. one_where (v.read i).pin (w.round + 1)) j l in omega arith
+        | no o ↦ let z = r.pins.few j (omega arith) in let q = (r.pins.readers j (λ (t : v.kind j ≡ 2). absurd (omega arith))).0 in omega arith
+      ]
+
+  -- and ROUND after it: where it shows as many pins, no pass with a pin has gone to the blocks that were taken back
+  pub finds_quiet : v.ruling.seen ≡ w.taken + 1 → Rule s w n (record v { ruling = record v.ruling { quiet = 1 } }) g
+  finds_quiet e = let t = r.note.seen w.taken e in let t1 = t.1 in let t2 = t.2 in learns (record v.ruling { quiet = 1 })
+      record { owner = r.rules.owner; one = r.rules.one; workers = r.rules.workers; readers = r.rules.readers; few_readers = r.rules.few_readers; halves = r.rules.halves; clear = r.rules.clear }
+      record { finished = r.stock.finished; cursor_is = r.stock.cursor_is; free_is = r.stock.free_is; never = r.stock.never; left = r.stock.left }
+      record { undone = r.note.undone; all = r.note.all; placed = r.note.placed; seen = r.note.seen; quiet = λ _. t.3 (omega arith) } r.hand refl refl
+
+  -- the owner's claim on a published block shows the block's places
+  pub notes_placed : (b x m : ℕ) → HasEntry (v.claims 0) (claim x m (Living b)) → Rule s w n (record v { ruling = record v.ruling { placed = (b, x, m) ∷ v.ruling.placed } }) g
+  notes_placed b x m h = learns (record v.ruling { placed = (b, x, m) ∷ v.ruling.placed })
+      record { owner = r.rules.owner; one = r.rules.one; workers = r.rules.workers; readers = r.rules.readers; few_readers = r.rules.few_readers; halves = r.rules.halves; clear = r.rules.clear }
+      record { finished = r.stock.finished; cursor_is = r.stock.cursor_is; free_is = r.stock.free_is; never = r.stock.never; left = r.stock.left }
+      record {
+        undone = r.note.undone;
+        all = r.note.all;
+        placed = λ c y k e. ⊎_elim (λ q. let z0 : c ≡ b = ap (λ (z : ℕ × ℕ × ℕ). z.0) q in let z1 : y ≡ x = ap (λ (z : ℕ × ℕ × ℕ). z.1) q in let z2 : k ≡ m = ap (λ (z : ℕ × ℕ × ℕ). z.2) q in
+            inl (ap g.life z0 ∙ (r.claims.shape x 0 m (Living b) (r.claims.held 0 x m (Living b) h)).0 ∙ (λ t. Placed (sym z1 t) (sym z2 t)))) (r.note.placed c y k) e;
+        seen = r.note.seen;
+        quiet = r.note.quiet;
+      } r.hand refl refl
