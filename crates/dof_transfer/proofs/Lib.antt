@@ -1,0 +1,4 @@
+pub mod SlotMaps
+pub mod LiveNames
+pub mod Soundness
+pub mod Ledgers

@@ -1,0 +1,15 @@
+-- A ledger, as contracts see it.
+use Rattle.std.specs.Prelude.{◌≡◌, true}
+use Rattle.std.specs.FinMap.{contains_key}
+use Rattle.mesh_names.specs.Names.{Name}
+use Rattle.dof_transfer.specs.Slots.{live_of}
+use Rattle.dof_transfer.specs.Held.{Held}
+use Rattle.dof_transfer.specs.declared.ledger.Ledger.{Ledger}
+
+-- what stands in the slots, and which indices are used
+abbrev pub held_of : Ledger → Held
+held_of ledger = record { live = live_of ledger.entries; flags = ledger.admin.flags }
+
+-- the names that have slots keep them
+abbrev pub KeepsReady : Ledger → Ledger → Type 0
+KeepsReady old new = (n : Name) → contains_key old.entries n ≡ true → contains_key new.entries n ≡ true
