@@ -2,3 +2,4 @@ pub mod SlotMaps
 pub mod LiveNames
 pub mod Soundness
 pub mod Ledgers
+pub mod FirstNames

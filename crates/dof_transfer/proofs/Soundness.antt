@@ -9,7 +9,7 @@ use Rattle.dof_admin.specs.Administration.{IsLeastUnused, used_at, with_used}
 use Rattle.mesh_names.specs.Names.{Name, name_cmp, name_eq}
 use Rattle.mesh_names.specs.Order.{name_cmp_total}
 use Rattle.dof_transfer.specs.declared.entries.Entry.{Entry}
-use Rattle.dof_transfer.specs.Held.{Held, IsSound, index_of, least_unused, cleared, given_back, taken}
+use Rattle.dof_transfer.specs.Held.{Held, IsSound, SetsValue, index_of, least_unused, cleared, given_back, taken}
 use Rattle.mesh_names.proofs.Sets.{same-tied, tied-same}
 
 -- at and above the size no index is used
@@ -137,4 +137,30 @@ pub sound-taken : (held : Held) (n : Name) (v : ℤ) → IsSound held → IsSoun
 sound-taken held n v sound = record {
   used = λ q i h. still_used held n q i sound (holds held n q v i h);
   apart = λ p q i hp hq. still_apart held n p q i sound (holds held n p v i hp) (holds held n q v i hq);
+}
+
+-- a value that is set changes no index
+index-set : (held : Held) (n q : Name) (e : Entry) (v : ℤ) → get held.live n ≡ Some e → index_of (record { live = insert held.live n (record { index = e.index; value = v }); flags = held.flags }) q ≡ index_of held q
+index-set held n q e v has = ap (option_map (λ (x : Entry). x.index)) (get-insert name_cmp_total held.live n (record { index = e.index; value = v }) q) ∙ moved where
+  moved : option_map (λ (x : Entry). x.index) (cond (eq_by_cmp name_cmp q n) (Some (record { index = e.index; value = v })) (get held.live q)) ≡ option_map (λ (x : Entry). x.index) (get held.live q)
+  moved =
+      elim (eq_by_cmp name_cmp q n) as (λ (b : Bool). eq_by_cmp name_cmp q n ≡ b → option_map (λ (x : Entry). x.index) (cond b (Some (record { index = e.index; value = v })) (get held.live q)) ≡ option_map (λ (x : Entry). x.index) (get held.live q)) [
+        true ↦ λ (t : eq_by_cmp name_cmp q n ≡ true). ap (option_map (λ (x : Entry). x.index)) (sym (ap (get held.live) (tied-same q n t) ∙ has))
+      | false ↦ λ _. refl
+      ] refl
+
+pub sets_value : (held : Held) (n : Name) (e : Entry) (v : ℤ) → get held.live n ≡ Some e → SetsValue held (record { live = insert held.live n (record { index = e.index; value = v }); flags = held.flags }) n v
+sets_value held n e v has = record {
+  value = ap (option_map (λ (x : Entry). x.value)) (get-insert name_cmp_total held.live n (record { index = e.index; value = v }) n) ∙ ap (λ (b : Bool). option_map (λ (x : Entry). x.value) (cond b (Some (record { index = e.index; value = v })) (get held.live n))) (same-tied n n refl);
+  index = index-set held n n e v has;
+  others = λ q other. get-insert name_cmp_total held.live n (record { index = e.index; value = v }) q ∙ ap (λ (b : Bool). cond b (Some (record { index = e.index; value = v })) (get held.live q)) (untied q n other);
+  flags = refl;
+} where
+  untied : (q n : Name) → q ≢ n → eq_by_cmp name_cmp q n ≡ false
+  untied q n other = elim (eq_by_cmp name_cmp q n) as (λ (b : Bool). eq_by_cmp name_cmp q n ≡ b → b ≡ false) [ true ↦ λ (t : eq_by_cmp name_cmp q n ≡ true). absurd (other (tied-same q n t)) | false ↦ λ _. refl ] refl
+
+pub sound-set : (held : Held) (n : Name) (e : Entry) (v : ℤ) → get held.live n ≡ Some e → IsSound held → IsSound (record { live = insert held.live n (record { index = e.index; value = v }); flags = held.flags })
+sound-set held n e v has sound = record {
+  used = λ q i h. sound.used q i (sym (index-set held n q e v has) ∙ h);
+  apart = λ p q i hp hq. sound.apart p q i (sym (index-set held n p e v has) ∙ hp) (sym (index-set held n q e v has) ∙ hq);
 }

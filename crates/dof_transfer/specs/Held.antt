@@ -1,15 +1,21 @@
 -- What is held of live names: their indices and values, and which indices are used.
-use Rattle.std.specs.Prelude.{◌≡◌, ℕ, ℤ, pos, Bool, true, false, not, List, [], ◌∷◌, slice_set, Option, Some, None, unwrap_or, option_map}
+use Rattle.std.specs.Prelude.{◌≡◌, ◌≢◌, ℕ, ◌*◌, ◌^◌, ◌-◌, ◌≤◌, refl, nat_abs, ℤ, pos, Bool, true, false, not, List, [], ◌∷◌, slice_set, Option, Some, None, unwrap_or, option_map}
 use Rattle.std.specs.List.{position_or_len}
-use Rattle.std.specs.FinMap.{FinMap, get, insert, remove}
+use Rattle.std.specs.Coded.{Coded, code_by, coded×, coded_ℕ, coded_list, coded_bool}
+use Rattle.std.specs.FinMap.{FinMap, code, get, insert, remove}
 use Rattle.dof_admin.specs.Administration.{used_at, with_used}
-use Rattle.mesh_names.specs.Names.{Name, name_cmp}
+use Rattle.mesh_names.specs.Names.{Name, name_cmp, depth}
 use Rattle.dof_transfer.specs.declared.entries.Entry.{Entry}
+use Rattle.dof_transfer.specs.Slots.{entry_code}
 
 -- the live names, and whether each index below the size is used
 pub record Held : Type 0 where
   pub live : FinMap name_cmp Entry
   pub flags : List Bool
+
+-- it is stored as the pair of its parts
+abbrev pub held_code : Coded Held
+held_code = code_by (FinMap name_cmp Entry × List Bool) (coded× (code (coded× coded_ℕ (coded_list coded_bool)) entry_code) (coded_list coded_bool)) (λ h. (h.live, h.flags)) (λ p. record { live = p.0; flags = p.1 }) (λ _. refl)
 
 -- the value of a live name
 abbrev pub value_of : Held → Name → Option ℤ
@@ -23,6 +29,21 @@ index_of held n = option_map (λ (e : Entry). e.index) (get held.live n)
 pub record IsSound (held : Held) : Type 0 where
   pub used : (n : Name) (i : ℕ) → index_of held n ≡ Some i → used_at held.flags i ≡ true
   pub apart : (m n : Name) (i : ℕ) → index_of held m ≡ Some i → index_of held n ≡ Some i → m ≡ n
+
+-- an element's value, by the number of its letters: each halving leaves room for half as much
+abbrev pub IsSized : ℕ → ℤ → Type 0
+IsSized letters v = nat_abs v ≤ 2 ^ 31 * 2 ^ (24 - letters)
+
+pub record AreSized (held : Held) : Type 0 where
+  pub deep : (n : Name) (v : ℤ) → value_of held n ≡ Some v → depth n ≤ 24
+  pub sized : (n : Name) (v : ℤ) → value_of held n ≡ Some v → IsSized (depth n) v
+
+-- one live name has another value, and nothing else has changed
+pub record SetsValue (old new : Held) (n : Name) (v : ℤ) : Type 0 where
+  pub value : value_of new n ≡ Some v
+  pub index : index_of new n ≡ index_of old n
+  pub others : (q : Name) → q ≢ n → get new.live q ≡ get old.live q
+  pub flags : new.flags ≡ old.flags
 
 -- the least index that is not used: the least hole, or else the size
 abbrev pub least_unused : List Bool → ℕ

@@ -2,3 +2,4 @@ pub mod Slots
 pub mod Held
 pub mod Exchanges
 pub mod Ledgers
+pub mod Macros

@@ -1,8 +1,8 @@
 //! What is held of live names, with the administration of their indices.
-ghost use Rattle.std.specs.Prelude.{◌≡◌, ◌+◌, ◌<◌, ◌≤◌, ◌^◌, true, OnErr, OnOk, length};
+ghost use Rattle.std.specs.Prelude.{◌≡◌, ◌+◌, ◌<◌, ◌≤◌, ◌^◌, true, [], IsSome, OnErr, OnOk, length};
 ghost use Rattle.std.specs.FinMap.{contains_key, empty, get};
 ghost use Rattle.dof_admin.specs.Administration.{used_count};
-ghost use Rattle.dof_transfer.specs.Held.{IsSound, given_back, taken};
+ghost use Rattle.dof_transfer.specs.Held.{IsSound, SetsValue, given_back, taken, value_of};
 ghost use Rattle.dof_transfer.specs.Exchanges.{value_in};
 ghost use Rattle.dof_transfer.specs.Ledgers.{KeepsReady, held_of};
 
@@ -19,6 +19,16 @@ pub(crate) struct Ledger {
 }
 
 impl Ledger {
+    /// Nothing. Takes no memory.
+    pub(crate) fn new(alloc: Global) -> Ledger
+        ensures { result ≡ record { entries = empty; admin = record { flags = []; spare = 0 } } }
+    {
+        Ledger {
+            entries: Entries::new(alloc),
+            admin: DofAdmin::new(alloc),
+        }
+    }
+
     /// What a live name has.
     pub(crate) fn get(&self, name: ElemName) -> Option<Entry>
         ensures { result ≡ get (held_of self.now).live name }
@@ -66,6 +76,19 @@ impl Ledger {
     {
         let index = self.admin.get();
         self.entries.put(name, Entry { index, value });
+    }
+
+    /// Sets the value of a live name, and nothing else. Takes no memory.
+    pub(crate) fn set(&mut self, name: ElemName, value: i64)
+        requires live { IsSome (value_of (held_of self.old) name) }
+        requires sound { IsSound (held_of self.old) }
+        ensures set { SetsValue (held_of self.old) (held_of self.new) name value }
+        ensures sound { IsSound (held_of self.new) }
+    {
+        if let Some(entry) = self.entries.get(name) {
+            let index = entry.index;
+            self.entries.put(name, Entry { index, value });
+        }
     }
 
     /// Takes the name's slot away where nothing stands in it. Takes no memory.
