@@ -3,3 +3,4 @@ pub mod LiveNames
 pub mod Soundness
 pub mod Ledgers
 pub mod FirstNames
+pub mod Exchanging

@@ -1,13 +1,11 @@
 -- What stands in slots, as they change.
 use Rattle.std.proofs.Common.{◌≡◌, Bool, true, false, cond, ◌&&◌, T, List, [], ◌∷◌, refl, ap, sym, ◌∙◌, subst, Option, Some, None, unwrap_or, is_some, not, true≢false}
 use Rattle.std.specs.Ordering.{is_lt, is_eq, eq_by_cmp}
-use Rattle.std.specs.Cmp.{IsTotalOrder}
-use Rattle.std.proofs.lemmas.Cmp.{eq_by_cmp_equiv}
-use Rattle.std.specs.FinMap.{FinMap, get, insert, remove, contains_key, entries, from_entries, find, is_sorted, get-from_entries, get-insert, get-remove, get-empty, empty, get-entries, entries_sorted, same_map}
+use Rattle.std.specs.FinMap.{FinMap, get, insert, remove, contains_key, entries, find, is_sorted, get-from_entries, get-insert, get-remove, get-empty, empty, get-entries, entries_sorted, same_map}
 use Rattle.std.specs.FinMap.Entries.{below_all}
 use Rattle.std.specs.declared.cmp.Ordering.{Ordering}
 use Rattle.std.specs.declared.cmp.Ordering.TheVariants.{Less, Equal, Greater}
-use Rattle.mesh_names.specs.Names.{Name, name_cmp, name_eq}
+use Rattle.mesh_names.specs.Names.{Name, name_cmp}
 use Rattle.mesh_names.specs.Order.{name_cmp_total, name_cmp-same}
 use Rattle.dof_transfer.specs.declared.entries.Entry.{Entry}
 use Rattle.dof_transfer.specs.Slots.{Slot, Slots, live_at, readied, forgotten, live_list, live_of}
@@ -48,13 +46,13 @@ found_live : (q : Name) (es : List (Name × Slot)) → T (is_sorted name_cmp es)
 found_live q [] h = refl
 found_live q ((n, None) ∷ es) h =
     elim (eq_by_cmp name_cmp q n) as (λ (b : Bool). eq_by_cmp name_cmp q n ≡ b → find name_cmp q (live_list es) ≡ flat (cond b (Some None) (find name_cmp q es))) [
-      true ↦ λ (e : eq_by_cmp name_cmp q n ≡ true). subst (λ (m : Name). find name_cmp m (live_list es) ≡ None) (sym (same_name q n e)) (none_above n es (left (below_all name_cmp n es) (is_sorted name_cmp es) h))
-    | false ↦ λ _. found_live q es (right (below_all name_cmp n es) (is_sorted name_cmp es) h)
+      | true ↦ λ (e : eq_by_cmp name_cmp q n ≡ true). subst (λ (m : Name). find name_cmp m (live_list es) ≡ None) (sym (same_name q n e)) (none_above n es (left (below_all name_cmp n es) (is_sorted name_cmp es) h))
+      | false ↦ λ _. found_live q es (right (below_all name_cmp n es) (is_sorted name_cmp es) h)
     ] refl
 found_live q ((n, Some e) ∷ es) h =
     elim (eq_by_cmp name_cmp q n) as (λ (b : Bool). cond b (Some e) (find name_cmp q (live_list es)) ≡ flat (cond b (Some (Some e)) (find name_cmp q es))) [
-      true ↦ refl
-    | false ↦ found_live q es (right (below_all name_cmp n es) (is_sorted name_cmp es) h)
+      | true ↦ refl
+      | false ↦ found_live q es (right (below_all name_cmp n es) (is_sorted name_cmp es) h)
     ]
 
 pub get-live : (s : Slots) (q : Name) → get (live_of s) q ≡ live_at s q
@@ -96,8 +94,8 @@ live-emptied s n = same_map name_cmp_total name_cmp-same _ _ (λ q.
 absent : (s : Slots) (n q : Name) → live_at s n ≡ None → cond (eq_by_cmp name_cmp q n) None (live_at s q) ≡ live_at s q
 absent s n q none =
     elim (eq_by_cmp name_cmp q n) as (λ (b : Bool). eq_by_cmp name_cmp q n ≡ b → cond b None (live_at s q) ≡ live_at s q) [
-      true ↦ λ (e : eq_by_cmp name_cmp q n ≡ true). sym none ∙ ap (live_at s) (sym (same_name q n e))
-    | false ↦ λ _. refl
+      | true ↦ λ (e : eq_by_cmp name_cmp q n ≡ true). sym none ∙ ap (live_at s) (sym (same_name q n e))
+      | false ↦ λ _. refl
     ] refl
 
 no_slot : (o : Option Slot) → is_some o ≡ false → flat o ≡ None
@@ -107,21 +105,21 @@ no_slot (Some v) h = absurd (true≢false h)
 pub live-readied : (s : Slots) (n : Name) → live_of (readied s n) ≡ live_of s
 live-readied s n =
     elim (contains_key s n) as (λ (b : Bool). contains_key s n ≡ b → live_of (cond b s (insert s n None)) ≡ live_of s) [
-      true ↦ λ _. refl
-    | false ↦ λ (e : contains_key s n ≡ false). same_live _ _ (λ q.
-        ap flat (get-insert name_cmp_total s n None q) ∙ flat-cond (eq_by_cmp name_cmp q n) None (get s q) ∙ absent s n q (no_slot (get s n) e))
+      | true ↦ λ _. refl
+      | false ↦ λ (e : contains_key s n ≡ false). same_live _ _ (λ q.
+          ap flat (get-insert name_cmp_total s n None q) ∙ flat-cond (eq_by_cmp name_cmp q n) None (get s q) ∙ absent s n q (no_slot (get s n) e))
     ] refl
 
 pub live-forgotten : (s : Slots) (n : Name) → live_of (forgotten s n) ≡ live_of s
 live-forgotten s n =
     elim (is_some (live_at s n)) as (λ (b : Bool). is_some (live_at s n) ≡ b → live_of (cond (not b) (remove s n) s) ≡ live_of s) [
-      true ↦ λ _. refl
-    | false ↦ λ (e : is_some (live_at s n) ≡ false). same_live _ _ (λ q.
-        ap flat (get-remove name_cmp_total s n q) ∙ flat-none (eq_by_cmp name_cmp q n) (get s q) ∙ absent s n q (nothing (live_at s n) e))
+      | true ↦ λ _. refl
+      | false ↦ λ (e : is_some (live_at s n) ≡ false). same_live _ _ (λ q.
+          ap flat (get-remove name_cmp_total s n q) ∙ flat-none (eq_by_cmp name_cmp q n) (get s q) ∙ absent s n q (nothing (live_at s n) e))
     ] refl where
-  nothing : (o : Option Entry) → is_some o ≡ false → o ≡ None
-  nothing None h = refl
-  nothing (Some v) h = absurd (true≢false h)
+      nothing : (o : Option Entry) → is_some o ≡ false → o ≡ None
+      nothing None h = refl
+      nothing (Some v) h = absurd (true≢false h)
 
 pub live-empty : live_of empty ≡ empty
 live-empty = same_map name_cmp_total name_cmp-same _ _ (λ q. get-live empty q ∙ ap flat (get-empty name_cmp q) ∙ sym (get-empty name_cmp q))
@@ -132,6 +130,6 @@ remove-absent m n none = same_map name_cmp_total name_cmp-same _ _ (λ q. get-re
   gone : (q : Name) → cond (eq_by_cmp name_cmp q n) None (get m q) ≡ get m q
   gone q =
       elim (eq_by_cmp name_cmp q n) as (λ (b : Bool). eq_by_cmp name_cmp q n ≡ b → cond b None (get m q) ≡ get m q) [
-        true ↦ λ (e : eq_by_cmp name_cmp q n ≡ true). sym none ∙ ap (get m) (sym (same_name q n e))
-      | false ↦ λ _. refl
+        | true ↦ λ (e : eq_by_cmp name_cmp q n ≡ true). sym none ∙ ap (get m) (sym (same_name q n e))
+        | false ↦ λ _. refl
       ] refl

@@ -1,10 +1,10 @@
 -- Slots that are kept in a search tree, as a finite map.
-use Rattle.std.proofs.Common.{◌≡◌, ◌≢◌, Bool, true, false, cond, List, [], ◌∷◌, refl, ap, sym, ◌∙◌, Option, Some, None, Result, Ok, Err, OnErr, IsOk, unwrap_or, is_some, not, true≢false}
+use Rattle.std.proofs.Common.{◌≡◌, Bool, true, false, cond, List, [], ◌∷◌, refl, ap, sym, ◌∙◌, Option, Some, None, Result, Ok, Err, OnErr, IsOk, is_some, not, true≢false}
 use Rattle.std.proofs.lemmas.Cmp.{eq_by_cmp_equiv}
 use Rattle.std.specs.Ordering.{is_eq, eq_by_cmp}
 use Rattle.std.specs.Map.{lookup}
-use Rattle.std.specs.FinMap.{FinMap, get, insert, remove, contains_key, from_entries, find, get-from_entries, get-insert, get-remove, same_map}
-use Rattle.mesh_names.specs.Names.{Name, name_cmp, name_eq}
+use Rattle.std.specs.FinMap.{get, insert, remove, from_entries, find, get-from_entries, get-insert, get-remove, same_map}
+use Rattle.mesh_names.specs.Names.{Name, name_cmp}
 use Rattle.mesh_names.specs.Order.{name_cmp_total, name_cmp-same}
 use Rattle.dof_transfer.specs.Slots.{Slot, Slots, live_at, readied, forgotten}
 

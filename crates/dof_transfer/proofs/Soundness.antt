@@ -1,12 +1,11 @@
 -- Each live name has a used index of its own, whoever gives one back or takes one.
-use Rattle.std.proofs.Common.{◌≡◌, ◌≢◌, ℕ, zero, suc, ◌+◌, ◌<◌, ◌≤◌, ℤ, Bool, true, false, cond, not, eqb, List, [], ◌∷◌, ◌++◌, take, drop, length, get_or, refl, ap, sym, ◌∙◌, subst, arith, Option, Some, None, unwrap_or, is_some, true≢false, add-one, option_map, ◌⊎◌, inl, inr, ⊎_elim}
-use Rattle.std.proofs.Math.ListN.{set}
+use Rattle.std.proofs.Common.{◌≡◌, ◌≢◌, ℕ, zero, suc, ◌<◌, ◌≤◌, ℤ, Bool, true, false, cond, not, List, [], ◌∷◌, ◌++◌, take, drop, length, get_or, refl, ap, sym, ◌∙◌, subst, arith, Option, Some, None, unwrap_or, is_some, true≢false, add-one, option_map, ◌⊎◌, inl, inr, ⊎_elim}
 use Rattle.std.proofs.lemmas.List.{get_or-set_other}
 use Rattle.std.proofs.lemmas.List.Sums.{position_or_len_is}
 use Rattle.std.specs.Ordering.{eq_by_cmp}
-use Rattle.std.specs.FinMap.{FinMap, get, insert, remove, get-insert, get-remove}
+use Rattle.std.specs.FinMap.{get, insert, get-insert, get-remove}
 use Rattle.dof_admin.specs.Administration.{IsLeastUnused, used_at, with_used}
-use Rattle.mesh_names.specs.Names.{Name, name_cmp, name_eq}
+use Rattle.mesh_names.specs.Names.{Name, name_cmp}
 use Rattle.mesh_names.specs.Order.{name_cmp_total}
 use Rattle.dof_transfer.specs.declared.entries.Entry.{Entry}
 use Rattle.dof_transfer.specs.Held.{Held, IsSound, SetsValue, index_of, least_unused, cleared, given_back, taken}
@@ -33,8 +32,8 @@ least-within (true ∷ flags) = omega (arith, least-within flags)
 pub least_is : (flags : List Bool) (i : ℕ) → IsLeastUnused flags i → least_unused flags ≡ i
 least_is flags i h =
     position_or_len_is not flags i false (not_above (length flags) i (λ below. true≢false (sym (h.least (length flags) below) ∙ beyond flags (length flags) (omega arith)))) (λ k below. ap not (h.least k below)) (λ _. ap not h.unused) where
-  not_above : (n i : ℕ) → (n < i → ⊥) → i ≤ n
-  not_above n i none = grind arith
+      not_above : (n i : ℕ) → (n < i → ⊥) → i ≤ n
+      not_above n i none = grind arith
 
 -- a flag that is set, and the others
 set-here : (flags : List Bool) (i : ℕ) → i ≤ length flags → get_or (take i flags ++ true ∷ drop (suc i) flags) i false ≡ true
@@ -88,8 +87,8 @@ kept_used held n q i None is sound other has = sound.used q i has
 kept_used held n q i (Some j) is sound other has =
     get_or-set_other held.flags j i false false (λ (e : i ≡ j). true≢false (sym (same_tests (sound.apart q n i has (is ∙ ap Some (sym e)))) ∙ other))
     ∙ sound.used q i has where
-  same_tests : q ≡ n → eq_by_cmp name_cmp q n ≡ true
-  same_tests e = same-tied q n e
+      same_tests : q ≡ n → eq_by_cmp name_cmp q n ≡ true
+      same_tests e = same-tied q n e
 
 pub sound-given_back : (held : Held) (n : Name) → IsSound held → IsSound (given_back held n)
 sound-given_back held n sound = record {
@@ -145,8 +144,8 @@ index-set held n q e v has = ap (option_map (λ (x : Entry). x.index)) (get-inse
   moved : option_map (λ (x : Entry). x.index) (cond (eq_by_cmp name_cmp q n) (Some (record { index = e.index; value = v })) (get held.live q)) ≡ option_map (λ (x : Entry). x.index) (get held.live q)
   moved =
       elim (eq_by_cmp name_cmp q n) as (λ (b : Bool). eq_by_cmp name_cmp q n ≡ b → option_map (λ (x : Entry). x.index) (cond b (Some (record { index = e.index; value = v })) (get held.live q)) ≡ option_map (λ (x : Entry). x.index) (get held.live q)) [
-        true ↦ λ (t : eq_by_cmp name_cmp q n ≡ true). ap (option_map (λ (x : Entry). x.index)) (sym (ap (get held.live) (tied-same q n t) ∙ has))
-      | false ↦ λ _. refl
+        | true ↦ λ (t : eq_by_cmp name_cmp q n ≡ true). ap (option_map (λ (x : Entry). x.index)) (sym (ap (get held.live) (tied-same q n t) ∙ has))
+        | false ↦ λ _. refl
       ] refl
 
 pub sets_value : (held : Held) (n : Name) (e : Entry) (v : ℤ) → get held.live n ≡ Some e → SetsValue held (record { live = insert held.live n (record { index = e.index; value = v }); flags = held.flags }) n v

@@ -1,6 +1,6 @@
 -- Refinement and coarsening of elements: which names give their indices back, and which take one, in which order and with which values.
-use Rattle.std.specs.Prelude.{ℕ, ℤ, pos, negsuc, ◌/◌, ◌+ℤ◌, ◌-ℤ◌, Bool, true, false, cond, eqb, List, [], ◌∷◌, ◌++◌, Option, Some, None, unwrap_or}
-use Rattle.mesh_names.specs.Names.{Name}
+use Rattle.std.specs.Prelude.{◌<◌, ◌≢◌, IfSome, ℤ, pos, negsuc, ◌/◌, ◌+ℤ◌, ◌-ℤ◌, Bool, true, false, cond, eqb, List, [], ◌∷◌, ◌++◌, Option, Some, None, unwrap_or}
+use Rattle.mesh_names.specs.Names.{Name, depth}
 use Rattle.mesh_names.specs.Triangles.{Shape, level}
 use Rattle.mesh_names.specs.declared.patch.PatchName.{PatchName}
 use Rattle.dof_transfer.specs.Held.{Held, value_of, all_given_back, all_taken}
@@ -19,12 +19,18 @@ part true v = v -ℤ floor_half v
 abbrev pub value_in : Held → Name → ℤ
 value_in held n = unwrap_or (value_of held n) (pos 0)
 
+-- a patch of one or two elements that can be bisected
+pub record IsPair (p : PatchName) : Type 0 where
+  pub first : depth p.first < 24
+  pub second : IfSome p.second (λ m. (depth m < 24) × (m ≢ p.first))
+
 -- the members of a patch, and of several
+abbrev pub listed : Option Name → List Name
+listed None = []
+listed (Some m) = m ∷ []
+
 abbrev pub members_of : PatchName → List Name
-members_of p = p.first ∷ more p.second where
-  more : Option Name → List Name
-  more None = []
-  more (Some m) = m ∷ []
+members_of p = p.first ∷ listed p.second
 
 abbrev pub all_members : List PatchName → List Name
 all_members [] = []

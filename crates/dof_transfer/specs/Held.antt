@@ -1,5 +1,5 @@
 -- What is held of live names: their indices and values, and which indices are used.
-use Rattle.std.specs.Prelude.{◌≡◌, ◌≢◌, ℕ, ◌*◌, ◌^◌, ◌-◌, ◌≤◌, refl, nat_abs, ℤ, pos, Bool, true, false, not, List, [], ◌∷◌, slice_set, Option, Some, None, unwrap_or, option_map}
+use Rattle.std.specs.Prelude.{◌≡◌, ◌≢◌, ℕ, ◌*◌, ◌^◌, ◌-◌, ◌≤◌, refl, nat_abs, ℤ, Bool, true, false, not, List, [], ◌∷◌, slice_set, Option, Some, None, option_map}
 use Rattle.std.specs.List.{position_or_len}
 use Rattle.std.specs.Coded.{Coded, code_by, coded×, coded_ℕ, coded_list, coded_bool}
 use Rattle.std.specs.FinMap.{FinMap, code, get, insert, remove}

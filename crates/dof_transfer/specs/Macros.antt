@@ -1,5 +1,5 @@
 -- The values of the macro mesh, as they are taken over.
-use Rattle.std.specs.Prelude.{◌≡◌, ℕ, ◌^◌, ◌<◌, ◌≤◌, ℤ, pos, nat_abs, true, cond, ltb, [], ◌∷◌, Option, Some, None, replicate, slice_index_or}
+use Rattle.std.specs.Prelude.{◌≡◌, ℕ, ◌^◌, ◌<◌, ◌≤◌, pos, nat_abs, true, cond, ltb, [], ◌∷◌, Option, Some, None, replicate, slice_index_or}
 use Rattle.std.specs.FinMap.{get}
 use Rattle.mesh_names.specs.Names.{Name}
 use Rattle.mesh_names.specs.Triangles.{size}

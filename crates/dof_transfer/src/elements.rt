@@ -22,7 +22,6 @@ pub struct ElementValues {
 }
 
 impl Model for ElementValues {
-
     ghost use Rattle.dof_transfer.specs.Held.{AreSized, Held, IsSound, held_code};
 
     ghost Value = { Held };

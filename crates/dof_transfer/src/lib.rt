@@ -1,6 +1,7 @@
 //! Values of vertices and elements by name, which go along with refinement and coarsening.
 #![tactic(auto)]
 
+mod bisecting;
 mod elements;
 mod entries;
 mod ledger;

@@ -1,4 +1,4 @@
-use Rattle.std.proofs.Common.{◌≡◌, ◌+◌, ◌≤◌}
+use Rattle.std.proofs.Common.{◌+◌, ◌≤◌}
 use Rattle.dof_transfer.specs.Ledgers.{held_of}
 use Rattle.dof_transfer.specs.Macros.{HoldsFirst}
 use Rattle.dof_transfer.proofs.elements.macro_ledger.Given as goal

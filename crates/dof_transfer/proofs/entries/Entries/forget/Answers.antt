@@ -1,4 +1,4 @@
-use Rattle.std.proofs.Common.{◌≡◌, ap, ◌∙◌, sym, is_some}
+use Rattle.std.proofs.Common.{ap, ◌∙◌, sym, is_some}
 use Rattle.dof_transfer.proofs.SlotMaps.{drop-stored, forgotten-empty}
 use Rattle.dof_transfer.proofs.entries.Entries.forget.Goals as goal
 

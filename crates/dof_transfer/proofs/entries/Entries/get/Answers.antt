@@ -1,4 +1,4 @@
-use Rattle.std.proofs.Common.{◌≡◌, ap, ◌∙◌, sym, Option, Some, None, unwrap_or}
+use Rattle.std.proofs.Common.{ap, ◌∙◌, Option, None, unwrap_or}
 use Rattle.dof_transfer.specs.Slots.{Slot}
 use Rattle.dof_transfer.proofs.SlotMaps.{get-stored}
 use Rattle.dof_transfer.proofs.entries.Entries.get.Goals as goal

@@ -1,4 +1,4 @@
-use Rattle.std.proofs.Common.{◌≡◌, true, ap, ◌∙◌, sym, Some, None, is_some}
+use Rattle.std.proofs.Common.{ap, ◌∙◌, Some, is_some}
 use Rattle.dof_transfer.proofs.SlotMaps.{get-stored, put-stored, ready_is_ok}
 use Rattle.dof_transfer.proofs.entries.Entries.put.Goals as goal
 

@@ -1,4 +1,4 @@
-use Rattle.std.proofs.Common.{◌≡◌, ap, ◌∙◌, sym, None, is_some}
+use Rattle.std.proofs.Common.{ap, ◌∙◌, sym, None, is_some}
 use Rattle.dof_transfer.proofs.SlotMaps.{get-stored, put-stored, readied-new, readied-old}
 use Rattle.dof_transfer.proofs.entries.Entries.ready.Goals as goal
 

@@ -1,8 +1,8 @@
-use Rattle.std.proofs.Common.{◌≡◌, ap, ◌∙◌, sym}
+use Rattle.std.proofs.Common.{ap, ◌∙◌}
 use Rattle.std.specs.FinMap.{FinMap}
 use Rattle.mesh_names.specs.Names.{name_cmp}
 use Rattle.dof_transfer.specs.declared.entries.Entry.{Entry}
-use Rattle.dof_transfer.specs.Slots.{Slots, live_of}
+use Rattle.dof_transfer.specs.Slots.{live_of}
 use Rattle.dof_transfer.specs.Held.{Held}
 use Rattle.dof_transfer.proofs.LiveNames.{live-forgotten}
 use Rattle.dof_transfer.proofs.ledger.Ledger.forget.Goals as goal

@@ -1,14 +1,13 @@
-use Rattle.std.proofs.Common.{◌≡◌, ap, ◌∙◌, sym, subst, true, ℕ, ℤ, pos, Option, Some, None, unwrap_or, option_map, refl, w64, rules}
+use Rattle.std.proofs.Common.{◌≡◌, ap, ◌∙◌, sym, subst, ℕ, ℤ, pos, Option, None, unwrap_or, option_map, w64, rules}
 use Rattle.std.proofs.lemmas.Int.{to_z-of_z}
-use Rattle.std.specs.FinMap.{FinMap, contains_key, get, insert, remove}
-use Rattle.mesh_names.specs.Names.{name_cmp}
+use Rattle.std.specs.FinMap.{contains_key}
 use Rattle.dof_transfer.specs.declared.entries.Entry.{Entry}
-use Rattle.dof_transfer.specs.Slots.{Slots, live_of, live_at}
-use Rattle.dof_transfer.specs.Held.{Held, IsSound, cleared, given_back, index_of}
+use Rattle.dof_transfer.specs.Slots.{Slots, live_of}
+use Rattle.dof_transfer.specs.Held.{IsSound, cleared, given_back}
 use Rattle.dof_transfer.specs.Ledgers.{held_of}
 use Rattle.dof_transfer.proofs.LiveNames.{get-live, live-emptied, remove-absent}
 use Rattle.dof_transfer.proofs.Soundness.{sound-given_back}
-use Rattle.dof_transfer.proofs.Ledgers.{kept-insert, there-live}
+use Rattle.dof_transfer.proofs.Ledgers.{kept-insert}
 use Rattle.dof_transfer.proofs.ledger.Ledger.give_back.Goals as goal
 
 -- what stands in the slot is what the name has

@@ -1,10 +1,10 @@
-use Rattle.std.proofs.Common.{◌≡◌, ap, ◌∙◌, sym, subst, true, false, ℕ, ℤ, Option, Some, None, option_map, is_some, true≢false, w64}
+use Rattle.std.proofs.Common.{◌≡◌, ap, ◌∙◌, sym, subst, ℤ, Option, Some, option_map, is_some, true≢false, w64}
 use Rattle.std.proofs.lemmas.Int.{to_z-of_z}
-use Rattle.std.specs.FinMap.{FinMap, get, insert, insert as put_in}
+use Rattle.std.specs.FinMap.{FinMap, insert, insert as put_in}
 use Rattle.mesh_names.specs.Names.{name_cmp}
 use Rattle.dof_transfer.specs.declared.entries.Entry.{Entry}
-use Rattle.dof_transfer.specs.Slots.{Slots, live_of}
-use Rattle.dof_transfer.specs.Held.{Held, IsSound, SetsValue}
+use Rattle.dof_transfer.specs.Slots.{live_of}
+use Rattle.dof_transfer.specs.Held.{IsSound, SetsValue}
 use Rattle.dof_transfer.specs.Ledgers.{held_of}
 use Rattle.dof_transfer.proofs.LiveNames.{get-live, live-put}
 use Rattle.dof_transfer.proofs.Soundness.{sets_value, sound-set}

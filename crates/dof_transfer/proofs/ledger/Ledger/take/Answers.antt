@@ -1,11 +1,9 @@
-use Rattle.std.proofs.Common.{◌≡◌, ap, ◌∙◌, sym, subst, true, ℕ, ℤ, Some, w64}
+use Rattle.std.proofs.Common.{◌≡◌, ap, ◌∙◌, sym, subst, ℕ, ℤ, Some, w64}
 use Rattle.std.proofs.lemmas.Int.{to_z-of_z}
-use Rattle.std.specs.FinMap.{FinMap, contains_key, insert, insert as put_in}
+use Rattle.std.specs.FinMap.{contains_key, insert, insert as put_in}
 use Rattle.dof_admin.specs.Administration.{with_used}
-use Rattle.mesh_names.specs.Names.{name_cmp}
-use Rattle.dof_transfer.specs.declared.entries.Entry.{Entry}
 use Rattle.dof_transfer.specs.Slots.{Slots, live_of}
-use Rattle.dof_transfer.specs.Held.{Held, IsSound, least_unused, taken}
+use Rattle.dof_transfer.specs.Held.{IsSound, taken}
 use Rattle.dof_transfer.specs.Ledgers.{held_of}
 use Rattle.dof_transfer.proofs.LiveNames.{live-put}
 use Rattle.dof_transfer.proofs.Soundness.{least_is, sound-taken}
