@@ -1,7 +1,10 @@
 -- The mesh that the check makes, as a whole.
-use Rattle.std.proofs.Common.{◌≡◌, ℕ, zero, suc, ◌+◌, ◌*◌, ◌<◌, ◌≤◌, Bool, true, false, List, [], length, map, refl, sym, ap, ◌∙◌, arith}
+use Rattle.std.proofs.Common.{◌≡◌, ℕ, zero, suc, ◌+◌, ◌*◌, ◌^◌, ◌<◌, ◌≤◌, Bool, true, false, List, [], length, map, refl, sym, ap, ◌∙◌, subst, arith}
 use Rattle.std.specs.Prelude.{ℤ, pos, Option, Some, None, slice_index_or}
 use Rattle.std.proofs.lemmas.List.{length-map}
+use Rattle.std.specs.List.{All}
+use Rattle.std.proofs.lemmas.List.Elements.{All-map}
+use Rattle.macro_file.specs.Limits.{AtMost}
 use Rattle.macro_file.specs.declared.text.MacroVertex.{MacroVertex}
 use Rattle.macro_file.specs.declared.text.MacroElem.{MacroElem}
 use Rattle.mesh_names.specs.Triangles.{Triple, Shape, corner_of}
@@ -42,9 +45,9 @@ pub record Shown (vertices : List MacroVertex) (triples : List Triple) (grades :
 pub compatible_of : (vertices : List MacroVertex) (triples : List Triple) (grades : List ℕ) (sides : List (Option Side)) → Shown vertices triples grades sides → IsCompatible (record { triples = triples; grades = grades })
 compatible_of vertices triples grades sides shown = compatible_is triples grades (grades_of triples grades sides (told_of vertices triples sides grades shown.passes) shown.grades_are) shown.low
 
-pub stored_of : (vertices : List MacroVertex) (triples : List Triple) (grades : List ℕ) (labels : List (List ℤ)) (values : List ℤ) (sides : List (Option Side)) → ValidTells → Shown vertices triples grades sides → length vertices ≤ 65535 → 0 < length triples → length triples ≤ 65535 → length labels ≡ length triples → length values ≡ length triples →
+pub stored_of : (vertices : List MacroVertex) (triples : List Triple) (grades : List ℕ) (labels : List (List ℤ)) (values : List ℤ) (sides : List (Option Side)) → ValidTells → Shown vertices triples grades sides → length vertices ≤ 65535 → 0 < length triples → length triples ≤ 65535 → length labels ≡ length triples → length values ≡ length triples → All (AtMost (2 ^ 55)) values →
     IsStored (record { vertices = vertices; shape = record { triples = triples; grades = grades }; labels = labels; values = values }) sides
-stored_of vertices triples grades labels values sides law shown few_vertices some few each_label each_value =
+stored_of vertices triples grades labels values sides law shown few_vertices some few each_label each_value sized =
     let mesh : Shape = record { triples = triples; grades = grades } in
     let table = told_of vertices triples sides grades shown.passes in
     let compatible = compatible_of vertices triples grades sides shown in
@@ -63,6 +66,7 @@ stored_of vertices triples grades labels values sides law shown few_vertices som
       three = table.each;
       labels = each_label;
       values = each_value;
+      sized = sized;
       told = table.told;
     }
 
@@ -73,3 +77,7 @@ labels_made vertices triples grades sides passes labels made r k hr hk =
 
 pub length_of_map : (elements : List MacroElem) (B : Type 0) (f : MacroElem → B) (ys : List B) → ys ≡ map f elements → length ys ≡ length elements
 length_of_map elements B f ys e = ap length e ∙ length-map elements f
+
+-- the values of a macro text's elements are within their range
+pub sized_values : (elements : List MacroElem) (values : List ℤ) → values ≡ map (λ (e : MacroElem). e.value) elements → All (AtMost (2 ^ 55)) values
+sized_values elements values is = subst (All (AtMost (2 ^ 55))) (sym is) (All-map (AtMost (2 ^ 55)) (λ (e : MacroElem). e.value) elements (λ k e within. (slice_index_or elements k e).value_in_range))

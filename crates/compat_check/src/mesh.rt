@@ -1,5 +1,6 @@
 //! Checked macro meshes.
-ghost use Rattle.std.specs.Prelude.{◌≡◌, ℕ, IfSome, ◌<◌, ◌≤◌, ◌+◌, length, slice_get, slice_index_or, option_map, Some};
+ghost use Rattle.std.specs.Prelude.{◌≡◌, ℕ, IfSome, ◌<◌, ◌≤◌, ◌+◌, ◌^◌, length, slice_get, slice_index_or, option_map, Some};
+ghost use Rattle.macro_file.specs.Limits.{AtMost};
 ghost use Rattle.mesh_names.specs.Triangles.{size, level, triple_of, grade_of};
 ghost use Rattle.mesh_names.specs.Partners.{Tells, partner, top_partner, edge_word};
 ghost use Rattle.compat_check.specs.Partnership.{IsNeighbour};
@@ -92,10 +93,11 @@ impl MacroMesh {
         self.labels[element as usize][edge as usize]
     }
 
-    /// The value of an element.
+    /// The value of an element, at most 2^55 in size.
     pub fn element_value(&self, element: u32) -> i64
         requires { element < size (shape_of self.now) }
-        ensures { slice_get self.now.values element ≡ Some result }
+        ensures value { slice_get self.now.values element ≡ Some result }
+        ensures small { AtMost (2 ^ 55) result }
     {
         self.values[element as usize]
     }

@@ -15,7 +15,7 @@ use Rattle.compat_check.specs.Grading.{AreGrades, rules_before}
 use Rattle.compat_check.specs.Tables.{AreMadeLabels, Differs}
 use Rattle.compat_check.specs.declared.mesh.Side.{Side}
 use Rattle.compat_check.proofs.Graded.{told_of, rules_in}
-use Rattle.compat_check.proofs.Whole.{Shown, either, compatible_of, stored_of, labels_made, length_of_map}
+use Rattle.compat_check.proofs.Whole.{Shown, either, compatible_of, stored_of, labels_made, length_of_map, sized_values}
 use Rattle.compat_check.proofs.checking.check.Goals as goal
 
 -- the facts of the passes, of the lists that the mesh keeps
@@ -59,7 +59,7 @@ invariant_of-result c =
     (λ made. (c.in_ok-labels.ensures.made made).each ∙ ap length c.deref-7.ensures.value) in
     let each_value : length c.in_ok-values.values.items ≡ length elements = length_of_map elements ℤ (λ e. e.value) c.in_ok-values.values.items (c.in_ok-values.ensures ∙ ap (map (λ (e : MacroElem). e.value)) c.deref-9.ensures.value) in
     stored_of c.args.text.vertices.items c.in_ok-triples.triples.items c.in_ok-grades.grades.items c.in_ok-labels.labels.items c.in_ok-values.values.items c.in_ok-sides.sides.items c.valid_tells.ensures shown
-    (omega (arith, c.args.text.some_vertices.1)) (omega (arith, each, c.args.text.some_elements.0)) (omega (arith, each, c.args.text.some_elements.1)) (each_label ∙ sym each) (each_value ∙ sym each)
+    (omega (arith, c.args.text.some_vertices.1)) (omega (arith, each, c.args.text.some_elements.0)) (omega (arith, each, c.args.text.some_elements.1)) (each_label ∙ sym each) (each_value ∙ sym each) (sized_values c.deref-9.result.now c.in_ok-values.values.items c.in_ok-values.ensures)
 
 pub returns-clause-ok : goal.returns-clause-ok
 returns-clause-ok c =

@@ -1,0 +1,6 @@
+pub mod SlotMaps
+pub mod LiveNames
+pub mod Soundness
+pub mod Ledgers
+pub mod FirstNames
+pub mod Exchanging

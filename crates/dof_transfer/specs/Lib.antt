@@ -1,0 +1,5 @@
+pub mod Slots
+pub mod Held
+pub mod Exchanges
+pub mod Ledgers
+pub mod Macros

@@ -1,0 +1,41 @@
+-- Slots by name, and what stands in them.
+use Rattle.std.specs.Prelude.{ℕ, ℤ, cond, is_none, unwrap_or, Option, Some, None, List, [], ◌∷◌, refl}
+use Rattle.std.specs.Coded.{Coded, code_by, coded×, coded_ℕ, coded_ℤ, coded_option, coded_list, coded_bool}
+use Rattle.std.specs.FinMap.{FinMap, code, contains_key, entries, from_entries, get, insert, remove}
+use Rattle.mesh_names.specs.Names.{Name, name_cmp}
+use Rattle.dof_transfer.specs.declared.entries.Entry.{Entry}
+
+-- an index and a value, or nothing
+abbrev pub Slot : Type 0
+Slot = Option Entry
+
+abbrev pub Slots : Type 0
+Slots = FinMap name_cmp Slot
+
+-- an entry is stored as the pair of its parts
+abbrev pub entry_code : Coded Entry
+entry_code = code_by (ℕ × ℤ) (coded× coded_ℕ coded_ℤ) (λ e. (e.index, e.value)) (λ p. record { index = p.0; value = p.1 }) (λ _. refl)
+
+abbrev pub slots_code : Coded Slots
+slots_code = code (coded× coded_ℕ (coded_list coded_bool)) (coded_option entry_code)
+
+-- what stands in the slot of a name
+abbrev pub live_at : Slots → Name → Option Entry
+live_at slots n = unwrap_or (get slots n) None
+
+-- the slots with one for this name
+abbrev pub readied : Slots → Name → Slots
+readied slots n = cond (contains_key slots n) slots (insert slots n None)
+
+-- the slots without that of a name, if it is empty
+abbrev pub forgotten : Slots → Name → Slots
+forgotten slots n = cond (is_none (live_at slots n)) (remove slots n) slots
+
+-- the names whose slots are not empty, with what stands there
+abbrev pub live_list : List (Name × Slot) → List (Name × Entry)
+live_list [] = []
+live_list ((n, None) ∷ slots) = live_list slots
+live_list ((n, Some e) ∷ slots) = (n, e) ∷ live_list slots
+
+unfoldable pub live_of : Slots → FinMap name_cmp Entry
+live_of slots = from_entries (live_list (entries slots))

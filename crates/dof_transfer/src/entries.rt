@@ -1,0 +1,93 @@
+//! Indices and values by name, in slots that can be made ready beforehand.
+ghost use Rattle.std.specs.Prelude.{◌≡◌, true, Some, None, OnErr, OnOk};
+ghost use Rattle.std.specs.FinMap as map;
+ghost use Rattle.dof_transfer.specs.Slots.{forgotten, live_at, readied};
+
+use mesh_names::name::ElemName;
+use std::alloc::{AllocError, Global};
+use std::collections::BTreeMap;
+use std::marker::Model;
+
+/// The index and the value that a name has.
+#[derive(Clone, Copy, Debug)]
+pub struct Entry {
+    pub index: u32,
+    pub value: i64,
+}
+
+/// A slot for each of some names. An empty one is ready: what is put into it takes no memory.
+#[derive(Drop)]
+pub(crate) struct Entries {
+    slots: BTreeMap<ElemName, Option<Entry>>,
+}
+
+impl Model for Entries {
+    ghost use Rattle.std.specs.FinMap as map;
+    ghost use Rattle.mesh_names.specs.Names.{name_cmp};
+    ghost use Rattle.dof_transfer.specs.Slots.{Slot, slots_code};
+
+    ghost Value = { map.FinMap name_cmp Slot };
+
+    ghost coded = { slots_code };
+
+    ghost view = { λ a. map.from_entries a.slots.entries };
+}
+
+impl Entries {
+    /// No slots. Takes no memory.
+    pub(crate) fn new(alloc: Global) -> Entries
+        ensures { result ≡ map.empty }
+    {
+        Entries {
+            slots: BTreeMap::new(alloc),
+        }
+    }
+
+    /// What the name has.
+    pub(crate) fn get(&self, name: ElemName) -> Option<Entry>
+        ensures { result ≡ live_at self.now name }
+    {
+        match self.slots.get(&name) {
+            Some(slot) => *slot,
+            None => None,
+        }
+    }
+
+    /// Makes a slot for the name ready, if it has none.
+    pub(crate) fn ready(&mut self, name: ElemName) -> Result<(), AllocError>
+        ensures ok { OnOk result (self.new ≡ readied self.old name) }
+        ensures err { OnErr result (self.new ≡ self.old) }
+    {
+        if !self.slots.contains_key(&name) {
+            self.slots.insert(name, None)?;
+        }
+        Ok(())
+    }
+
+    /// Puts an entry into the name's slot. Takes no memory.
+    pub(crate) fn put(&mut self, name: ElemName, entry: Entry)
+        requires { map.contains_key self.old name ≡ true }
+        ensures { self.new ≡ map.insert self.old name (Some entry) }
+    {
+        let put: Result<_, _> = self.slots.insert(name, Some(entry));
+        let _ = put.unwrap();
+    }
+
+    /// Empties the name's slot, which stays ready. Takes no memory.
+    pub(crate) fn empty(&mut self, name: ElemName)
+        requires { map.contains_key self.old name ≡ true }
+        ensures { self.new ≡ map.insert self.old name None }
+    {
+        let put: Result<_, _> = self.slots.insert(name, None);
+        let _ = put.unwrap();
+    }
+
+    /// Takes the name's slot away where it is empty. Takes no memory.
+    pub(crate) fn forget(&mut self, name: ElemName)
+        ensures { self.new ≡ forgotten self.old name }
+    {
+        if self.get(name).is_none() {
+            self.slots.remove(&name);
+        }
+    }
+}

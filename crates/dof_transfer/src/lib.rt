@@ -1,0 +1,11 @@
+//! Values of vertices and elements by name, which go along with refinement and coarsening.
+#![tactic(auto)]
+
+mod bisecting;
+mod elements;
+mod entries;
+mod ledger;
+mod refusal;
+
+pub use elements::ElementValues;
+pub use refusal::TransferRefusal;
