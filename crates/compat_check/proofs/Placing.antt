@@ -4,7 +4,7 @@ use Rattle.std.specs.Prelude.{ℤ, pos, ◌+ℤ◌, Option, Some, None, slice_ge
 use Rattle.std.proofs.lemmas.Int.{ints}
 use Rattle.macro_file.specs.declared.text.MacroVertex.{MacroVertex}
 use Rattle.mesh_names.specs.Names.{Name}
-use Rattle.mesh_names.specs.Triangles.{Vertex, Corner, Mid, before, middle, triangle}
+use Rattle.mesh_names.specs.Triangles.{Vertex, Corner, Mid, before, middle, midpoint, triangle}
 use Rattle.compat_check.specs.Faults.{point_of}
 use Rattle.compat_check.specs.Meshes.{Mesh, shape_of}
 use Rattle.compat_check.specs.Points.{Point, half, between, point, points, labels}
@@ -62,3 +62,6 @@ first_within mesh parent ps e = subst (λ (qs : List Point). IsWithin (corner qs
 
 pub second_within : (mesh : Mesh) (parent : Name) (ps : List Point) → ps ≡ points mesh parent → IsWithin (corner ps 1)
 second_within mesh parent ps e = subst (λ (qs : List Point). IsWithin (corner qs 1)) (sym e) (point_within mesh.vertices (triangle (shape_of mesh) parent).1)
+
+pub point_of_middle : (mesh : Mesh) (n : Name) (ps : List Point) (m : Point) → ps ≡ points mesh n → m ≡ between (corner ps 0) (corner ps 1) → m ≡ point mesh.vertices (midpoint (triangle (shape_of mesh) n))
+point_of_middle mesh n ps m e lies = lies ∙ ap (λ (qs : List Point). between (corner qs 0) (corner qs 1)) e ∙ sym (middle_lies mesh.vertices (triangle (shape_of mesh) n).0 (triangle (shape_of mesh) n).1)

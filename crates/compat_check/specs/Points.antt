@@ -2,7 +2,9 @@
 use Rattle.std.specs.Prelude.{◌≡◌, ℕ, suc, ◌+◌, ◌*◌, ◌/◌, ◌<◌, ◌^◌, ℤ, pos, negsuc, ◌+ℤ◌, nat_abs, Bool, true, false, List, [], ◌∷◌, length}
 use Rattle.macro_file.specs.declared.text.MacroVertex.{MacroVertex}
 use Rattle.mesh_names.specs.Names.{Name}
-use Rattle.mesh_names.specs.Triangles.{Triangle, Vertex, Corner, Mid, triangle, midpoint}
+use Rattle.mesh_names.specs.Triangles.{Triangle, Vertex, Corner, Mid, size, triangle, midpoint}
+use Rattle.mesh_names.specs.declared.patch.VertexKey.{VertexKey}
+use Rattle.mesh_names.specs.declared.patch.VertexKey.TheVariants.{Macro, Patch}
 use Rattle.compat_check.specs.Faults.{point_at}
 use Rattle.compat_check.specs.Meshes.{Mesh, label_of, shape_of}
 
@@ -27,6 +29,11 @@ point vertices (Mid a b) = between (point vertices a) (point vertices b)
 -- where the three corners of a name lie
 abbrev pub points : Mesh → Name → List Point
 points mesh n = let t = triangle (shape_of mesh) n in point mesh.vertices t.0 ∷ point mesh.vertices t.1 ∷ point mesh.vertices t.2 ∷ []
+
+-- the key is that of a vertex of the mesh
+abbrev pub IsVertexOf : Mesh → VertexKey → Type 0
+IsVertexOf mesh (Macro i) = i < length mesh.vertices
+IsVertexOf mesh (Patch n) = n.0 < size (shape_of mesh)
 
 -- the labels of edges 0, 1 and 2
 abbrev pub Labels : Type 0

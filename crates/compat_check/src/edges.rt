@@ -1,7 +1,7 @@
 //! The edges of the elements of a mesh, and the elements that share them.
 //!
 //! Edges stand in one order: place `3 * r + e` is edge e of element r.
-ghost use Rattle.std.specs.Prelude.{◌≡◌, ◌<◌, ◌≤◌, ◌*◌, ◌↔◌, IfOk, IsTrue, length};
+ghost use Rattle.std.specs.Prelude.{◌≡◌, ◌<◌, ◌≤◌, ◌*◌, ◌^◌, ◌↔◌, IfOk, IsTrue, length};
 ghost use Rattle.compat_check.specs.Faults.{IsFirst};
 ghost use Rattle.compat_check.specs.Paired.{AreSides, FallBack, IsThirdAt, side_of};
 ghost use Rattle.compat_check.specs.Places.{AreEarlier, AreEdgeKeys, ends_at, in_order};
@@ -31,7 +31,7 @@ fn ordered(pair: (u32, u32)) -> (u32, u32)
 
 // The ends of each edge, the lesser first.
 fn edge_keys(alloc: Global, triples: &[[u32; 3]]) -> Result<Vec<(u32, u32)>, AllocError>
-    requires { length triples.now ≤ 65535 }
+    requires { length triples.now * 3 < 2 ^ 32 }
     ensures { IfOk result (λ keys. AreEdgeKeys triples.now keys.items) }
 {
     let mut keys = Vec::new(alloc);
@@ -42,12 +42,13 @@ fn edge_keys(alloc: Global, triples: &[[u32; 3]]) -> Result<Vec<(u32, u32)>, All
     Ok(keys)
 }
 
-/// For each edge its last earlier place, in an element of smaller index.
-pub(crate) fn earlier_edges(
+/// For each edge its last earlier place, in an element of smaller index. Takes n log n steps for n
+/// triples.
+pub fn earlier_edges(
     alloc: Global,
     triples: &[[u32; 3]],
 ) -> Result<Vec<Option<u32>>, AllocError>
-    requires { length triples.now ≤ 65535 }
+    requires { length triples.now * 3 < 2 ^ 32 }
     ensures { IfOk result (λ earlier. AreEarlier triples.now earlier.items) }
 {
     let keys = edge_keys(alloc, triples)?;

@@ -8,7 +8,7 @@
 mod around;
 pub mod checking;
 mod earlier;
-mod edges;
+pub mod edges;
 mod grading;
 pub mod laws;
 pub mod mesh;

@@ -1,13 +1,15 @@
 //! Where the corners of names lie, and the labels of their edges.
 ghost use Rattle.std.specs.Prelude.{◌≡◌, ◌<◌, [], length};
+ghost use Rattle.mesh_names.specs.Patches.{vertex_of};
 ghost use Rattle.mesh_names.specs.Triangles.{size};
 ghost use Rattle.compat_check.specs.Faults.{point_at};
 ghost use Rattle.compat_check.specs.Meshes.{shape_of};
-ghost use Rattle.compat_check.specs.Points.{between, labels, points};
+ghost use Rattle.compat_check.specs.Points.{IsVertexOf, between, labels, point, points};
 ghost use Rattle.compat_check.specs.Within.{IsWithin, child_points, corner};
 
 use crate::mesh::MacroMesh;
 use mesh_names::name::ElemName;
+use mesh_names::patch::VertexKey;
 
 // The point halfway between two, each coordinate rounded down.
 fn between(first: (i64, i64), second: (i64, i64)) -> (i64, i64)
@@ -25,12 +27,22 @@ fn child_points(corners: [(i64, i64); 3], side: bool) -> [(i64, i64); 3]
     ensures { result ≡ child_points corners side }
 {
     let [first, second, apex] = corners;
-    let middle = between(first, second);
+    let middle = middle_point(corners);
     if side {
         [second, apex, middle]
     } else {
         [apex, first, middle]
     }
+}
+
+// Where the middle of the refinement edge lies.
+fn middle_point(corners: [(i64, i64); 3]) -> (i64, i64)
+    requires first { IsWithin (corner corners 0) }
+    requires second { IsWithin (corner corners 1) }
+    ensures { result ≡ between (corner corners 0) (corner corners 1) }
+{
+    let [first, second, _] = corners;
+    between(first, second)
 }
 
 impl MacroMesh {
@@ -67,6 +79,17 @@ impl MacroMesh {
         match name.split() {
             None => self.macro_points(name),
             Some((parent, side)) => child_points(self.points(parent), side),
+        }
+    }
+
+    /// Where a vertex lies, by its key, x and y in fine units. Takes no memory.
+    pub fn point(&self, key: VertexKey) -> (i64, i64)
+        requires { IsVertexOf self.now key }
+        ensures { result ≡ point self.now.vertices (vertex_of (shape_of self.now) key) }
+    {
+        match key {
+            VertexKey::Macro(vertex) => self.macro_point(vertex),
+            VertexKey::Patch(owner) => middle_point(self.points(owner)),
         }
     }
 
