@@ -44,10 +44,7 @@ fn edge_keys(alloc: Global, triples: &[[u32; 3]]) -> Result<Vec<(u32, u32)>, All
 
 /// For each edge its last earlier place, in an element of smaller index. Takes n log n steps for n
 /// triples.
-pub fn earlier_edges(
-    alloc: Global,
-    triples: &[[u32; 3]],
-) -> Result<Vec<Option<u32>>, AllocError>
+pub fn earlier_edges(alloc: Global, triples: &[[u32; 3]]) -> Result<Vec<Option<u32>>, AllocError>
     requires { length triples.now * 3 < 2 ^ 32 }
     ensures { IfOk result (λ earlier. AreEarlier triples.now earlier.items) }
 {
