@@ -27,14 +27,14 @@ use Rattle.adapt_cli.specs.declared.fault.Stop.TheVariants.{Refused, Memory, Rea
 
 -- the rounds on a new forest end in a text
 pub ends_in_text : (mesh : Mesh) (rounds : List Round) (shape : Shape) (sides : Across) (room : ℕ) (start last : Names) (shape_now : Shape) (list given : List Name) (text : List ℕ) →
-    start ≡ empty → room ≡ pool → shape ≡ shape_of mesh → sides ≡ across_in mesh → LeadTo shape sides room rounds start (Ok last) → shape_now ≡ shape → IsListOf (leaves shape_now last) list → given ≡ list → text ≡ mesh_text (shape_of mesh) (length mesh.vertices) given →
+    start ≡ empty → room ≡ pool → shape ≡ shape_of mesh → sides ≡ across_in mesh → LeadTo shape sides room rounds start (Ok last) → shape_now ≡ shape → IsListOf (leaves shape_now last) list → given ≡ list → text ≡ mesh_text mesh given →
     RunsTo mesh rounds (Ok text)
 ends_in_text mesh rounds shape sides room start last shape_now list given text s r sh si leads now is same written = (
   last,
   subst (λ (y : Shape × Across × ℕ × Names). LeadTo y.0 y.1 y.2 rounds y.3 (Ok last)) (λ i. (sh i, si i, r i, s i)) leads,
   list,
   subst (λ (y : Shape). IsListOf (leaves y last) list) (now ∙ sh) is,
-  written ∙ ap (mesh_text (shape_of mesh) (length mesh.vertices)) same,
+  written ∙ ap (mesh_text mesh) same,
 )
 
 -- a round that is refused has status 4 or 5

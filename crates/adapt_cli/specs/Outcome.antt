@@ -91,7 +91,7 @@ End = Result (List ℕ) Fault
 abbrev pub RunsTo : Mesh → List Round → End → Type 0
 RunsTo mesh rounds (Ok text) =
     (last : Names) × LeadTo (shape_of mesh) (across_in mesh) pool rounds empty (Ok last)
-    × (list : List Name) × IsListOf (leaves (shape_of mesh) last) list × (text ≡ mesh_text (shape_of mesh) (length mesh.vertices) list)
+    × (list : List Name) × IsListOf (leaves (shape_of mesh) last) list × (text ≡ mesh_text mesh list)
 RunsTo mesh rounds (Err fault) = LeadTo (shape_of mesh) (across_in mesh) pool rounds empty (Err fault)
 
 -- what follows from the marks file, on a mesh

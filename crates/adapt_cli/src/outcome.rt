@@ -15,12 +15,18 @@ use mesh_io::Shelf;
 use mesh_names::rows::RoundMarks;
 use mesh_writer::text::mesh_text;
 use std::alloc::Global;
+use std::thread::Threads;
 
 // How many patches a forest may have.
 const POOL: u32 = 65_536;
 
 /// The text of the mesh after the last round, or why there is none.
-pub fn outcome<S: Shelf>(alloc: Global, words: &[String], shelf: &mut S) -> Result<Vec<u8>, Stop>
+pub fn outcome<R: Threads + Sync, S: Shelf>(
+    rt: &R,
+    alloc: Global,
+    words: &[String],
+    shelf: &mut S,
+) -> Result<Vec<u8>, Stop>
     ensures ok { IfOk result (λ text. IsTextOf (map string_bytes words.now) (S.files shelf.old) (S.faults shelf.old) (S.faults shelf.new) text.items) }
     ensures stopped { IfErr result (IsStop (map string_bytes words.now) (S.files shelf.old) (S.steady shelf.old) (S.faults shelf.old) (S.faults shelf.new)) }
 {
@@ -35,11 +41,16 @@ pub fn outcome<S: Shelf>(alloc: Global, words: &[String], shelf: &mut S) -> Resu
         Ok(rounds) => rounds,
         Err(stop) => return Err(stop),
     };
-    run(alloc, &mesh, &rounds)
+    run(rt, alloc, &mesh, &rounds)
 }
 
 // The text of the mesh after these rounds.
-fn run(alloc: Global, mesh: &MacroMesh, rounds: &[RoundMarks]) -> Result<Vec<u8>, Stop>
+fn run<R: Threads + Sync>(
+    rt: &R,
+    alloc: Global,
+    mesh: &MacroMesh,
+    rounds: &[RoundMarks],
+) -> Result<Vec<u8>, Stop>
     requires { All (λ r. All IsWellFormed r.rows.items) rounds.now }
     ensures ok { IfOk result (λ text. RunsTo mesh.now (rounds_read rounds.now) (Ok text.items)) }
     ensures stopped { IfErr result (StopsBy (RunsTo mesh.now (rounds_read rounds.now))) }
@@ -51,7 +62,7 @@ fn run(alloc: Global, mesh: &MacroMesh, rounds: &[RoundMarks]) -> Result<Vec<u8>
     let Ok(leaves) = forest.leaves() else {
         return Err(Stop::Memory);
     };
-    match mesh_text(alloc, mesh, &leaves) {
+    match mesh_text(rt, alloc, mesh, &leaves) {
         Ok(text) => Ok(text),
         Err(_) => Err(Stop::Memory),
     }

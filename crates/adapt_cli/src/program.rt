@@ -28,7 +28,7 @@ use std::thread::Threads;
 /// | 6 | a file could not be read |
 /// | 7 | a write failed |
 pub fn adapt<R: Threads + Sync, S: Shelf, O: Sink, E: Sink, G: Gate + Sync>(
-    _rt: &R,
+    rt: &R,
     alloc: Global,
     words: &[String],
     shelf: &mut S,
@@ -38,7 +38,7 @@ pub fn adapt<R: Threads + Sync, S: Shelf, O: Sink, E: Sink, G: Gate + Sync>(
 ) -> u8
     ensures { Ends (record { words = map string_bytes words.now; files = S.files shelf.old; steady = S.steady shelf.old; before = S.faults shelf.old; now = S.faults shelf.new; out = record { old = O.holds out.old; new = O.holds out.new; before = O.faults out.old; now = O.faults out.new }; err = record { old = E.holds err.old; new = E.holds err.new; before = E.faults err.old; now = E.faults err.new }; status = result }) }
 {
-    match outcome(alloc, words, shelf) {
+    match outcome(rt, alloc, words, shelf) {
         Ok(text) => write_text(out, err, &text),
         Err(stop) => write_stop(words, stop, err),
     }

@@ -6,3 +6,8 @@ mod Adding
 mod Leaves
 mod Lines
 mod Numbered
+mod FirstOthers
+mod Apart
+mod AcrossLeaves
+mod Gathered
+mod WholeText

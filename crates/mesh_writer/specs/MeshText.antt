@@ -1,40 +1,28 @@
--- The text of a mesh, line by line.
-use Rattle.std.specs.Prelude.{ℕ, List, [], ◌∷◌, ◌++◌, length, map, codes}
-use Rattle.std.specs.Fmt.{decimal}
+-- The text of a mesh, line by line, in the form of a macro file.
+use Rattle.std.specs.Prelude.{ℕ, pos, List, ◌∷◌, ◌++◌, length, map, codes}
+use Rattle.mesh_io.specs.Decimals.{written_units}
+use Rattle.macro_file.specs.Written.{head_lines, lines_text, list_lines, numbers_line}
 use Rattle.mesh_names.specs.Names.{Name}
-use Rattle.mesh_names.specs.Triangles.{Shape, Vertex, triangle}
-use Rattle.mesh_writer.specs.Numbering.{vertices, number_of}
+use Rattle.mesh_names.specs.Triangles.{Vertex}
+use Rattle.compat_check.specs.Meshes.{Mesh, shape_of}
+use Rattle.compat_check.specs.Points.{Point, labels, point}
+use Rattle.mesh_writer.specs.Neighbours.{neighbours}
+use Rattle.mesh_writer.specs.Numbering.{vertices}
+use Rattle.mesh_writer.specs.Triples.{numbers}
 
--- the bytes of a line, without its end
-abbrev pub Line : Type 0
-Line = List ℕ
-
--- lines, each of which ends with a newline
-abbrev pub lines_text : List Line → List ℕ
-lines_text [] = []
-lines_text (l ∷ ls) = l ++ 10 ∷ lines_text ls
-
--- the sizes of the mesh, after the dimensions
-abbrev pub head_lines : ℕ → ℕ → List Line
-head_lines vertex_count leaf_count =
-    codes "DIM: 2" ∷ codes "DIM_OF_WORLD: 2" ∷ [] ∷ (codes "number of vertices: " ++ decimal vertex_count) ∷ (codes "number of elements: " ++ decimal leaf_count) ∷ [] ∷ []
-
--- the lines above the leaves
-abbrev pub heading : ℕ → ℕ → List Line
-heading vertex_count leaf_count = head_lines vertex_count leaf_count ++ codes "element vertices:" ∷ []
-
--- three numbers, parted by one space
-abbrev pub triple_line : ℕ → ℕ → ℕ → Line
-triple_line a b c = decimal a ++ codes " " ++ decimal b ++ codes " " ++ decimal c
-
--- the numbers of a leaf's corners
-abbrev pub leaf_line : Shape → List Vertex → Name → Line
-leaf_line mesh written n = let t = triangle mesh n in triple_line (number_of t.0 written) (number_of t.1 written) (number_of t.2 written)
+-- the decimals of a point
+abbrev pub coordinates_line : Point → List ℕ
+coordinates_line p = written_units p.0 ++ 32 ∷ written_units p.1
 
 -- the lines of the mesh over these leaves, with these written vertices
-abbrev pub mesh_lines : Shape → List Vertex → List Name → List Line
-mesh_lines mesh written leaves = heading (length written) (length leaves) ++ map (leaf_line mesh written) leaves
+abbrev pub mesh_lines : Mesh → List Vertex → List Name → List (List ℕ)
+mesh_lines mesh written leaves =
+    head_lines (length written) (length leaves)
+    ++ list_lines (codes "vertex coordinates:") coordinates_line (map (point mesh.vertices) written)
+    ++ list_lines (codes "element vertices:") numbers_line (map (map pos) (map (numbers (shape_of mesh) written) leaves))
+    ++ list_lines (codes "element boundaries:") numbers_line (map (labels mesh) leaves)
+    ++ codes "element neighbours:" ∷ map numbers_line (map (neighbours (shape_of mesh) leaves) leaves)
 
--- the text of the mesh over these leaves, of which the macro file has this many vertices
-abbrev pub mesh_text : Shape → ℕ → List Name → List ℕ
-mesh_text mesh count leaves = lines_text (mesh_lines mesh (vertices mesh count leaves) leaves)
+-- the text of the mesh over these leaves
+abbrev pub mesh_text : Mesh → List Name → List ℕ
+mesh_text mesh leaves = lines_text (mesh_lines mesh (vertices (shape_of mesh) (length mesh.vertices) leaves) leaves)

@@ -1,9 +1,9 @@
 -- Written vertices by their keys, and the numbers that are kept for them.
-use Rattle.std.specs.Prelude.{◌≡◌, ◌<◌, ◌≤◌, ℕ, zero, suc, ◌+◌, cond, true, List, [], ◌∷◌, ◌++◌, length, map, All, Option, Some, None}
+use Rattle.std.specs.Prelude.{◌≡◌, ◌<◌, ℕ, zero, suc, ◌+◌, cond, true, List, [], ◌∷◌, ◌++◌, length, map, All, Option, Some, None}
 use Rattle.std.specs.Option.{option_map}
 use Rattle.std.specs.BTreeMap.{get, Updates}
 use Rattle.mesh_names.specs.Names.{Name, name_cmp}
-use Rattle.mesh_names.specs.Triangles.{Shape, Vertex, size, level, same, triangle}
+use Rattle.mesh_names.specs.Triangles.{Shape, Vertex, size, same, triangle}
 use Rattle.mesh_names.specs.Patches.{vertex_of, owns}
 use Rattle.mesh_names.specs.declared.patch.VertexKey.{VertexKey}
 use Rattle.mesh_names.specs.declared.patch.VertexKey.TheVariants.{Macro, Patch}

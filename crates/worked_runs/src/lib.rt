@@ -1,6 +1,6 @@
 #![tactic(auto)]
 //! Whole runs of the program on small files, with what they write. The expected texts were worked
-//! out by hand from the definitions.
+//! out from the definitions, by hand and by a model of its own.
 
 #[cfg(test)]
 mod files;
@@ -14,3 +14,5 @@ mod meshes;
 mod run;
 #[cfg(test)]
 mod tests;
+#[cfg(test)]
+mod texts;

@@ -1,59 +1,27 @@
 //! The runs.
 use crate::files::{FOUR_TRIANGLES, SQUARE, TRIANGLE, TURNED_SQUARE};
 use crate::run::{run, run_words, shelf, sink, words};
+use crate::texts::{
+    FOUR_BISECTED, FOUR_MARKED_ONCE, SQUARE_ALONE, SQUARE_BISECTED, SQUARE_OF_ELEVEN,
+    SQUARE_OF_OTHER_ELEVEN, SQUARE_OF_SIX, TRIANGLE_BISECTED, TURNED_BISECTED,
+};
 use adapt_cli::program::adapt;
 use mesh_io::NoGate;
 use std::test::Fail;
 
-// The text of a mesh with these numbers of vertices and leaves.
-macro_rules! mesh {
-    ($vertices:literal, $leaves:literal, $lines:literal) => {
-        concat!(
-            "DIM: 2\nDIM_OF_WORLD: 2\n\nnumber of vertices: ",
-            $vertices,
-            "\nnumber of elements: ",
-            $leaves,
-            "\n\nelement vertices:\n",
-            $lines
-        )
-    };
-}
-
 #[test]
 fn rounds_write_the_least_conforming_mesh(rt: HostRuntime) -> Result<(), Fail> {
     let cases = [
-        (SQUARE, "", mesh!("4", "2", "2 0 1\n0 2 3\n")),
-        (
-            SQUARE,
-            "1,mark,0,1\n",
-            mesh!("5", "4", "1 2 4\n0 1 4\n3 0 4\n2 3 4\n"),
-        ),
-        (
-            SQUARE,
-            "1,mark,0,2\n",
-            mesh!("7", "6", "4 1 5\n2 4 5\n4 0 6\n1 4 6\n3 0 4\n2 3 4\n"),
-        ),
-        (
-            SQUARE,
-            "1,mark,0,1\n1,mark,0,0\n",
-            mesh!("4", "2", "2 0 1\n0 2 3\n"),
-        ),
-        (
-            SQUARE,
-            "1,mark,*,1\n1,mark,0,0\n",
-            mesh!("5", "4", "1 2 4\n0 1 4\n3 0 4\n2 3 4\n"),
-        ),
-        (
-            TURNED_SQUARE,
-            "1,mark,0,1\n",
-            mesh!("6", "5", "1 2 4\n0 1 4\n5 0 4\n2 5 4\n3 0 5\n"),
-        ),
-        (TRIANGLE, "1,mark,0,1\n", mesh!("4", "2", "2 0 3\n1 2 3\n")),
-        (
-            FOUR_TRIANGLES,
-            "1,mark,0,1\n",
-            mesh!("6", "5", "4 0 5\n1 4 5\n1 2 4\n2 3 4\n3 0 4\n"),
-        ),
+        (SQUARE, "", SQUARE_ALONE),
+        (SQUARE, "1,mark,0,1\n", SQUARE_BISECTED),
+        (SQUARE, "1,mark,0,2\n", SQUARE_OF_SIX),
+        (SQUARE, "1,mark,0,1\n1,mark,0,0\n", SQUARE_ALONE),
+        (SQUARE, "1,mark,*,1\n1,mark,0,0\n", SQUARE_BISECTED),
+        (SQUARE, "1,mark,0,1\n2,mark,0.0,2\n", SQUARE_OF_ELEVEN),
+        (TURNED_SQUARE, "1,mark,0,1\n", TURNED_BISECTED),
+        (TRIANGLE, "1,mark,0,1\n", TRIANGLE_BISECTED),
+        (FOUR_TRIANGLES, "1,mark,0,1\n", FOUR_MARKED_ONCE),
+        (FOUR_TRIANGLES, "1,mark,*,1\n", FOUR_BISECTED),
     ];
     for (macro_text, rows, want) in cases {
         let ran = run(&rt, rt.alloc(), macro_text, rows)?;
@@ -65,25 +33,14 @@ fn rounds_write_the_least_conforming_mesh(rt: HostRuntime) -> Result<(), Fail> {
 }
 
 #[test]
-fn a_second_round_goes_on_from_the_first(rt: HostRuntime) -> Result<(), Fail> {
-    let ran = run(&rt, rt.alloc(), SQUARE, "1,mark,0,1\n2,mark,0.0,2\n")?;
-    assert_eq!(rt; ran.status, 0);
-    let head = b"DIM: 2\nDIM_OF_WORLD: 2\n\nnumber of vertices: 10\nnumber of elements: 11\n\n";
-    assert!(rt; ran.out.bytes().starts_with(head));
-    Ok(())
-}
-
-#[test]
 fn patches_go_where_all_their_leaves_are_marked(rt: HostRuntime) -> Result<(), Fail> {
-    let square = mesh!("4", "2", "2 0 1\n0 2 3\n");
-    let bisected = mesh!("5", "4", "1 2 4\n0 1 4\n3 0 4\n2 3 4\n");
     let cases = [
-        ("1,mark,0,1\n2,mark,*,-1\n", square),
-        ("1,mark,0,1\n2,mark,*,-1\n2,mark,1.1,0\n", bisected),
-        ("1,mark,0,1\n2,mark,*,0\n", bisected),
-        ("1,mark,*,2\n2,mark,*,-1\n", bisected),
-        ("1,mark,*,2\n2,mark,*,-2\n", square),
-        ("1,mark,*,2\n2,mark,*,-2\n2,mark,0.00,-1\n", bisected),
+        ("1,mark,0,1\n2,mark,*,-1\n", SQUARE_ALONE),
+        ("1,mark,0,1\n2,mark,*,-1\n2,mark,1.1,0\n", SQUARE_BISECTED),
+        ("1,mark,0,1\n2,mark,*,0\n", SQUARE_BISECTED),
+        ("1,mark,*,2\n2,mark,*,-1\n", SQUARE_BISECTED),
+        ("1,mark,*,2\n2,mark,*,-2\n", SQUARE_ALONE),
+        ("1,mark,*,2\n2,mark,*,-2\n2,mark,0.00,-1\n", SQUARE_BISECTED),
     ];
     for (rows, want) in cases {
         let ran = run(&rt, rt.alloc(), SQUARE, rows)?;
@@ -98,8 +55,7 @@ fn a_mark_below_0_of_a_leaf_that_closure_bisects_is_dropped(rt: HostRuntime) -> 
     let rows = "1,mark,0,1\n2,mark,0.0,-1\n2,mark,0.1,2\n";
     let ran = run(&rt, rt.alloc(), SQUARE, rows)?;
     assert_eq!(rt; ran.status, 0);
-    let head = b"DIM: 2\nDIM_OF_WORLD: 2\n\nnumber of vertices: 10\nnumber of elements: 11\n\n";
-    assert!(rt; ran.out.bytes().starts_with(head));
+    assert!(rt; ran.out.bytes() == SQUARE_OF_OTHER_ELEVEN.as_bytes());
     Ok(())
 }
 
@@ -220,8 +176,7 @@ fn an_out_that_fails_keeps_what_it_took(rt: HostRuntime) -> Result<(), Fail> {
     let mut err = sink(alloc, 100, Vec::new(alloc))?;
     let status = adapt(&rt, alloc, &words, &mut shelf, &mut out, &mut err, &NoGate);
     assert_eq!(rt; status, 7);
-    let text = mesh!("5", "4", "1 2 4\n0 1 4\n3 0 4\n2 3 4\n");
-    assert!(rt; out.bytes() == &text.as_bytes()[..100]);
+    assert!(rt; out.bytes() == &SQUARE_BISECTED.as_bytes()[..100]);
     assert!(rt; err.bytes() == "adapt: write fault\n".as_bytes());
     Ok(())
 }
