@@ -5,7 +5,7 @@ use native.Mathlib.Decide.{ℕ_discrete}
 use Rattle.mesh_words.specs.Setup.{Setup, places}
 use Rattle.mesh_words.specs.Functions.{update}
 use Rattle.mesh_words.specs.Words.{Words}
-use Rattle.mesh_words.specs.Views.{Views, unsure}
+use Rattle.mesh_words.specs.Views.{Plan, Views, unsure}
 use Rattle.mesh_words.specs.Claims.{Progress, Claimed, Drawn, Half, Whole, Living, Claim, claim}
 use Rattle.mesh_words.specs.Entries.{HasEntry}
 use Rattle.mesh_words.proofs.Functions.{update_at, update_other, update_cases}
@@ -28,8 +28,8 @@ module _ (s : Setup) (w : Words) (n : ℕ) (v : Views) (g : Ghost) (r : Rule s w
   nothing_sure : (j workers : ℕ) (stage : ℕ → Stage) → SureRule s.elements workers w.head w.hist w.born w.died w.name w.row stage j unsure
   nothing_sure j workers stage = record { head_is = λ z l f h. absurd f; hist_is = λ b t l f h. absurd f; died_is = λ b k f h. absurd f; name_is = λ b t k f h. absurd f; born_is = λ b k f h i. absurd f; row_is = λ b k f h i. absurd f }
 
-  -- The claim of a patch of which the pass found the members' places, and which the last finished round has not
-  module _ (j x m k : ℕ) (kind : v.kind j ≡ 1) (bit0 : w.claimed x ≡ 0) (lead : s.leads k ≡ 1) (room : x < places s) (absent : HasEntry (v.work j).absent k)
+  -- The claim of a patch of the target of which the pass found the members' places, and which the last finished round has not
+  module _ (j x m k : ℕ) (kind : v.kind j ≡ 1) (bit0 : w.claimed x ≡ 0) (lead : s.leads k ≡ 1) (room : x < places s) (absent : HasEntry (v.work j).absent k) (aimed : HasEntry (v.work j).plan.target k)
       (here : HasEntry (v.work j).found (x, k)) (mate : ((m ≡ 0) × (s.mate k ≡ 0)) ⊎ ((y : ℕ) × (i : ℕ) × (m ≡ y + 1) × (s.mate k ≡ i + 1) × HasEntry (v.work j).found (y, i + 1) × HasEntry (v.work j).absent (i + 1))) where
     one : v.ruling.phase ≡ 1
     one = ((r.works j).found x k here).0
@@ -105,7 +105,7 @@ module _ (s : Setup) (w : Words) (n : ℕ) (v : Views) (g : Ghost) (r : Rule s w
         living = λ z i a p h e. absurd (omega (arith, one));
         none = λ z e. absurd (omega (arith, one));
       };
-      labels = λ z i a p h e. ⊎_elim (λ t. subst (λ (y : ℕ × ℕ × Progress). Label s w n v g r y.0 y.1 y.2) (λ u. (sym t.0 u, sym t.2 u, sym t.3 u)) (k, lead, seen, old, (λ b q. absurd (omega arith)), ⊎_elim inl (λ t. inr (t.0, t.1, t.2, t.3, ((r.works j).found t.0 (t.1 + 1) t.4).1, (r.walks j).absent (t.1 + 1) t.5)) mate)) (λ t. r.labels z i a p t.1 e) (back z i a p h);
+      labels = λ z i a p h e. ⊎_elim (λ t. subst (λ (y : ℕ × ℕ × Progress). Label s w n v g r y.0 y.1 y.2) (λ u. (sym t.0 u, sym t.2 u, sym t.3 u)) (k, lead, seen, old, (λ b q. absurd (omega arith)), ⊎_elim inl (λ t. inr (t.0, t.1, t.2, t.3, ((r.works j).found t.0 (t.1 + 1) t.4).1, (r.walks j).absent (t.1 + 1) t.5)) mate, subst (λ (p : Plan). HasEntry p.target k) (r.plan.same j kind) aimed)) (λ t. r.labels z i a p t.1 e) (back z i a p h);
       chains = r.chains;
       names = r.names;
       pins = r.pins;
@@ -119,6 +119,9 @@ module _ (s : Setup) (w : Words) (n : ℕ) (v : Views) (g : Ghost) (r : Rule s w
       stock = r.stock;
       note = r.note;
       retired = r.retired;
+      plan = r.plan;
+      history = r.history;
+      drawn = r.drawn;
       holders = λ z i a p h. ⊎_elim (λ t. inr (ap v.kind t.1 ∙ kind)) (λ t. r.holders z i a p t.1) (back z i a p h);
       hand = r.hand;
     }

@@ -1,11 +1,11 @@
 -- A draw.
-use Rattle.std.proofs.Common.{◌≡◌, ◌≢◌, ℕ, ◌+◌, ◌<◌, ◌≤◌, Bool, false, ◌⊎◌, refl, sym, ap, ◌∙◌, subst, inl, inr, ⊎_elim, arith}
+use Rattle.std.proofs.Common.{◌≡◌, ◌≢◌, ℕ, ◌+◌, ◌<◌, ◌≤◌, Bool, false, [], ◌∷◌, ◌⊎◌, refl, sym, ap, ◌∙◌, subst, inl, inr, ⊎_elim, arith}
 use mathlib.Core.Logic.{dite}
 use native.Mathlib.Decide.{ℕ_discrete}
 use Rattle.mesh_words.specs.Setup.{Setup, places}
 use Rattle.mesh_words.specs.Functions.{update}
 use Rattle.mesh_words.specs.Words.{Words, Node}
-use Rattle.mesh_words.specs.Views.{Views, unsure}
+use Rattle.mesh_words.specs.Views.{Work, Views, unsure}
 use Rattle.mesh_words.specs.Claims.{Progress, Claimed, Failed, Drawn, Half, Whole, Living, claim, moved_on}
 use Rattle.mesh_words.specs.Places.{member_of}
 use Rattle.mesh_words.specs.Entries.{HasEntry}
@@ -16,11 +16,13 @@ use Rattle.mesh_state.specs.Chains.{Reaches, IsPlace}
 use Rattle.mesh_state.specs.Claims.{Shape, linked, draws, draws_of, bit_of}
 use Rattle.mesh_state.specs.Bisections.{MayRead}
 use Rattle.mesh_state.specs.Sure.{GuardsBlock, GuardsHead, SureRule}
+use Rattle.mesh_state.specs.Work.{WorkRule, WalkRule}
+use Rattle.mesh_state.proofs.Lists.{plan_update}
 use Rattle.mesh_state.specs.Rule.{Rule}
 use Rattle.mesh_state.proofs.FoundAgain.{placed, chained_stands, standing, reach_on, names_on, goes_on, workers_on, Moves}
 use Rattle.mesh_state.proofs.HeldClaims.{not_open, held_one, free_not, free_loose, loose_not, uses, used_life, shape_on, moved_on_has, moved_on_here, moved_on_keeps, place_of}
 use Rattle.mesh_state.proofs.Across.{Went, first_half}
-use Rattle.mesh_state.proofs.SureWords.{sure_on}
+use Rattle.mesh_state.proofs.SureWords.{sure_on, retired_on}
 use Rattle.mesh_state.proofs.Publishing.{Label}
 
 module _ (s : Setup) (w : Words) (n : ℕ) (v : Views) (g : Ghost) (r : Rule s w n v g) where
@@ -43,9 +45,12 @@ module _ (s : Setup) (w : Words) (n : ℕ) (v : Views) (g : Ghost) (r : Rule s w
 
     module _ (q : Progress) (life : ℕ → Life) (used : (b : ℕ) → uses q ≡ b + 1 → (b ≡ w.row w.cursor) × (w.cursor < w.free) × (q ≡ Drawn b))
         (shape : Shape w.round w.head w.born life x m q) (drawn : draws q ≡ 1) (unlinked : (b : ℕ) → linked q ≡ b + 1 → ⊥) (not_half : (b : ℕ) → q ≡ Half b → ⊥) (not_whole : (b : ℕ) → q ≡ Whole b → ⊥) (not_living : (b : ℕ) → q ≡ Living b → ⊥)
-        (same_life : (c : ℕ) → (g.life c ≡ Free → ⊥) → life c ≡ g.life c) (back_life : (c y k : ℕ) → life c ≡ Placed y k → g.life c ≡ Placed y k) (undone_life : (c y k : ℕ) → life c ≡ Undone y k → g.life c ≡ Undone y k) (free_life : (i : ℕ) → w.cursor < i → i < w.free → life (w.row i) ≡ Free) (left_life : (c : ℕ) → g.life c ≡ Free → (life c ≡ Free) ⊎ ((w.cursor < w.free) × (w.row w.cursor ≡ c))) where
+        (same_life : (c : ℕ) → (g.life c ≡ Free → ⊥) → life c ≡ g.life c) (back_life : (c y k : ℕ) → life c ≡ Placed y k → g.life c ≡ Placed y k) (undone_life : (c y k : ℕ) → life c ≡ Undone y k → g.life c ≡ Undone y k) (free_life : (i : ℕ) → w.cursor < i → i < w.free → life (w.row i) ≡ Free) (left_life : (c : ℕ) → g.life c ≡ Free → (life c ≡ Free) ⊎ ((w.cursor < w.free) × (w.row w.cursor ≡ c))) (e : ℕ) (below : w.cursor < w.free → e ≡ w.row w.cursor + 1) (above : w.free ≤ w.cursor → e ≡ 0) where
       abbrev stage' : ℕ → Stage
       stage' = update g.stage x (Held j m q)
+
+      abbrev noted : Work
+      noted = record (v.work j) { drawn = (w.cursor, e) ∷ (v.work j).drawn }
 
       back : (z i k : ℕ) (p : Progress) → stage' z ≡ Held i k p → ((z ≡ x) × (i ≡ j) × (k ≡ m) × (p ≡ q)) ⊎ ((z ≢ x) × (g.stage z ≡ Held i k p))
       back z i k p h = dite (ℕ_discrete z x) (λ e. let t = held_one j i m k q p (sym (update_at g.stage x z (Held j m q) e) ∙ h) in inl (e, sym t.0, sym t.1, sym t.2)) (λ o. inr (o, sym (update_other g.stage x z (Held j m q) o) ∙ h))
@@ -71,8 +76,8 @@ module _ (s : Setup) (w : Words) (n : ℕ) (v : Views) (g : Ghost) (r : Rule s w
       again : (q z c : ℕ) (l : Node) → Reaches w.hist w.born w.died g.life q z c l → Reaches w.hist w.born w.died life q z c l
       again q z c l h = reach_on w.hist w.hist w.born w.died w.born w.died g.life life q z (λ a t u. (stand a t z u, refl)) c (λ t u k. k) l h
 
-      pub draws_any : Rule s (record w { cursor = w.cursor + 1 }) n (record v { claims = update v.claims j (moved_on (v.claims j) x q); sure = update v.sure j unsure }) (record g { stage = stage'; life = life })
-      draws_any = let moves : Moves Can A s.elements w.round w.head w.hist w.head w.hist w.born w.died w.born w.died g.life life = record {
+      moves : Moves Can A s.elements w.round w.head w.hist w.head w.hist w.born w.died w.born w.died g.life life
+      moves = record {
         heads = λ q z c k _ h. again q z c (w.head z) h;
         hists = λ q a t z c k _ u h. again q z c (w.hist (member_of a t)) h;
         on = λ q b t x k u c. c;
@@ -81,7 +86,10 @@ module _ (s : Setup) (w : Words) (n : ℕ) (v : Views) (g : Ghost) (r : Rule s w
         fresh = λ q c t y k _ u. back_chain c t y u;
         stand = λ q c t y k a u. stand c t y u;
         alive = λ q b t x l u a. a;
-      } in record {
+      }
+
+      pub draws_any : Rule s (record w { cursor = w.cursor + 1 }) n (record v { claims = update v.claims j (moved_on (v.claims j) x q); work = update v.work j (record (v.work j) { drawn = (w.cursor, e) ∷ (v.work j).drawn }); sure = update v.sure j unsure }) (record g { stage = stage'; life = life })
+      draws_any = record {
         names_apart = r.names_apart;
         claims = record {
           held = update_cases (λ i cs. (z k : ℕ) (p : Progress) → HasEntry cs (claim z k p) → stage' z ≡ Held i k p) v.claims j (moved_on (v.claims j) x q)
@@ -104,7 +112,7 @@ module _ (s : Setup) (w : Words) (n : ℕ) (v : Views) (g : Ghost) (r : Rule s w
           living = λ z i k p h e. absurd (omega (arith, one));
           none = λ z e. absurd (omega (arith, one));
         };
-        labels = λ z i k p h e. ⊎_elim (λ t. let l = r.labels x j m Claimed is e in subst (λ (y : ℕ × ℕ × Progress). Label s w n v g r y.0 y.1 y.2) (λ u. (sym t.0 u, sym t.2 u, sym t.3 u)) (l.0, l.1, l.2, l.3, (λ b f. absurd (unlinked b f)), l.5)) (λ t. r.labels z i k p t.1 e) (back z i k p h);
+        labels = λ z i k p h e. ⊎_elim (λ t. let l = r.labels x j m Claimed is e in subst (λ (y : ℕ × ℕ × Progress). Label s w n v g r y.0 y.1 y.2) (λ u. (sym t.0 u, sym t.2 u, sym t.3 u)) (l.0, l.1, l.2, l.3, (λ b f. absurd (unlinked b f)), l.5, l.6)) (λ t. r.labels z i k p t.1 e) (back z i k p h);
         chains = record {
           heads = λ y l. ⊎_elim inl (λ o. inr (o.0, o.1, o.2, chain o.0 o.1 y o.3, o.4, o.5)) (r.chains.heads y (live y l));
           hists = λ b t y u. ⊎_elim inl (λ o. inr (o.0, o.1, o.2, chain o.0 o.1 y o.3, o.4, o.5, o.6)) (r.chains.hists b t y (back_stand b t y u));
@@ -115,21 +123,46 @@ module _ (s : Setup) (w : Words) (n : ℕ) (v : Views) (g : Ghost) (r : Rule s w
         };
         names = names_on s w.name w.name w.head w.hist w.head w.hist w.born w.died w.born w.died g.life life (λ _ _ _ _ _. refl) w.round v.ruling.phase g.who v.read Can A moves (λ _ k. k) (λ b y k u. r.names.patch b y k (back_life b y k u)) (λ b y k l u. r.names.calm b y k l (back_life b y k u)) r.names;
         pins = r.pins;
-        works = λ i. let k = r.works i in record { only = k.only; found = k.found; known = k.known; open_ = k.open_; given = λ c y h. let t = (k.given c y h).0 in let e = one in absurd (omega arith) };
+        works = update_cases (λ i u. WorkRule s w.round v.ruling.phase w.name w.born w.died life (g.who d) (v.kind i) i u) v.work j noted
+            (let k = r.works j in record { only = k.only; found = k.found; known = k.known; open_ = k.open_; given = λ c y h. let t = (k.given c y h).0 in let z = one in absurd (omega arith) })
+            (λ i _. let k = r.works i in record { only = k.only; found = k.found; known = k.known; open_ = k.open_; given = λ c y h. let t = (k.given c y h).0 in let z = one in absurd (omega arith) });
         sure = update_cases (λ i u. SureRule s.elements v.ruling.workers w.head w.hist w.born w.died w.name w.row stage' i u) v.sure j unsure
             record { head_is = λ z l f h. absurd f; hist_is = λ b t l f h. absurd f; died_is = λ b k f h. absurd f; name_is = λ b t k f h. absurd f; born_is = λ b k f h i. absurd f; row_is = λ b k f h i. absurd f }
             (λ i ne. sure_on s.elements v.ruling.workers v.ruling.workers w.head w.hist w.head w.hist w.born w.died w.name w.row w.born w.died w.name w.row g.stage stage' i (v.sure i)
             (λ z h. (head_was i ne z h, refl)) (λ c h. (block_was i ne c h, (λ _. refl), refl, λ _. refl)) (λ z e. (e, (λ _. refl), λ _. refl)) (r.sure i));
-        walks = λ i. workers_on s w.name w.name w.head w.hist w.head w.hist w.born w.died w.born w.died g.life life (λ _ _ _ _ _. refl) w.round v.ruling.phase g.who v.read Can A moves (inl (inl refl)) (r.names.fits w.round (inl (inl refl))) (λ e. r.names.fits d (inr (refl, omega arith))) (v.kind i) i (v.work i) (λ b k h x. (inr (i, k, refl, h), x)) (r.walks i);
+        walks = update_cases (λ i u. WalkRule s w.round v.ruling.phase w.name w.hist w.born w.died life g.who (v.kind i) i u) v.work j noted (let u = walker j in record { still = u.still; only = u.only; half = u.half; absent = u.absent; stood = u.stood; had = u.had; went = u.went; walk = u.walk }) (λ i _. walker i);
         goes = λ i. goes_on s w.name w.name w.head w.hist w.head w.hist w.born w.died w.born w.died g.life life (λ _ _ _ _ _. refl) w.round v.ruling.phase g.who v.read Can A moves (λ a p e. (inl (inr (a, e)), r.pins.past a p e)) (λ a p c e h x. (inl (a, e, h), x)) (λ p t. r.names.fits p t) i (r.goes i);
         rules = r.rules;
         stock = let k = r.stock in record { finished = k.finished; cursor_is = λ i e. absurd ((k.cursor_is i e).0 one); free_is = k.free_is; left = k.left; never = λ c l. ⊎_elim (λ e. ⊎_elim inl (λ t. inr (w.cursor, omega arith, t.0, t.1)) (left_life c e)) (λ t. let u = t.1 in inr (t.0, omega arith, t.2, t.3)) (k.never c l) };
         note = record { undone = λ c h. let t = r.note.undone c h in (t.0, t.1, same_life c (λ e. free_undone t.0 t.1 (sym e ∙ t.2)) ∙ t.2); all = λ c y k h. r.note.all c y k (undone_life c y k h); placed = λ c y k h. ⊎_elim (λ e. inl (same_life c (λ f. free_not y k (sym f ∙ e)) ∙ e)) (λ e. inr (same_life c (λ f. free_undone y k (sym f ∙ e)) ∙ e)) (r.note.placed c y k h); seen = r.note.seen; quiet = r.note.quiet };
-        retired = λ c y k h e. r.retired c y k (back_life c y k h) e;
+        retired = retired_on w.round w.died life v.work (update v.work j noted) v.ruling.retired (update_cases (λ i u. u.retired ≡ (v.work i).retired) v.work j noted refl (λ _ _. refl)) (λ c y k h e. r.retired c y k (back_life c y k h) e);
+        plan = plan_update s w.round v.ruling.phase g.who v.kind v.work v.ruling.plan j noted refl r.plan;
+        history = r.history;
+        drawn = record {
+          only = update_cases (λ i u. (v.kind i ≡ 1 → ⊥) → (i ≡ 0 → ⊥) → u.drawn ≡ []) v.work j noted (λ a. absurd (a kind)) (λ i _. r.drawn.only i);
+          drawn = update_cases (λ _ u. (i b : ℕ) → HasEntry u.drawn (i, b) → (v.ruling.phase ≡ 1) × (i < w.cursor + 1) × (i < w.free → b ≡ w.row i + 1) × (w.free ≤ i → b ≡ 0)) v.work j noted
+              (λ i b h. ⊎_elim (λ z. new_draw i b (ap (λ (t : ℕ × ℕ). t.0) z) (ap (λ (t : ℕ × ℕ). t.1) z)) (old_draw j i b) h) (λ a _. old_draw a);
+          apart = λ a c i b f h l. ⊎_elim (λ t. ⊎_elim (λ u. t.0 ∙ sym u.0) (λ u. let z = (r.drawn.drawn c i f u).1 in let y = t.1 in absurd (omega arith)) (whose c i f l))
+              (λ t. ⊎_elim (λ u. let z = (r.drawn.drawn a i b t).1 in let y = u.1 in absurd (omega arith)) (λ u. r.drawn.apart a c i b f t u) (whose c i f l)) (whose a i b h);
+        };
         holders = λ z i k p h. ⊎_elim (λ t. inr (ap v.kind t.1 ∙ kind)) (λ t. r.holders z i k p t.1) (back z i k p h);
         hand = λ c h. absurd ((r.hand c h).0 one);
       }
         where
+          walker : (i : ℕ) → WalkRule s w.round v.ruling.phase w.name w.hist w.born w.died life g.who (v.kind i) i (v.work i)
+          walker i = workers_on s w.name w.name w.head w.hist w.head w.hist w.born w.died w.born w.died g.life life (λ _ _ _ _ _. refl) w.round v.ruling.phase g.who v.read Can A moves (inl (inl refl)) (r.names.fits w.round (inl (inl refl))) (λ e. r.names.fits d (inr (refl, omega arith))) (v.kind i) i (v.work i) (λ b k h x. (inr (i, k, refl, h), x)) (r.walks i)
+
+          old_draw : (a i b : ℕ) → HasEntry (v.work a).drawn (i, b) → (v.ruling.phase ≡ 1) × (i < w.cursor + 1) × (i < w.free → b ≡ w.row i + 1) × (w.free ≤ i → b ≡ 0)
+          old_draw a i b h = let t = r.drawn.drawn a i b h in let t1 = t.1 in (t.0, omega arith, t.2, t.3)
+
+          new_draw : (i b : ℕ) → i ≡ w.cursor → b ≡ e → (v.ruling.phase ≡ 1) × (i < w.cursor + 1) × (i < w.free → b ≡ w.row i + 1) × (w.free ≤ i → b ≡ 0)
+          new_draw i b z y = (one, omega arith, (λ l. y ∙ below (omega arith) ∙ ap (λ (t : ℕ). w.row t + 1) (sym z)), λ l. y ∙ above (omega arith))
+
+          -- a draw is the new one, or was there
+          whose : (a i b : ℕ) → HasEntry (update v.work j noted a).drawn (i, b) → ((a ≡ j) × (i ≡ w.cursor)) ⊎ HasEntry (v.work a).drawn (i, b)
+          whose a i b h = update_cases (λ c u. c ≡ a → HasEntry u.drawn (i, b) → ((a ≡ j) × (i ≡ w.cursor)) ⊎ HasEntry (v.work a).drawn (i, b)) v.work j noted
+              (λ z k. ⊎_elim (λ t. inl (sym z, ap (λ (y : ℕ × ℕ). y.0) t)) (λ t. inr (subst (λ (c : ℕ). HasEntry (v.work c).drawn (i, b)) z t)) k) (λ c _ z k. inr (subst (λ (c : ℕ). HasEntry (v.work c).drawn (i, b)) z k)) a refl h
+
           free_undone : (y k : ℕ) → Free ≡ Undone y k → ⊥
           free_undone y k e = cc
 
@@ -157,7 +190,7 @@ module _ (s : Setup) (w : Words) (n : ℕ) (v : Views) (g : Ghost) (r : Rule s w
           head_was i ne z (inr t) = inr (t.0, t.1, t.2, ⊎_elim (λ h. ⊎_elim (λ f. absurd (ne f.1)) (λ f. inl (f.1, h.1)) (back t.0 i t.1 (Drawn t.2) h.0)) (λ h. ⊎_elim (λ f. absurd (ne f.1)) (λ f. inr (f.1, h.1)) (back t.0 i t.1 (Half t.2) h.0)) t.3)
 
     -- the number found is below FREE
-    pub draws_one : w.cursor < w.free → Rule s (record w { cursor = w.cursor + 1 }) n (record v { claims = update v.claims j (moved_on (v.claims j) x (Drawn (w.row w.cursor))); sure = update v.sure j unsure }) (record g { stage = update g.stage x (Held j m (Drawn (w.row w.cursor))); life = update g.life (w.row w.cursor) (Loose (x + 1)) })
+    pub draws_one : w.cursor < w.free → Rule s (record w { cursor = w.cursor + 1 }) n (record v { claims = update v.claims j (moved_on (v.claims j) x (Drawn (w.row w.cursor))); work = update v.work j (record (v.work j) { drawn = (w.cursor, w.row w.cursor + 1) ∷ (v.work j).drawn }); sure = update v.sure j unsure }) (record g { stage = update g.stage x (Held j m (Drawn (w.row w.cursor))); life = update g.life (w.row w.cursor) (Loose (x + 1)) })
     draws_one l = let b : ℕ = w.row w.cursor in let f = r.claims.rows w.cursor (omega arith) l in let life : ℕ → Life = update g.life b (Loose (x + 1)) in
         draws_any (Drawn b) life (λ c e. let z : c ≡ b = omega arith in (z, l, ap Drawn (sym z))) (update_same g.life b (Loose (x + 1)), f.1) refl (λ c e. absurd (omega arith)) (λ c e. clash1 b c e) (λ c e. clash2 b c e) (λ c e. clash3 b c e)
         (λ c o. update_other g.life b c (Loose (x + 1)) (λ (e : c ≡ b). o (ap g.life e ∙ f.0)))
@@ -165,6 +198,7 @@ module _ (s : Setup) (w : Words) (n : ℕ) (v : Views) (g : Ghost) (r : Rule s w
         (λ c y k u. dite (ℕ_discrete c b) (λ e. absurd (clash4 (x + 1) y k (sym (update_at g.life b c (Loose (x + 1)) e) ∙ u))) (λ o. sym (update_other g.life b c (Loose (x + 1)) o) ∙ u))
         (λ i a m. let t = r.claims.rows i (omega arith) m in update_other g.life b (w.row i) (Loose (x + 1)) (λ (e : w.row i ≡ b). let q = r.claims.apart i w.cursor (omega arith) m (omega arith) l e in omega arith) ∙ t.0)
         (λ c e. dite (ℕ_discrete c b) (λ k. inr (l, sym k)) (λ o. inl (update_other g.life b c (Loose (x + 1)) o ∙ e)))
+        (w.row w.cursor + 1) (λ _. refl) (λ a. absurd (omega arith))
       where
         clash1 : (b c : ℕ) → Drawn b ≡ Half c → ⊥
         clash1 b c e = cc
@@ -179,8 +213,8 @@ module _ (s : Setup) (w : Words) (n : ℕ) (v : Views) (g : Ghost) (r : Rule s w
         clash4 u y k e = cc
 
     -- it is not: the round is full
-    pub draws_none : w.free ≤ w.cursor → Rule s (record w { cursor = w.cursor + 1 }) n (record v { claims = update v.claims j (moved_on (v.claims j) x Failed); sure = update v.sure j unsure }) (record g { stage = update g.stage x (Held j m Failed); life = g.life })
-    draws_none l = draws_any Failed g.life (λ c e. absurd (omega arith)) tt refl (λ c e. absurd (omega arith)) (λ c e. clash1 c e) (λ c e. clash2 c e) (λ c e. clash3 c e) (λ _ _. refl) (λ _ _ _ u. u) (λ _ _ _ u. u) (λ i a m. absurd (omega arith)) (λ c e. inl e)
+    pub draws_none : w.free ≤ w.cursor → Rule s (record w { cursor = w.cursor + 1 }) n (record v { claims = update v.claims j (moved_on (v.claims j) x Failed); work = update v.work j (record (v.work j) { drawn = (w.cursor, 0) ∷ (v.work j).drawn }); sure = update v.sure j unsure }) (record g { stage = update g.stage x (Held j m Failed); life = g.life })
+    draws_none l = draws_any Failed g.life (λ c e. absurd (omega arith)) tt refl (λ c e. absurd (omega arith)) (λ c e. clash1 c e) (λ c e. clash2 c e) (λ c e. clash3 c e) (λ _ _. refl) (λ _ _ _ u. u) (λ _ _ _ u. u) (λ i a m. absurd (omega arith)) (λ c e. inl e) 0 (λ a. absurd (omega arith)) (λ _. refl)
       where
         clash1 : (c : ℕ) → Failed ≡ Half c → ⊥
         clash1 c e = cc

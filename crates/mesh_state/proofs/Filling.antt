@@ -86,7 +86,7 @@ module _ (s : Setup) (w : Words) (n : ℕ) (v : Views) (g : Ghost) (r : Rule s w
       names_apart = r.names_apart;
       claims = r.claims;
       labels = λ z i k p h e. let l = r.labels z i k p h e in
-          (l.0, l.1, place_on z l.0 l.2, l.3, (λ c f. let at = linked_placed w.round w.head w.born g.life z k p c (r.claims.shape z i k p h) f in same c false false z (ap (λ (y : Life). chained y false) at) ∙ l.4 c f), ⊎_elim inl (λ t. inr (t.0, t.1, t.2, t.3, place_on t.0 (t.1 + 1) t.4, t.5)) l.5);
+          (l.0, l.1, place_on z l.0 l.2, l.3, (λ c f. let at = linked_placed w.round w.head w.born g.life z k p c (r.claims.shape z i k p h) f in same c false false z (ap (λ (y : Life). chained y false) at) ∙ l.4 c f), ⊎_elim inl (λ t. inr (t.0, t.1, t.2, t.3, place_on t.0 (t.1 + 1) t.4, t.5)) l.5, l.6);
       chains = step_chains.0;
       names = names_on s w.name name' w.head w.hist w.head hist' w.born w.died w.born died' g.life g.life same w.round v.ruling.phase g.who v.read Can A step_chains.1 (λ _ k. k)
           (λ c y k h. let o = off c (other c false y (ap (λ (l : Life). chained l false) h)) in subst (λ (i : ℕ × ℕ). (s.leads i.0 ≡ 1) × (i.1 ≡ s.mate i.0) × ((k ≡ 0) × (s.mate i.0 ≡ 0) ⊎ ((a : ℕ) × (e : ℕ) × (k ≡ a + 1) × (s.mate i.0 ≡ e + 1)))) (λ t. (sym (o.2 false) t, sym (o.2 true) t)) (r.names.patch c y k h))
@@ -108,6 +108,9 @@ module _ (s : Setup) (w : Words) (n : ℕ) (v : Views) (g : Ghost) (r : Rule s w
       stock = r.stock;
       note = r.note;
       retired = λ c y k h e. r.retired c y k h (sym (off c (other c false y (ap (λ (l : Life). chained l false) h))).1 ∙ e);
+      plan = r.plan;
+      history = r.history;
+      drawn = r.drawn;
       holders = r.holders;
       hand = r.hand;
     }
@@ -185,6 +188,9 @@ module _ (s : Setup) (w : Words) (n : ℕ) (v : Views) (g : Ghost) (r : Rule s w
         stock = r.stock;
         note = r.note;
         retired = r.retired;
+        plan = r.plan;
+        history = r.history;
+        drawn = r.drawn;
         holders = r.holders;
         hand = r.hand;
       }

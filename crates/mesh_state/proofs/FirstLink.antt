@@ -147,6 +147,9 @@ module _ (s : Setup) (w : Words) (n : ℕ) (v : Views) (g : Ghost) (r : Rule s w
       stock = let k = r.stock in record { finished = k.finished; cursor_is = k.cursor_is; free_is = k.free_is; left = k.left; never = λ c l. ⊎_elim (λ e. inl (off c (λ (f : c ≡ b). free_loose (x + 1) (sym e ∙ ap g.life f ∙ shape.0)) ∙ e)) inr (k.never c l) };
       note = record { undone = λ c h. let t = r.note.undone c h in (t.0, t.1, off c (λ (f : c ≡ b). loose_undone (x + 1) t.0 t.1 (sym shape.0 ∙ ap g.life (sym f) ∙ t.2)) ∙ t.2); all = λ c y k h. dite (ℕ_discrete c b) (λ e. absurd (placed_undone x m y k (sym (update_at g.life b c (Placed x m) e) ∙ h))) (λ o. r.note.all c y k (sym (off c o) ∙ h)); placed = λ c y k h. ⊎_elim (λ e. inl (off c (λ (f : c ≡ b). loose_not (x + 1) y k (sym shape.0 ∙ ap g.life (sym f) ∙ e)) ∙ e)) (λ e. inr (off c (λ (f : c ≡ b). loose_undone (x + 1) y k (sym shape.0 ∙ ap g.life (sym f) ∙ e)) ∙ e)) (r.note.placed c y k h); seen = r.note.seen; quiet = r.note.quiet };
       retired = λ c y i u e. ⊎_elim (λ t. let f : w.died c ≡ w.died b = ap w.died t.0 in let z = (r.sure j).died_is b 0 died guard in absurd (omega arith)) (λ t. r.retired c y i t.1 e) (back c y i u);
+      plan = r.plan;
+      history = r.history;
+      drawn = r.drawn;
       holders = λ z i c p h. dite (ℕ_discrete z x) (λ f. let t = (held_one j i m c q p (sym (update_at g.stage x z (Held j m q) f) ∙ h)).0 in inr (ap v.kind (sym t) ∙ kind)) (λ o. r.holders z i c p (sym (update_other g.stage x z (Held j m q) o) ∙ h));
       hand = λ c h. absurd ((r.hand c h).0 one);
     }
@@ -159,7 +162,7 @@ module _ (s : Setup) (w : Words) (n : ℕ) (v : Views) (g : Ghost) (r : Rule s w
 
         new_label : Label s w n v g r x m q
         new_label = let same = name_one s w n v g r d x k label.0 ((r.works j).found x k place).1 label.2 in
-            (label.0, label.1, label.2, label.3, (λ c h. let e : c ≡ b = one_more c b (sym h ∙ ⊎_elim (λ f. ap linked f) (λ f. ap linked f.0) how) in ap (λ (i : ℕ). w.name (member_of i false)) e ∙ first_name ∙ same), label.5)
+            (label.0, label.1, label.2, label.3, (λ c h. let e : c ≡ b = one_more c b (sym h ∙ ⊎_elim (λ f. ap linked f) (λ f. ap linked f.0) how) in ap (λ (i : ℕ). w.name (member_of i false)) e ∙ first_name ∙ same), label.5, label.6)
 
         not_drawn : (c : ℕ) → q ≡ Drawn c → ⊥
         not_drawn c e = ⊎_elim (λ f. clash1 (sym f ∙ e)) (λ f. clash2 (sym f.0 ∙ e)) how

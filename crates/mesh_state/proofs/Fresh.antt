@@ -1,13 +1,16 @@
 -- The fresh table meets the rule, and names that are apart exist.
-use Rattle.std.proofs.Common.{◌≡◌, ℕ, zero, suc, ◌+◌, ◌≤◌, cond, Bool, ◌<◌, lt-ltb, refl, sym, ap, ◌∙◌, inl, inr, arith, ne_eqb}
-use Rattle.mesh_words.specs.Entries.{Noted}
+use Rattle.std.proofs.Common.{[], ◌∷◌, subst, ◌≡◌, ℕ, zero, suc, ◌+◌, ◌≤◌, cond, Bool, List, ◌<◌, lt-ltb, refl, sym, ap, ◌∙◌, inl, inr, arith, ne_eqb}
+use Rattle.mesh_words.specs.Entries.{Noted, EntryAt, HasEntry}
 use Rattle.mesh_words.specs.Setup.{Setup, NamesApart, setup_of}
 use Rattle.mesh_words.proofs.CodedNames.{codes_apart}
 use Rattle.mesh_state.specs.Sure.{SureRule}
-use Rattle.mesh_state.specs.Fresh.{noted_below, fresh_words, fresh_kind, fresh_sure, fresh_views, fresh_ghost, FreshIsLawful}
+use Rattle.mesh_state.specs.Fresh.{idle, noted_below, fresh_words, fresh_kind, fresh_sure, fresh_views, fresh_ghost, FreshIsLawful}
 use Rattle.mesh_words.specs.Sums.{sum_below, one_where}
+use Rattle.mesh_words.specs.Views.{no_plan}
 use Rattle.mesh_words.specs.Words.{node}
 use Rattle.mesh_state.specs.Ghosts.{Open, Free, Placed, Undone}
+use Rattle.mesh_state.specs.Lists.{Holds}
+use Rattle.mesh_state.proofs.Lists.{none_drawn}
 use Rattle.mesh_state.specs.Rule.{Rule}
 use Rattle.mesh_state.proofs.FoundAgain.{walks_idle}
 use Rattle.mesh_state.proofs.HeldClaims.{not_open}
@@ -59,13 +62,16 @@ starts s a = record {
   };
   pins = record { now = refl; later = λ q l. (refl, refl); count = λ q. let z : one_where 0 (q + 1) ≡ 0 = ap (λ (t : Bool). cond {A = ℕ} t 1 0) (ne_eqb 0 (q + 1) (λ (e : 0 ≡ q + 1). omega arith)) in omega arith; past = λ j q e. absurd (omega arith); few = λ j l. few j l; readers = λ j o. (refl, refl); bit = λ j. omega arith; bound = omega arith };
   works = λ j. record { only = λ _ _. (refl, refl, refl, refl); found = λ x k h. absurd h; known = λ k h. absurd h; open_ = λ k h. absurd h; given = λ b k h. absurd h };
-  walks = λ j. walks_idle s 0 0 (λ _. 0) (λ _. node 0 0) (λ _. 0) (λ _. 0) (λ _. Free) (λ _ _. 0) (fresh_kind j) j 0 (λ _. refl);
+  walks = λ j. walks_idle s 0 0 (λ _. 0) (λ _. node 0 0) (λ _. 0) (λ _. 0) (λ _. Free) (λ _ _. 0) (fresh_kind j) j 0 no_plan (λ _. refl);
   sure = sure_is;
   goes = λ j. record { went = λ q b p h. absurd h; walk = λ q p. tt; places = λ q x k p h. absurd h; yes_notes = λ k q h. absurd h; no_notes = λ k q h. absurd h };
   rules = record { owner = (refl, omega arith); one = λ j e. only j e; workers = refl; readers = refl; few_readers = omega arith; halves = λ _ _. refl; clear = λ q h. absurd h };
   stock = record { finished = refl; cursor_is = λ k e. ((λ f. omega arith), omega arith); free_is = λ k e. omega arith; never = λ b l. inl refl; left = λ q k h. absurd h };
   note = record { undone = λ b h. absurd h; all = λ b x m e. absurd (free_undone x m e); placed = λ b x m h. absurd h; seen = λ x e. absurd (omega arith); quiet = λ e. absurd (omega arith) };
   retired = λ b x m u e. absurd (free_not x m u);
+  plan = record { same = λ j e. absurd (not_one j e); aim = λ l. absurd (omega arith); within = λ i l. absurd (omega arith); whole = λ i l. absurd (omega arith); done = λ i e. absurd (omega arith) };
+  history = record { rounds = refl; forests = λ q names e i. empty q names e i; told = λ j. ([] ∷ [], refl); seen = λ j. (omega arith, omega arith); made = λ j. (omega arith, λ q e. absurd (omega arith)) };
+  drawn = none_drawn 0 0 s.pool (fresh_words s.pool).row fresh_kind (λ _. idle) (λ j. refl);
   holders = λ x j m p h. absurd (not_open j m p (sym h));
   hand = λ b h. ((λ e. omega arith), refl);
 }
@@ -73,6 +79,14 @@ starts s a = record {
     sure_is : (j : ℕ) → SureRule s.elements 0 (λ _. node 0 0) (λ _. node 0 0) (λ _. 0) (λ _. 0) (λ _. 0) (fresh_words s.pool).row (λ _. Open) j (fresh_sure s.pool j)
     sure_is zero = record { head_is = λ z l f h. absurd f; hist_is = λ b t l f h. absurd f; died_is = λ b k f h. absurd f; name_is = λ b t k f h. absurd f; born_is = λ b k f h i. (noted_is s.pool (λ _. 0) b k f).1; row_is = λ b k f h i. let t = noted_is s.pool (λ i. i) b k f in row_is s.pool b t.0 ∙ t.1 }
     sure_is (suc j) = record { head_is = λ z l f h. absurd f; hist_is = λ b t l f h. absurd f; died_is = λ b k f h. absurd f; name_is = λ b t k f h. absurd f; born_is = λ b k f h i. absurd f; row_is = λ b k f h i. absurd f }
+
+    not_one : (j : ℕ) → fresh_kind j ≡ 1 → ⊥
+    not_one zero e = omega arith
+    not_one (suc j) e = omega arith
+
+    empty : (q : ℕ) (names : List ℕ) → EntryAt ([] ∷ []) q names → (i : ℕ) → (HasEntry names i → Holds (λ _. 0) i) × (Holds (λ _. 0) i → HasEntry names i)
+    empty zero names e i = ((λ h. absurd (subst (λ (l : List ℕ). HasEntry l i) e h)), λ h. let z = h.1 in absurd (omega arith))
+    empty (suc q) names e i = absurd e
 
     free_undone : (x m : ℕ) → Free ≡ Undone x m → ⊥
     free_undone x m e = cc

@@ -16,6 +16,7 @@ use Rattle.mesh_state.specs.Readers.{ReaderRule}
 use Rattle.mesh_state.specs.Ghosts.{Ghost}
 use Rattle.mesh_state.specs.Owner.{NoneWent}
 use Rattle.mesh_state.specs.Rule.{Rule}
+use Rattle.mesh_state.proofs.Lists.{plan_on, history_read}
 use Rattle.mesh_state.specs.Fresh.{blank}
 
 module _ (s : Setup) (w : Words) (n : ℕ) (v : Views) (g : Ghost) (r : Rule s w n v g) (j : ℕ) (far : j ≢ 0) (kind : v.kind j ≡ 2) (none : (v.read j).pin ≡ 0) where
@@ -93,6 +94,10 @@ module _ (s : Setup) (w : Words) (n : ℕ) (v : Views) (g : Ghost) (r : Rule s w
     stock = record { finished = r.stock.finished; cursor_is = r.stock.cursor_is; free_is = r.stock.free_is; never = r.stock.never; left = r.stock.left };
     note = record { undone = r.note.undone; all = r.note.all; placed = r.note.placed; seen = λ x e. let t = r.note.seen x e in (t.0, t.1, t.2, λ f. none_went (t.3 f)); quiet = λ e. none_went (r.note.quiet e) };
     retired = r.retired;
+    plan = plan_on s w.round v.ruling.phase g.who v.kind (update v.kind j 0) v.work v.work v.ruling.plan (λ i k. r.plan.same i (was i 1 (λ z. omega arith) k)) r.plan;
+    history = history_read w.round g.who (update v.read 0 own) v.ruling.history j (blank []) (v.ruling.history, refl) (omega arith, omega arith) (omega arith, λ q e. absurd (omega arith))
+        (history_read w.round g.who v.read v.ruling.history 0 own (r.history.told 0) (r.history.seen 0) (r.history.made 0) r.history);
+    drawn = record { only = λ i o. r.drawn.only i (kept_work i o); drawn = r.drawn.drawn; apart = r.drawn.apart };
     holders = λ x i m p h. ⊎_elim inl (λ k. inr (dite (ℕ_discrete i j) (λ e. let y : v.kind i ≡ v.kind j = ap v.kind e in absurd (omega arith)) (λ f. update_other v.kind j i 0 f ∙ k))) (r.holders x i m p h);
     hand = r.hand;
   }

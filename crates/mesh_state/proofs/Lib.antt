@@ -5,6 +5,8 @@ pub mod Bisections
 pub mod Across
 pub mod ChainSteps
 pub mod BlockSteps
+pub mod Lawful
+pub mod Lists
 pub mod Publishing
 pub mod Retiring
 pub mod Claiming
@@ -24,7 +26,7 @@ pub mod Sweeping
 pub mod TakingBack
 pub mod Fresh
 pub mod SquareNotes
+pub mod SquareLists
 pub mod SquareRound1
 pub mod SquareRound2
 pub mod SquareRound3
-pub mod Lawful

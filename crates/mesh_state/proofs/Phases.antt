@@ -1,15 +1,16 @@
 -- The phases of a round, and its end.
+use Rattle.std.proofs.lemmas.List.{append_assoc}
 use mathlib.Core.Logic.{dite}
-use Rattle.std.proofs.Common.{◌≡◌, ℕ, zero, suc, ◌+◌, ◌<◌, ◌≤◌, Bool, true, false, List, [], ◌∷◌, ◌++◌, ◌⊎◌, refl, sym, ap, ◌∙◌, subst, inl, inr, ⊎_elim, arith}
+use Rattle.std.proofs.Common.{◌≡◌, ℕ, zero, suc, ◌+◌, ◌<◌, ◌≤◌, Bool, true, false, List, [], ◌∷◌, ◌++◌, length, ◌⊎◌, refl, sym, ap, ◌∙◌, subst, inl, inr, ⊎_elim, arith}
 use native.Mathlib.Decide.{dec_lt, ℕ_discrete}
 use Rattle.mesh_words.specs.Setup.{Setup, places}
 use Rattle.mesh_words.specs.Functions.{update}
 use Rattle.mesh_words.specs.Sums.{sum_below}
 use Rattle.mesh_words.specs.Words.{Words, Node}
-use Rattle.mesh_words.specs.Views.{Walk, Views}
+use Rattle.mesh_words.specs.Views.{Plan, no_plan, Walk, Views}
 use Rattle.mesh_words.specs.Claims.{Progress, Living, Claim, claim}
 use Rattle.mesh_words.specs.Places.{member_of}
-use Rattle.mesh_words.specs.Entries.{HasEntry, Noted}
+use Rattle.mesh_words.specs.Entries.{HasEntry, EntryAt, Noted}
 use Rattle.mesh_words.proofs.Functions.{update_same, update_other, update_cases}
 use Rattle.mesh_state.specs.Ghosts.{Free, Stage, Open, Held, Life, Placed, Undone, chained, Ghost}
 use Rattle.mesh_state.specs.Chains.{Covers, Finds, Reaches, IsPlace, IsHead}
@@ -17,6 +18,8 @@ use Rattle.mesh_state.specs.Claims.{ClaimsRule, draws_of}
 use Rattle.mesh_state.specs.Bisections.{Fits, IsSound, IsKept, MayRead, NamesRule}
 use Rattle.mesh_state.specs.Work.{WorkRule, WorkWalks, WalkRule, RetiredKnown}
 use Rattle.mesh_state.specs.Fresh.{idle}
+use Rattle.mesh_state.specs.Lists.{Holds, IsTarget, IsListed, PlanRule, DrawnRule}
+use Rattle.mesh_state.proofs.Lists.{plan_on, history_who, none_drawn, target_on, bisected_closed, entry_more, length_more}
 use Rattle.mesh_state.specs.Rule.{Labels, Rule}
 use Rattle.mesh_state.proofs.FoundAgain.{one_more, placed, goes_who, walks_idle}
 use Rattle.mesh_words.proofs.Entries.{entry_left, entry_right}
@@ -60,7 +63,7 @@ module _ (s : Setup) (w : Words) (n : ℕ) (v : Views) (g : Ghost) (r : Rule s w
 
   idle_walks : Home → (round p : ℕ) (name : ℕ → ℕ) (hist : ℕ → Node) (born died : ℕ → ℕ) (life : ℕ → Life) (who : ℕ → ℕ → ℕ) (j : ℕ) → WalkRule s round p name hist born died life who (v.kind j) j (update v.work 0 idle j)
   idle_walks h round p name hist born died life who = update_cases (λ j u. WalkRule s round p name hist born died life who (v.kind j) j u) v.work 0 idle
-      (walks_idle s round p name hist born died life who (v.kind 0) 0 0 (λ e. absurd (not_work h 0 e)))
+      (walks_idle s round p name hist born died life who (v.kind 0) 0 0 no_plan (λ e. absurd (not_work h 0 e)))
       (λ j ne. let k = r.walks j in let e = k.still (not_work h j) in let f = k.only (not_work h j) ne in record {
         still = k.still;
         only = k.only;
@@ -72,11 +75,15 @@ module _ (s : Setup) (w : Words) (n : ℕ) (v : Views) (g : Ghost) (r : Rule s w
         walk = subst (λ (u : Walk). WorkWalks s round p name hist born died life who (v.work j).went u) (sym e.1) tt;
       })
 
+  -- no pass at work, and the owner's draws forgotten: there is none
+  idle_drawn : Home → (p cursor free : ℕ) (row : ℕ → ℕ) → DrawnRule p cursor free row v.kind (update v.work 0 idle)
+  idle_drawn h p cursor free row = none_drawn p cursor free row v.kind (update v.work 0 idle) (update_cases (λ _ u. u.drawn ≡ []) v.work 0 idle refl (λ j ne. r.drawn.only j (not_work h j) ne))
+
   -- the owner goes on to another phase of the same round, and forgets what held in this one
-  pub rephases : Home → (p : ℕ) (who : ℕ → ℕ → ℕ) (hand : List ℕ) (cursor : ℕ) (retired : List ℕ) → RetiredKnown w.round w.died g.life (update v.work 0 idle) retired → ((k : ℕ) → cursor ≡ k + 1 → (p ≡ 1 → ⊥) × (w.cursor ≡ k)) → ((b : ℕ) → HasEntry hand b → (p ≡ 1 → ⊥) × (g.life b ≡ Free)) → ((q : ℕ) → q ≤ w.round → who q ≡ g.who q)
-      → ClaimsRule s w.round w.cursor w.free p w.row w.claimed w.head w.born g.life g.stage v.claims → Labels s w.round p w.name g.stage who → NamesRule s w.round p w.name w.head w.hist w.born w.died g.life who v.read
-      → Rule s w n (record v { work = update v.work 0 idle; ruling = record v.ruling { phase = p; hand = hand; cursor = cursor; retired = retired } }) (record g { who = who })
-  rephases h p who hand cursor retired known sure free old claims labels names = record {
+  pub rephases : Home → (p : ℕ) (who : ℕ → ℕ → ℕ) (hand : List ℕ) (cursor : ℕ) (retired : List ℕ) (plan : Plan) → PlanRule s w.round p who (λ _. 0) v.work plan → RetiredKnown w.round w.died g.life (update v.work 0 idle) retired → ((k : ℕ) → cursor ≡ k + 1 → (p ≡ 1 → ⊥) × (w.cursor ≡ k)) → ((b : ℕ) → HasEntry hand b → (p ≡ 1 → ⊥) × (g.life b ≡ Free)) → ((q : ℕ) → q ≤ w.round → who q ≡ g.who q)
+      → ClaimsRule s w.round w.cursor w.free p w.row w.claimed w.head w.born g.life g.stage v.claims → Labels s w.round p w.name g.stage who plan.target → NamesRule s w.round p w.name w.head w.hist w.born w.died g.life who v.read
+      → Rule s w n (record v { work = update v.work 0 idle; ruling = record v.ruling { phase = p; hand = hand; cursor = cursor; retired = retired; plan = plan } }) (record g { who = who })
+  rephases h p who hand cursor retired plan lists known sure free old claims labels names = record {
     names_apart = r.names_apart;
     claims = claims;
     labels = labels;
@@ -91,6 +98,9 @@ module _ (s : Setup) (w : Words) (n : ℕ) (v : Views) (g : Ghost) (r : Rule s w
     stock = record { finished = r.stock.finished; cursor_is = sure; free_is = r.stock.free_is; never = r.stock.never; left = r.stock.left };
     note = record { undone = r.note.undone; all = r.note.all; placed = r.note.placed; seen = r.note.seen; quiet = r.note.quiet };
     retired = known;
+    plan = plan_on s w.round p who (λ _. 0) v.kind v.work (update v.work 0 idle) plan (λ j k. absurd (not_work h j k)) lists;
+    history = history_who w.round g.who who v.read v.ruling.history old r.history;
+    drawn = idle_drawn h p w.cursor w.free w.row;
     holders = r.holders;
     hand = free;
   }
@@ -143,26 +153,47 @@ module _ (s : Setup) (w : Words) (n : ℕ) (v : Views) (g : Ghost) (r : Rule s w
       (λ t. dite (ℕ_discrete t.0 0) (λ z. entry_left (v.work 0).retired v.ruling.retired b (subst (λ (a : ℕ). HasEntry (v.work a).retired b) z t.1)) (λ z. absurd (subst (λ (l : List ℕ). HasEntry l b) ((r.walks t.0).only (not_work h t.0) z).3 t.1)))
       (λ t. entry_right (v.work 0).retired v.ruling.retired b t) (r.retired b x m u e))
 
-  -- the first half begins
-  pub begins : v.ruling.phase ≡ 0 → v.ruling.cursor ≡ 1 → Rule s w n (record v { work = update v.work 0 idle; ruling = record v.ruling { phase = 1; hand = []; cursor = 0 } }) (record g { who = g.who })
-  begins z c = rephases (r.rules.halves (λ e. omega arith) (λ e. omega arith)) 1 g.who [] 0 v.ruling.retired (calm_retired ((λ e. omega arith), λ e. omega arith)) (λ k e. absurd (omega arith)) (λ b f. absurd f) (λ _ _. refl)
+  -- no lists hold before the round and while it is taken back
+  no_lists : (p : ℕ) (who : ℕ → ℕ → ℕ) → (p ≡ 0) ⊎ (p ≡ 4) → PlanRule s w.round p who (λ _. 0) v.work v.ruling.plan
+  no_lists p who o = record { same = λ j e. absurd (omega arith); aim = λ l m. ⊎_elim (λ e. absurd (omega arith)) (λ e. absurd (omega arith)) o; within = λ i l m. ⊎_elim (λ e. absurd (omega arith)) (λ e. absurd (omega arith)) o; whole = λ i l m. ⊎_elim (λ e. absurd (omega arith)) (λ e. absurd (omega arith)) o; done = λ i e. ⊎_elim (λ f. absurd (omega arith)) (λ f. absurd (omega arith)) o }
+
+  -- the history tells the last finished round's forest
+  last_forest : (names : List ℕ) → EntryAt v.ruling.history v.ruling.finished names → (i : ℕ) → (HasEntry names i → Holds (g.who w.round) i) × (Holds (g.who w.round) i → HasEntry names i)
+  last_forest names e i = subst (λ (q : ℕ). (HasEntry names i → Holds (g.who q) i) × (Holds (g.who q) i → HasEntry names i)) r.stock.finished (r.history.forests v.ruling.finished names e i)
+
+  -- the first half begins: the lists of the round stand over the last forest of the history
+  pub begins : (plan : Plan) (names : List ℕ) → EntryAt v.ruling.history v.ruling.finished names → IsTarget s (HasEntry names) plan → v.ruling.phase ≡ 0 → v.ruling.cursor ≡ 1 → Rule s w n (record v { work = update v.work 0 idle; ruling = record v.ruling { phase = 1; hand = []; cursor = 0; plan = plan } }) (record g { who = g.who })
+  begins plan names last aim z c = rephases (r.rules.halves (λ e. omega arith) (λ e. omega arith)) 1 g.who [] 0 v.ruling.retired plan
+      record { same = λ j e. absurd (omega arith); aim = λ _ _. target_on s (HasEntry names) (Holds (g.who w.round)) plan (last_forest names last) aim; within = λ i _ _ h. aim.olds i ((last_forest names last i).1 (h.0, sym (r.names.fresh i z) ∙ h.1)); whole = λ i l. absurd (omega arith); done = λ i e. absurd (omega arith) }
+      (calm_retired ((λ e. omega arith), λ e. omega arith)) (λ k e. absurd (omega arith)) (λ b f. absurd f) (λ _ _. refl)
       (claims_phase 1 (λ o e. omega arith) (λ _. (r.stock.cursor_is 0 c).1 ∙ sym (zero_total (places s) (λ x. draws_of (g.stage x)) (λ x. ap draws_of (r.claims.none x z)))) (λ x j m q h e. absurd (not_open j m q (sym h ∙ r.claims.none x z))) (λ x e. absurd (omega arith)))
       (λ x j m q h e. absurd (not_open j m q (sym h ∙ r.claims.none x z)))
       (names_phase 1 (λ _. omega arith) (λ _. ((λ e. omega arith), λ e. omega arith)) (λ _. omega arith) (λ e. absurd (omega arith)))
 
-  -- the second half is planned: by the owner's view each claim has a living block
-  pub plans : v.ruling.phase ≡ 1 → Home → ((x m : ℕ) (p : Progress) → HasEntry (v.claims 0) (claim x m p) → (b : ℕ) × (p ≡ Living b)) → Rule s w n (record v { work = update v.work 0 idle; ruling = record v.ruling { phase = 2 } }) (record g { who = g.who })
-  plans one h lives = rephases h 2 g.who v.ruling.hand v.ruling.cursor v.ruling.retired (calm_retired ((λ e. omega arith), λ e. omega arith)) (λ k e. ((λ f. absurd (omega arith)), (r.stock.cursor_is k e).1)) (λ b f. ((λ e. absurd (omega arith)), (r.hand b f).1)) (λ _ _. refl)
+  -- the second half is planned: by the owner's view each claim has a living block, and each name that the round needs is bisected; so the round in work is the target
+  pub plans : (retire : List ℕ) → ((i : ℕ) → HasEntry v.ruling.plan.needs i → HasEntry (v.work 0).known i) → v.ruling.phase ≡ 1 → Home → ((x m : ℕ) (p : Progress) → HasEntry (v.claims 0) (claim x m p) → (b : ℕ) × (p ≡ Living b)) → Rule s w n (record v { work = update v.work 0 idle; ruling = record v.ruling { phase = 2; plan = record v.ruling.plan { retire = retire } } }) (record g { who = g.who })
+  plans retire known one h lives = rephases h 2 g.who v.ruling.hand v.ruling.cursor v.ruling.retired (record v.ruling.plan { retire = retire })
+      (let t = r.plan.aim (omega arith) (omega arith) in record {
+        same = λ j e. absurd (omega arith);
+        aim = λ _ _. record { closed = t.closed; olds = t.olds; needs = t.needs; least = t.least };
+        within = λ i _ _. r.plan.within i (omega arith) (omega arith);
+        whole = λ i _ _ k. inl (t.least (g.who d) (bisected_closed s w n v g r d (inr (refl, omega arith))) (λ a o. (o.0, r.names.grows a o.0 (omega arith) o.1)) (λ a o. ((r.works 0).known a (known a o)).1) i k);
+        done = λ i e. absurd (omega arith);
+      })
+      (calm_retired ((λ e. omega arith), λ e. omega arith)) (λ k e. ((λ f. absurd (omega arith)), (r.stock.cursor_is k e).1)) (λ b f. ((λ e. absurd (omega arith)), (r.hand b f).1)) (λ _ _. refl)
       (claims_phase 2 (λ o e. omega arith) (λ e. absurd (omega arith)) (λ x j m q e _. lives x m q (subst (λ (i : ℕ). HasEntry (v.claims i) (claim x m q)) (home_claims h x j m q e) (r.claims.holds j x m q e))) (λ x e. absurd (omega arith)))
       (λ x j m q e f. absurd (omega arith)) (names_phase 2 (λ _. omega arith) (λ l. absurd (l.0 refl)) (λ l. absurd (omega arith)) (λ e. absurd (omega arith)))
 
-  pub closes : v.ruling.phase ≡ 2 → Home → Rule s w n (record v { work = update v.work 0 idle; ruling = record v.ruling { phase = 3; retired = (v.work 0).retired ++ v.ruling.retired } }) (record g { who = g.who })
-  closes two h = rephases h 3 g.who v.ruling.hand v.ruling.cursor ((v.work 0).retired ++ v.ruling.retired) (owner_retired h) (λ k e. ((λ f. absurd (omega arith)), (r.stock.cursor_is k e).1)) (λ b f. ((λ e. absurd (omega arith)), (r.hand b f).1)) (λ _ _. refl) (claims_phase 3 (λ o e. o refl) (λ e. absurd (omega arith)) (λ x j m q e f. absurd (omega arith)) (λ x e. absurd (omega arith)))
+  -- the round is closed: by the owner's view no listed patch is left
+  pub closes : ((i : ℕ) → IsListed s v.ruling.plan.retire i → HasEntry (v.work 0).open_ i) → v.ruling.phase ≡ 2 → Home → Rule s w n (record v { work = update v.work 0 idle; ruling = record v.ruling { phase = 3; retired = (v.work 0).retired ++ v.ruling.retired } }) (record g { who = g.who })
+  closes gone two h = rephases h 3 g.who v.ruling.hand v.ruling.cursor ((v.work 0).retired ++ v.ruling.retired) v.ruling.plan
+      record { same = λ j e. absurd (omega arith); aim = λ _ _. r.plan.aim (omega arith) (omega arith); within = λ i _ _. r.plan.within i (omega arith) (omega arith); whole = λ i _ _. r.plan.whole i (omega arith) (omega arith); done = λ i _ k. ((r.works 0).open_ i (gone i k)).1 }
+      (owner_retired h) (λ k e. ((λ f. absurd (omega arith)), (r.stock.cursor_is k e).1)) (λ b f. ((λ e. absurd (omega arith)), (r.hand b f).1)) (λ _ _. refl) (claims_phase 3 (λ o e. o refl) (λ e. absurd (omega arith)) (λ x j m q e f. absurd (omega arith)) (λ x e. absurd (omega arith)))
       (λ x j m q e f. absurd (omega arith)) (names_phase 3 (λ _. omega arith) (λ l. absurd (l.1 refl)) (λ l. absurd (omega arith)) (λ e. absurd (omega arith)))
 
   -- the round is refused
   pub refuses : v.ruling.phase ≡ 1 → Home → Rule s w n (record v { work = update v.work 0 idle; ruling = record v.ruling { phase = 4 } }) (record g { who = g.who })
-  refuses one h = rephases h 4 g.who v.ruling.hand v.ruling.cursor v.ruling.retired (calm_retired ((λ e. omega arith), λ e. omega arith)) (λ k e. ((λ f. absurd (omega arith)), (r.stock.cursor_is k e).1)) (λ b f. ((λ e. absurd (omega arith)), (r.hand b f).1)) (λ _ _. refl) (claims_phase 4 (λ o e. omega arith) (λ e. absurd (omega arith)) (λ x j m q e f. absurd (omega arith)) (λ x e. absurd (omega arith)))
+  refuses one h = rephases h 4 g.who v.ruling.hand v.ruling.cursor v.ruling.retired v.ruling.plan (no_lists 4 g.who (inr refl)) (calm_retired ((λ e. omega arith), λ e. omega arith)) (λ k e. ((λ f. absurd (omega arith)), (r.stock.cursor_is k e).1)) (λ b f. ((λ e. absurd (omega arith)), (r.hand b f).1)) (λ _ _. refl) (claims_phase 4 (λ o e. omega arith) (λ e. absurd (omega arith)) (λ x j m q e f. absurd (omega arith)) (λ x e. absurd (omega arith)))
       (λ x j m q e f. absurd (omega arith)) (names_phase 4 (λ l. absurd (omega arith)) (λ _. ((λ e. omega arith), λ e. omega arith)) (λ l. absurd (omega arith)) (λ e. absurd (omega arith)))
 
   -- the next round reads as this one, while nothing is born or retired in it
@@ -185,7 +216,7 @@ module _ (s : Setup) (w : Words) (n : ℕ) (v : Views) (g : Ghost) (r : Rule s w
 
   -- the round is taken back: its claims have ended, and the round in work is again as the last
   pub restores : v.ruling.phase ≡ 4 → v.claims 0 ≡ [] → Rule s w n (record v { work = update v.work 0 idle; ruling = record v.ruling { phase = 0 } }) (record g { who = update g.who d (g.who w.round) })
-  restores four none = rephases home 0 who' v.ruling.hand v.ruling.cursor v.ruling.retired (calm_retired ((λ e. omega arith), λ e. omega arith)) (λ k e. ((λ f. absurd (omega arith)), (r.stock.cursor_is k e).1)) (λ b f. ((λ e. absurd (omega arith)), (r.hand b f).1)) old
+  restores four none = rephases home 0 who' v.ruling.hand v.ruling.cursor v.ruling.retired v.ruling.plan (no_lists 0 who' (inl refl)) (calm_retired ((λ e. omega arith), λ e. omega arith)) (λ k e. ((λ f. absurd (omega arith)), (r.stock.cursor_is k e).1)) (λ b f. ((λ e. absurd (omega arith)), (r.hand b f).1)) old
       (claims_phase 0 (λ o e. omega arith) (λ e. absurd (omega arith)) (λ x j m q e f. absurd (omega arith)) (λ x _. all_open home none x)) (λ x j m q e f. absurd (omega arith))
       record {
         fits = λ q k. ⊎_elim (λ e. subst (λ (f : ℕ → ℕ). Fits s w.name w.head w.hist w.born w.died g.life f q) (sym (old q (low s w n v g r q e))) (r.names.fits q (inl e)))
@@ -218,10 +249,10 @@ module _ (s : Setup) (w : Words) (n : ℕ) (v : Views) (g : Ghost) (r : Rule s w
   abbrev pub IsStamped : ℕ → ℕ → Type 0
   IsStamped x b = (l : Node) × Noted (v.sure 0).head x l × ((l.block ≡ b + 1 → ⊥) ⊎ (0 < l.died))
 
-  -- the round is finished
-  pub advances : v.ruling.phase ≡ 3 → v.claims 0 ≡ [] → ((b : ℕ) → HasEntry ((v.work 0).retired ++ v.ruling.retired) b → (x : ℕ) × (m : ℕ) × HasEntry v.ruling.placed (b, x, m) × IsStamped x b × ((y : ℕ) → m ≡ y + 1 → IsStamped y b))
-      → Rule s (record w { round = d; taken = 0 }) n (record v { work = update v.work 0 idle; ruling = record v.ruling { phase = 0; finished = v.ruling.finished + 1; left = (w.round, w.taken) ∷ v.ruling.left; retired = []; seen = 0; quiet = 0 } }) (record g { who = update g.who (d + 1) (g.who d) })
-  advances three none shown = record {
+  -- the round is finished: the history has its forest, the target less the listed patches
+  pub advances : (forest : List ℕ) → ((i : ℕ) → HasEntry forest i → HasEntry v.ruling.plan.target i × (IsListed s v.ruling.plan.retire i → ⊥)) → ((i : ℕ) → HasEntry v.ruling.plan.target i → (IsListed s v.ruling.plan.retire i → ⊥) → HasEntry forest i) → v.ruling.phase ≡ 3 → v.claims 0 ≡ [] → ((b : ℕ) → HasEntry ((v.work 0).retired ++ v.ruling.retired) b → (x : ℕ) × (m : ℕ) × HasEntry v.ruling.placed (b, x, m) × IsStamped x b × ((y : ℕ) → m ≡ y + 1 → IsStamped y b))
+      → Rule s (record w { round = d; taken = 0 }) n (record v { work = update v.work 0 idle; ruling = record v.ruling { phase = 0; finished = v.ruling.finished + 1; history = v.ruling.history ++ forest ∷ []; left = (w.round, w.taken) ∷ v.ruling.left; retired = []; seen = 0; quiet = 0 } }) (record g { who = update g.who (d + 1) (g.who d) })
+  advances forest of all three none shown = record {
     names_apart = r.names_apart;
     claims = record {
       held = r.claims.held;
@@ -270,12 +301,31 @@ module _ (s : Setup) (w : Words) (n : ℕ) (v : Views) (g : Ghost) (r : Rule s w
     stock = record { finished = ap (λ (i : ℕ). i + 1) r.stock.finished; cursor_is = λ k e. ((λ f. absurd (omega arith)), (r.stock.cursor_is k e).1); free_is = r.stock.free_is; never = r.stock.never; left = λ q k h. ⊎_elim (λ e. let a : q ≡ w.round = ap (λ (t : ℕ × ℕ). t.0) e in let b : k ≡ w.taken = ap (λ (t : ℕ × ℕ). t.1) e in (omega arith, ap g.pins a ∙ r.pins.now ∙ sym b)) (λ t. let u = r.stock.left q k t in let u0 = u.0 in (omega arith, u.1)) h };
     note = record { undone = r.note.undone; all = r.note.all; placed = r.note.placed; seen = λ x e. absurd (omega arith); quiet = λ e. absurd (omega arith) };
     retired = λ b x m u e. elim (dec_lt 0 (w.died b)) [ yes p ↦ let t = (r.chains.dieds b x m u p).2 in absurd (omega arith) | no o ↦ absurd (omega arith) ];
+    plan = record { same = λ j k. absurd (not_work home j k); aim = λ l. absurd (omega arith); within = λ i l. absurd (omega arith); whole = λ i l. absurd (omega arith); done = λ i e. absurd (omega arith) };
+    history = record {
+      rounds = let l = r.history.rounds in let e : length (v.ruling.history ++ forest ∷ []) ≡ length v.ruling.history + 1 = length_more v.ruling.history forest in omega arith;
+      forests = λ q names e i. ⊎_elim (λ t. (history_who w.round g.who who' v.read v.ruling.history (λ q l. old q (omega arith)) r.history).forests q names t i)
+          (λ t. let l = r.history.rounds in let z : q ≡ d = t.0 ∙ l in let f : who' q ≡ g.who d = ap who' z ∙ old d (omega arith) in
+          ((λ h. subst (λ (x : ℕ → ℕ). Holds x i) (sym f) (held i (subst (λ (x : List ℕ). HasEntry x i) t.1 h))), λ h. subst (λ (x : List ℕ). HasEntry x i) (sym t.1) (holds_ i (subst (λ (x : ℕ → ℕ). Holds x i) f h))))
+          (entry_more v.ruling.history forest q names e);
+      told = λ j. let t = r.history.told j in (t.0 ++ forest ∷ [], ap (λ (x : List (List ℕ)). x ++ forest ∷ []) t.1 ∙ append_assoc (v.read j).told t.0 (forest ∷ []));
+      seen = λ j. let t = r.history.seen j in let t0 = t.0 in (omega arith, t.1);
+      made = r.history.made;
+    };
+    drawn = idle_drawn home 0 w.cursor w.free w.row;
     holders = r.holders;
     hand = λ b f. ((λ e. absurd (omega arith)), (r.hand b f).1);
   }
     where
       home : Home
       home = r.rules.halves (λ e. omega arith) (λ e. omega arith)
+
+      -- the forest is that of the round in work
+      held : (i : ℕ) → HasEntry forest i → Holds (g.who d) i
+      held i h = let t = of i h in ⊎_elim (λ k. k) (λ k. absurd (t.1 k)) (r.plan.whole i (omega arith) (omega arith) t.0)
+
+      holds_ : (i : ℕ) → Holds (g.who d) i → HasEntry forest i
+      holds_ i h = all i (r.plan.within i (omega arith) (omega arith) h) (λ k. let z = r.plan.done i three k in let y = h.1 in omega arith)
 
       -- the LINK of a place that names a retired block has its round
       off : (x b : ℕ) → IsStamped x b → (w.head x).block ≡ b + 1 → (w.head x).died ≡ 0 → ⊥

@@ -1,5 +1,5 @@
 -- Pins, the readers' bound, and a reader's walk.
-use Rattle.std.proofs.Common.{◌≡◌, ℕ, ◌+◌, ◌<◌, ◌≤◌, Bool, true, false, List, [], ◌∷◌, ◌⊎◌, refl, sym, ap, ◌∙◌, subst, inl, inr, ⊎_elim, arith}
+use Rattle.std.proofs.Common.{◌++◌, ◌≡◌, ℕ, length, ◌+◌, ◌<◌, ◌≤◌, Bool, true, false, List, [], ◌∷◌, ◌⊎◌, refl, sym, ap, ◌∙◌, subst, inl, inr, ⊎_elim, arith}
 use mathlib.Core.Logic.{dite}
 use native.Mathlib.Decide.{ℕ_discrete, dec_lt}
 use Rattle.mesh_words.specs.Setup.{Setup}
@@ -17,6 +17,8 @@ use Rattle.mesh_state.specs.Bisections.{IsPlaceOf, IsKept, MayRead}
 use Rattle.mesh_state.specs.Pins.{PinsRule}
 use Rattle.mesh_state.specs.Readers.{Walks, ReaderRule}
 use Rattle.mesh_state.specs.Owner.{NoneWent}
+use Rattle.mesh_state.specs.Lists.{HistoryRule}
+use Rattle.mesh_state.proofs.Lists.{history_read}
 use Rattle.mesh_state.specs.Rule.{Rule}
 use Rattle.mesh_state.proofs.FoundAgain.{one_more, chained_stands, placed_chained, standing, none_found, first_block, seen_live}
 use Rattle.mesh_state.proofs.ChainSteps.{named, older_head, dead_end}
@@ -25,9 +27,9 @@ use Rattle.mesh_state.proofs.Across.{Went, no_pin, zero_or_more, place_one, name
 module _ (s : Setup) (w : Words) (n : ℕ) (v : Views) (g : Ghost) (r : Rule s w n v g) where
   -- what a step of a reader's view is to show
   pub rereads : (j taken : ℕ) (released pins : ℕ → ℕ) (u : Read) → PinsRule s w.round taken released n v.kind (update v.read j u) pins → ((q : ℕ) → HasEntry v.ruling.clear q → (q < w.round) × (released q ≡ pins q)) → ((q k : ℕ) → HasEntry v.ruling.left (q, k) → (q < w.round) × (pins q ≡ k)) → w.taken ≤ taken → ((b : ℕ) → u.pin ≡ w.round + 1 → HasEntry u.went b → ((x m : ℕ) → g.life b ≡ Undone x m → ⊥) ⊎ (((v.read j).pin ≡ w.round + 1) × HasEntry (v.read j).went b))
-      → ((q : ℕ) → u.pin ≡ q + 1 → IsKept w.round v.read q) → ReaderRule s w.round w.name w.hist w.born w.died g.life g.who u
+      → ((q : ℕ) → u.pin ≡ q + 1 → IsKept w.round v.read q) → ReaderRule s w.round w.name w.hist w.born w.died g.life g.who u → HistoryRule w.round g.who (update v.read j u) v.ruling.history
       → Rule s (record w { taken = taken; released = released }) n (record v { read = update v.read j u }) (record g { pins = pins })
-  rereads j taken released pins u p clear left more walks kept goes = record {
+  rereads j taken released pins u p clear left more walks kept goes history = record {
     names_apart = r.names_apart;
     claims = r.claims;
     labels = r.labels;
@@ -42,6 +44,9 @@ module _ (s : Setup) (w : Words) (n : ℕ) (v : Views) (g : Ghost) (r : Rule s w
     stock = record { finished = r.stock.finished; cursor_is = r.stock.cursor_is; free_is = r.stock.free_is; never = r.stock.never; left = left };
     note = record { undone = r.note.undone; all = r.note.all; placed = r.note.placed; seen = λ x e. let t = r.note.seen x e in let t2 = t.2 in (t.0, t.1, omega arith, λ f. none (t.3 f)); quiet = λ e. none (r.note.quiet e) };
     retired = r.retired;
+    plan = r.plan;
+    history = history;
+    drawn = r.drawn;
     holders = r.holders;
     hand = r.hand;
   }
@@ -82,18 +87,25 @@ module _ (s : Setup) (w : Words) (n : ℕ) (v : Views) (g : Ghost) (r : Rule s w
     bound = bound;
   }
 
+  -- what a pass was told stays, and it may have seen the last finished round
+  told_on : (j : ℕ) (u : Read) → u.told ≡ (v.read j).told → u.made ≡ (v.read j).made → ((u.seen ≡ (v.read j).seen) ⊎ (u.seen ≡ w.round)) → ((q : ℕ) → u.pin ≡ q + 1 → ((v.read j).pin ≡ q + 1) ⊎ (q ≡ w.round)) → HistoryRule w.round g.who (update v.read j u) v.ruling.history
+  told_on j u same made seen pin = let h = r.history in let a = h.seen j in let b = h.made j in let a0 = a.0 in let a1 = a.1 in let b0 = b.0 in let l : length u.told ≡ length (v.read j).told = ap (λ (x : List (List ℕ)). length x) same in
+      history_read w.round g.who v.read v.ruling.history j u (subst (λ (x : List (List ℕ)). (rest : List (List ℕ)) × (v.ruling.history ≡ x ++ rest)) (sym same) (h.told j))
+      (⊎_elim (λ e. omega arith) (λ e. omega arith) seen, ⊎_elim (λ e. omega arith) (λ e. omega arith) seen)
+      (⊎_elim (λ e. omega arith) (λ e. omega arith) seen, λ q e. ⊎_elim (λ t. let c = b.1 q t in omega arith) (λ t. omega arith) (pin q e)) h
+
   -- ROUND is loaded: the view is ready where fewer pins than the limit were shown
-  pub shows_round : (j : ℕ) → v.kind j ≡ 2 → (ready : ℕ) → ((ready ≡ 1) × (w.taken < s.limit)) ⊎ (ready ≡ 0) → Rule s w n (record v { read = update v.read j (record (v.read j) { ready = ready }) }) g
-  shows_round j k ready how = let u : Read = record (v.read j) { ready = ready } in let g0 = r.goes j in rereads j w.taken w.released g.pins u
+  pub shows_round : (j : ℕ) → v.kind j ≡ 2 → (ready : ℕ) → ((ready ≡ 1) × (w.taken < s.limit)) ⊎ (ready ≡ 0) → Rule s w n (record v { read = update v.read j (record (v.read j) { ready = ready; seen = w.round }) }) g
+  shows_round j k ready how = let u : Read = record (v.read j) { ready = ready; seen = w.round } in let g0 = r.goes j in rereads j w.taken w.released g.pins u
       (same_pin j u k refl (⊎_elim (λ t. let e = t.0 in omega arith) (λ e. omega arith) how) (⊎_elim
       (λ t. let l = t.1 in let e = t.0 in let f = few_ready (λ i. (update v.read j u i).ready) (update_cases (λ _ x. x.ready ≤ 1) v.read j u (omega arith) (λ i _. r.pins.bit i)) (update_cases (λ i x. (v.kind i ≡ 2 → ⊥) → x.ready ≡ 0) v.read j u (λ o. absurd (o k)) (λ i _ o. (r.pins.readers i o).1)) in omega arith)
       (λ e. let a = ready_sum j u (inside j k) in let b = r.pins.bound in omega arith) how))
-      r.rules.clear r.stock.left (omega arith) (λ b p h. inr (p, h)) (λ q h. inr (j, h)) record { went = g0.went; walk = g0.walk; places = g0.places; yes_notes = g0.yes_notes; no_notes = g0.no_notes }
+      r.rules.clear r.stock.left (omega arith) (λ b p h. inr (p, h)) (λ q h. inr (j, h)) record { went = g0.went; walk = g0.walk; places = g0.places; yes_notes = g0.yes_notes; no_notes = g0.no_notes } (told_on j u refl refl (inr refl) (λ q e. inl e))
 
   -- a pin is taken: the bound holds
   pub pins : (j : ℕ) → v.kind j ≡ 2 → (v.read j).pin ≡ 0 → (v.read j).ready ≡ 1
-      → Rule s (record w { taken = w.taken + 1; released = w.released }) n (record v { read = update v.read j record { pin = w.round + 1; ready = 0; went = []; walk = Still; notes = (v.read j).notes; places = [] } }) (record g { pins = update g.pins w.round (g.pins w.round + 1) })
-  pins j k none ready = let u : Read = record { pin = w.round + 1; ready = 0; went = []; walk = Still; notes = (v.read j).notes; places = [] } in let p' : ℕ → ℕ = update g.pins w.round (g.pins w.round + 1) in
+      → Rule s (record w { taken = w.taken + 1; released = w.released }) n (record v { read = update v.read j (record (v.read j) { pin = w.round + 1; ready = 0; went = []; walk = Still; places = []; seen = w.round }) }) (record g { pins = update g.pins w.round (g.pins w.round + 1) })
+  pins j k none ready = let u : Read = record (v.read j) { pin = w.round + 1; ready = 0; went = []; walk = Still; places = []; seen = w.round } in let p' : ℕ → ℕ = update g.pins w.round (g.pins w.round + 1) in
       rereads j (w.taken + 1) w.released p' u
       record {
         now = let a = r.pins.now in let b : p' w.round ≡ g.pins w.round + 1 = update_same g.pins w.round (g.pins w.round + 1) in omega arith;
@@ -109,12 +121,12 @@ module _ (s : Setup) (w : Words) (n : ℕ) (v : Views) (g : Ghost) (r : Rule s w
       }
       (λ q h. let t = r.rules.clear q h in let l = t.0 in (t.0, t.1 ∙ sym (update_other g.pins w.round q (g.pins w.round + 1) (λ (e : q ≡ w.round). omega arith))))
       (λ q i h. let t = r.stock.left q i h in let l = t.0 in (t.0, update_other g.pins w.round q (g.pins w.round + 1) (λ (e : q ≡ w.round). omega arith) ∙ t.1))
-      (omega arith) (λ b p h. absurd h) (λ q h. inl (omega arith)) record { went = λ q b h m. absurd m; walk = λ q h. tt; places = λ q x k h m. absurd m; yes_notes = (r.goes j).yes_notes; no_notes = (r.goes j).no_notes }
+      (omega arith) (λ b p h. absurd h) (λ q h. inl (omega arith)) record { went = λ q b h m. absurd m; walk = λ q h. tt; places = λ q x k h m. absurd m; yes_notes = (r.goes j).yes_notes; no_notes = (r.goes j).no_notes } (told_on j u refl refl (inr refl) (λ q e. inr (omega arith)))
 
   -- a pin is given back
   pub unpins : (j q0 : ℕ) → v.kind j ≡ 2 → (v.read j).pin ≡ q0 + 1
-      → Rule s (record w { taken = w.taken; released = update w.released q0 (w.released q0 + 1) }) n (record v { read = update v.read j record { pin = 0; ready = (v.read j).ready; went = []; walk = Still; notes = (v.read j).notes; places = [] } }) (record g { pins = g.pins })
-  unpins j q0 k had = let u : Read = record { pin = 0; ready = (v.read j).ready; went = []; walk = Still; notes = (v.read j).notes; places = [] } in let low_ = r.pins.past j q0 had in
+      → Rule s (record w { taken = w.taken; released = update w.released q0 (w.released q0 + 1) }) n (record v { read = update v.read j (record (v.read j) { pin = 0; went = []; walk = Still; places = [] }) }) (record g { pins = g.pins })
+  unpins j q0 k had = let u : Read = record (v.read j) { pin = 0; went = []; walk = Still; places = [] } in let low_ = r.pins.past j q0 had in
       rereads j w.taken (update w.released q0 (w.released q0 + 1)) g.pins u
       record {
         now = r.pins.now;
@@ -129,7 +141,7 @@ module _ (s : Setup) (w : Words) (n : ℕ) (v : Views) (g : Ghost) (r : Rule s w
         bound = let a = ready_sum j u (inside j k) in let b = r.pins.bound in omega arith;
       }
       (λ q h. let t = r.rules.clear q h in (t.0, update_other w.released q0 q (w.released q0 + 1) (λ (e : q ≡ q0). no_pin s w n v g r q h j (had ∙ ap (λ (x : ℕ). x + 1) (sym e))) ∙ t.1))
-      r.stock.left (omega arith) (λ b p h. absurd h) (λ q h. absurd (omega arith)) record { went = λ q b h m. absurd m; walk = λ q h. absurd (omega arith); places = λ q x k h m. absurd m; yes_notes = (r.goes j).yes_notes; no_notes = (r.goes j).no_notes }
+      r.stock.left (omega arith) (λ b p h. absurd h) (λ q h. absurd (omega arith)) record { went = λ q b h m. absurd m; walk = λ q h. absurd (omega arith); places = λ q x k h m. absurd m; yes_notes = (r.goes j).yes_notes; no_notes = (r.goes j).no_notes } (told_on j u refl refl (inl refl) (λ q e. absurd (omega arith)))
 
   -- a walk goes on: the reader's pin stays
   module _ (j q0 : ℕ) (kind : v.kind j ≡ 2) (pinned : (v.read j).pin ≡ q0 + 1) where
@@ -151,7 +163,7 @@ module _ (s : Setup) (w : Words) (n : ℕ) (v : Views) (g : Ghost) (r : Rule s w
         → Rule s w n (record v { read = update v.read j (walked went walk notes places) }) g
     walks_on went walk notes places ok here yes_ no_ at fresh = rereads j w.taken w.released g.pins (walked went walk notes places) (same_pin j (walked went walk notes places) kind refl (r.pins.bit j) (let a = ready_sum j (walked went walk notes places) (inside j kind) in let b = r.pins.bound in omega arith))
         r.rules.clear r.stock.left (omega arith) fresh (λ q h. inr (j, h))
-        record { went = λ q b p h. subst (λ (x : ℕ). ((t : Bool) × (y : ℕ) × (stands (g.life b) t ≡ y + 1)) × ((w.died b ≡ 0) ⊎ (x < w.died b))) (same_q q p) (ok b h); walk = λ q p. subst (λ (x : ℕ). Walks s w.name w.hist w.born w.died g.life (g.who x) x went walk) (same_q q p) here; places = λ q x i p h. subst (λ (y : ℕ). IsPlaceOf s w.name (g.who y) x i) (same_q q p) (at x i h); yes_notes = yes_; no_notes = no_ }
+        record { went = λ q b p h. subst (λ (x : ℕ). ((t : Bool) × (y : ℕ) × (stands (g.life b) t ≡ y + 1)) × ((w.died b ≡ 0) ⊎ (x < w.died b))) (same_q q p) (ok b h); walk = λ q p. subst (λ (x : ℕ). Walks s w.name w.hist w.born w.died g.life (g.who x) x went walk) (same_q q p) here; places = λ q x i p h. subst (λ (y : ℕ). IsPlaceOf s w.name (g.who y) x i) (same_q q p) (at x i h); yes_notes = yes_; no_notes = no_ } (told_on j (walked went walk notes places) refl refl (inl refl) (λ q e. inl e))
 
     places_ok : (x i : ℕ) → HasEntry (v.read j).places (x, i) → IsPlaceOf s w.name (g.who q0) x i
     places_ok x i h = (r.goes j).places q0 x i pinned h

@@ -15,6 +15,8 @@ use Rattle.mesh_state.specs.Chains.{ChainsRule}
 use Rattle.mesh_state.specs.Claims.{Shape, linked}
 use Rattle.mesh_state.specs.Bisections.{IsPlaceOf, IsKept, IsPatch}
 use Rattle.mesh_state.specs.Work.{WorkRule, WalkRule}
+use Rattle.mesh_state.specs.Lists.{Holds}
+use Rattle.mesh_state.proofs.Lists.{plan_update, target_on, history_who, drawn_update}
 use Rattle.mesh_state.specs.Rule.{Rule}
 use Rattle.mesh_state.proofs.FoundAgain.{one_more, goes_on, goes_who, workers_on, workers_who, Moves}
 use Rattle.mesh_state.proofs.BlockSteps.{undead, bears}
@@ -33,7 +35,7 @@ module _ (s : Setup) (w : Words) (n : ℕ) (v : Views) (g : Ghost) (r : Rule s w
   -- the label of a claim, in the first half
   abbrev pub Label : ℕ → ℕ → Progress → Type 0
   Label x m p = (k : ℕ) × (s.leads k ≡ 1) × IsPlaceOf s w.name (g.who d) x k × (g.who w.round k ≡ 0) × ((b : ℕ) → linked p ≡ b + 1 → w.name (member_of b false) ≡ k)
-      × ((m ≡ 0) × (s.mate k ≡ 0) ⊎ (y : ℕ) × (i : ℕ) × (m ≡ y + 1) × (s.mate k ≡ i + 1) × IsPlaceOf s w.name (g.who d) y (i + 1) × (g.who w.round (i + 1) ≡ 0))
+      × ((m ≡ 0) × (s.mate k ≡ 0) ⊎ (y : ℕ) × (i : ℕ) × (m ≡ y + 1) × (s.mate k ≡ i + 1) × IsPlaceOf s w.name (g.who d) y (i + 1) × (g.who w.round (i + 1) ≡ 0)) × HasEntry v.ruling.plan.target k
 
   -- a member's place of a claim, and its name
   pub member : (x m : ℕ) (p : Progress) → Label x m p → (y : ℕ) → Of x m y → (k : ℕ) × IsPlaceOf s w.name (g.who d) y k × (g.who w.round k ≡ 0)
@@ -169,6 +171,15 @@ module _ (s : Setup) (w : Words) (n : ℕ) (v : Views) (g : Ghost) (r : Rule s w
       stock = r.stock;
       note = r.note;
       retired = retired_on w.round w.died g.life v.work (update v.work j (record (v.work j) { known = known })) v.ruling.retired (update_cases (λ i u. u.retired ≡ (v.work i).retired) v.work j (record (v.work j) { known = known }) refl (λ _ _. refl)) r.retired;
+      plan = let p = plan_update s w.round v.ruling.phase g.who v.kind v.work v.ruling.plan j (record (v.work j) { known = known }) refl r.plan in record {
+        same = p.same;
+        aim = λ a c. target_on s (Holds (g.who w.round)) (Holds (who' w.round)) v.ruling.plan (λ k. subst (λ (f : ℕ → ℕ). (Holds (g.who w.round) k → Holds f k) × (Holds f k → Holds (g.who w.round) k)) (sym (update_other g.who d w.round now (λ (e : w.round ≡ w.round + 1). omega arith))) ((λ h. h), λ h. h)) (r.plan.aim a c);
+        within = λ k a c h. within k h.0 (sym (ap (λ (f : ℕ → ℕ). f k) (update_same g.who d now)) ∙ h.1);
+        whole = λ k a c h. let e = one in absurd (omega arith);
+        done = λ k e h. let z = one in absurd (omega arith);
+      };
+      history = history_who w.round g.who who' v.read v.ruling.history (λ q l. update_other g.who d q now (λ (e : q ≡ w.round + 1). omega arith)) r.history;
+      drawn = drawn_update v.ruling.phase w.cursor w.free w.row v.kind v.work j (record (v.work j) { known = known }) refl r.drawn;
       holders = λ z i k q h. dite (ℕ_discrete z x) (λ f. ⊎_elim (λ e. inl (sym (held_one j i m k (Living b) q (sym (update_at g.stage x z (Held j m (Living b)) f) ∙ h)).0 ∙ e)) (λ e. inr (ap v.kind (sym (held_one j i m k (Living b) q (sym (update_at g.stage x z (Held j m (Living b)) f) ∙ h)).0) ∙ e)) (r.holders x j m (Whole b) is)) (λ o. r.holders z i k q (sym (update_other g.stage x z (Held j m (Living b)) o) ∙ h));
       hand = λ c h. absurd ((r.hand c h).0 one);
     }
@@ -178,6 +189,17 @@ module _ (s : Setup) (w : Words) (n : ℕ) (v : Views) (g : Ghost) (r : Rule s w
 
         not_half : (c : ℕ) → Living b ≡ Half c → ⊥
         not_half c e = cc
+
+        -- the members' names are of the target
+        aimed : (t : Bool) (y : ℕ) → chained (Placed x m) t ≡ y + 1 → HasEntry v.ruling.plan.target (w.name (member_of b t))
+        aimed false y c = subst (HasEntry v.ruling.plan.target) (sym (label.4 b refl)) label.6
+        aimed true y c = let p = r.names.patch b x m at in ⊎_elim
+            (λ z. let q : 0 ≡ y + 1 = sym z.0 ∙ c in absurd (omega arith))
+            (λ z. let e : s.mate label.0 ≡ z.1 + 1 = ap s.mate (sym (label.4 b refl)) ∙ z.3 in subst (HasEntry v.ruling.plan.target) (sym (p.1 ∙ z.3)) ((r.plan.aim (let e = one in omega arith) (let e = one in omega arith)).closed.seconds label.0 z.1 e label.6)) p.2
+
+        within : (k a : ℕ) → now k ≡ a + 1 → HasEntry v.ruling.plan.target k
+        within k a e = ⊎_elim (λ t. subst (HasEntry v.ruling.plan.target) (sym (t.3 ∙ rounds.name_side w.name b t.0)) (aimed t.0 t.1 t.2)) (λ t. r.plan.within k (let e = one in omega arith) (let e = one in omega arith) (a, sym t.0 ∙ e))
+            (rounds.marks_cases m x (w.name (member_of b false)) (w.name (member_of b true)) (b + 1) (g.who d) k)
 
         walker : (i : ℕ) → WalkRule s w.round v.ruling.phase w.name w.hist born' w.died g.life who' (v.kind i) i (v.work i)
         walker i = workers_who s w.round v.ruling.phase w.name w.hist born' w.died g.life g.who who' (update_other g.who d w.round now (λ (e : w.round ≡ w.round + 1). omega arith)) (λ _ y k h. here y k (seen_stays y k h)) (v.kind i) i (v.work i)
@@ -190,5 +212,5 @@ module _ (s : Setup) (w : Words) (n : ℕ) (v : Views) (g : Ghost) (r : Rule s w
         at_member t y c = rounds.marked s r.names_apart w.round v.ruling.phase w.name w.head w.hist w.born w.died g.life g.who v.read r.names (low s w n v g r) b x m at (b + 1) t y (ap (λ (l : Life). chained l t) at ∙ c)
 
         relabel : (z k : ℕ) (q : Progress) → Label z k q → (a : ℕ) × (s.leads a ≡ 1) × IsPlaceOf s w.name (who' d) z a × (who' w.round a ≡ 0) × ((c : ℕ) → linked q ≡ c + 1 → w.name (member_of c false) ≡ a)
-            × ((k ≡ 0) × (s.mate a ≡ 0) ⊎ (y : ℕ) × (i : ℕ) × (k ≡ y + 1) × (s.mate a ≡ i + 1) × IsPlaceOf s w.name (who' d) y (i + 1) × (who' w.round (i + 1) ≡ 0))
-        relabel z k q l = (l.0, l.1, here z l.0 (seen_stays z l.0 l.2), old_round l.0 ∙ l.3, l.4, ⊎_elim inl (λ t. inr (t.0, t.1, t.2, t.3, here t.0 (t.1 + 1) (seen_stays t.0 (t.1 + 1) t.4), old_round (t.1 + 1) ∙ t.5)) l.5)
+            × ((k ≡ 0) × (s.mate a ≡ 0) ⊎ (y : ℕ) × (i : ℕ) × (k ≡ y + 1) × (s.mate a ≡ i + 1) × IsPlaceOf s w.name (who' d) y (i + 1) × (who' w.round (i + 1) ≡ 0)) × HasEntry v.ruling.plan.target a
+        relabel z k q l = (l.0, l.1, here z l.0 (seen_stays z l.0 l.2), old_round l.0 ∙ l.3, l.4, ⊎_elim inl (λ t. inr (t.0, t.1, t.2, t.3, here t.0 (t.1 + 1) (seen_stays t.0 (t.1 + 1) t.4), old_round (t.1 + 1) ∙ t.5)) l.5, l.6)

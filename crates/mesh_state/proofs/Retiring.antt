@@ -5,7 +5,7 @@ use native.Mathlib.Decide.{ℕ_discrete}
 use Rattle.mesh_words.specs.Setup.{Setup}
 use Rattle.mesh_words.specs.Functions.{update}
 use Rattle.mesh_words.specs.Words.{Words}
-use Rattle.mesh_words.specs.Views.{Views, Work}
+use Rattle.mesh_words.specs.Views.{Plan, Views, Work}
 use Rattle.mesh_words.specs.Claims.{Drawn, Half, Living}
 use Rattle.mesh_words.specs.Places.{member_of}
 use Rattle.mesh_words.specs.Entries.{HasEntry}
@@ -15,6 +15,8 @@ use Rattle.mesh_state.specs.Chains.{Covers, ChainsRule}
 use Rattle.mesh_state.specs.Bisections.{IsKept}
 use Rattle.mesh_state.specs.Work.{WorkRule, WalkRule}
 use Rattle.mesh_state.specs.Sure.{GuardsBlock}
+use Rattle.mesh_state.specs.Lists.{Holds, IsListed}
+use Rattle.mesh_state.proofs.Lists.{plan_update, target_on, history_who, drawn_update}
 use Rattle.mesh_state.specs.Rule.{Rule}
 use Rattle.mesh_state.proofs.FoundAgain.{goes_on, goes_who, workers_on, workers_who, Moves}
 use Rattle.mesh_state.proofs.BlockSteps.{kills}
@@ -29,7 +31,7 @@ module _ (s : Setup) (w : Words) (n : ℕ) (v : Views) (g : Ghost) (r : Rule s w
   abbrev A : ℕ → ℕ → Type 0
   A = Went w.round w.died v.kind v.work v.read
 
-  module _ (j b k : ℕ) (given : HasEntry (v.work j).given (b, k)) (kind : v.kind j ≡ 1) (zero_ : w.died b ≡ 0)
+  module _ (j b k : ℕ) (given : HasEntry (v.work j).given (b, k)) (kind : v.kind j ≡ 1) (listed : HasEntry (v.work j).plan.retire k) (zero_ : w.died b ≡ 0)
       (leaves : (c : Bool) → HasEntry (v.work j).open_ (s.child k c)) (mates : (i : ℕ) → s.mate k ≡ i + 1 → (c : Bool) → HasEntry (v.work j).open_ (s.child (i + 1) c)) where
     entry : (v.ruling.phase ≡ 2) × (w.name (member_of b false) ≡ k) × ((x : ℕ) × (m : ℕ) × (g.life b ≡ Placed x m) × (0 < w.born b) × (w.born b ≤ w.round) × ((w.died b ≡ 0) ⊎ (w.died b ≡ w.round + 1)))
     entry = (r.works j).given b k given
@@ -111,11 +113,39 @@ module _ (s : Setup) (w : Words) (n : ℕ) (v : Views) (g : Ghost) (r : Rule s w
         note = r.note;
         retired = λ c y k h e. dite (ℕ_discrete c b) (λ f. inl (j, subst (λ (u : Work). HasEntry u.retired c) (sym (update_same v.work j (record (v.work j) { open_ = names; retired = b ∷ (v.work j).retired }))) (inl f)))
             (λ f. ⊎_elim (λ t. inl (t.0, keeps t.0 c t.1)) inr (r.retired c y k h (sym (update_other w.died b c d f) ∙ e)));
+        plan = let p = plan_update s w.round v.ruling.phase g.who v.kind v.work v.ruling.plan j (record (v.work j) { open_ = names; retired = b ∷ (v.work j).retired }) refl r.plan in record {
+          same = p.same;
+          aim = λ a c. target_on s (Holds (g.who w.round)) (Holds (who' w.round)) v.ruling.plan (λ i. subst (λ (f : ℕ → ℕ). (Holds (g.who w.round) i → Holds f i) × (Holds f i → Holds (g.who w.round) i)) (sym (update_other g.who d w.round now (λ (e : w.round ≡ w.round + 1). omega arith))) ((λ h. h), λ h. h)) (r.plan.aim a c);
+          within = λ i a c h. within i h.0 (sym (ap (λ (f : ℕ → ℕ). f i) (update_same g.who d now)) ∙ h.1);
+          whole = λ i a c h. whole i h;
+          done = λ i e h. let z = two in absurd (omega arith);
+        };
+        history = history_who w.round g.who who' v.read v.ruling.history (λ q l. update_other g.who d q now (λ (e : q ≡ w.round + 1). omega arith)) r.history;
+        drawn = drawn_update v.ruling.phase w.cursor w.free w.row v.kind v.work j (record (v.work j) { open_ = names; retired = b ∷ (v.work j).retired }) refl r.drawn;
         holders = r.holders;
         hand = r.hand;
       },
     )
       where
+        within : (i a : ℕ) → now i ≡ a + 1 → HasEntry v.ruling.plan.target i
+        within i a e = ⊎_elim (λ c. let z : 0 ≡ a + 1 = sym c.4 ∙ e in absurd (omega arith)) (λ c. r.plan.within i (let z = two in omega arith) (let z = two in omega arith) (a, sym c.0 ∙ e))
+            (rounds.marks_cases M X (w.name (member_of b false)) (w.name (member_of b true)) 0 (g.who d) i)
+
+        on_list : HasEntry v.ruling.plan.retire k
+        on_list = subst (λ (p : Plan). HasEntry p.retire k) (r.plan.same j kind) listed
+
+        -- the members of the block are of a listed patch
+        of_list : (t : Bool) (y : ℕ) → chained (Placed X M) t ≡ y + 1 → IsListed s v.ruling.plan.retire (w.name (member_of b t))
+        of_list false y c = (k, on_list, inl entry.1)
+        of_list true y c = let p = r.names.patch b X M at in ⊎_elim
+            (λ z. let q : 0 ≡ y + 1 = sym z.0 ∙ c in absurd (omega arith))
+            (λ z. (k, on_list, inr (z.1, ap s.mate (sym entry.1) ∙ z.3, p.1 ∙ z.3))) p.2
+
+        whole : (i : ℕ) → HasEntry v.ruling.plan.target i → Holds (who' d) i ⊎ IsListed s v.ruling.plan.retire i
+        whole i h = ⊎_elim (λ c. inr (subst (IsListed s v.ruling.plan.retire) (sym (c.3 ∙ rounds.name_side w.name b c.0)) (of_list c.0 c.1 c.2)))
+            (λ c. ⊎_elim (λ t. inl (t.0, ap (λ (f : ℕ → ℕ). f i) (update_same g.who d now) ∙ c.0 ∙ t.1)) inr (r.plan.whole i (let z = two in omega arith) (let z = two in omega arith) h))
+            (rounds.marks_cases M X (w.name (member_of b false)) (w.name (member_of b true)) 0 (g.who d) i)
+
         walker : (i : ℕ) → WalkRule s w.round v.ruling.phase w.name w.hist w.born (update w.died b d) g.life who' (v.kind i) i (v.work i)
         walker i = workers_who s w.round v.ruling.phase w.name w.hist w.born (update w.died b d) g.life g.who who' (update_other g.who d w.round now (λ (e : w.round ≡ w.round + 1). omega arith)) (λ e _ _ _. let t = two in absurd (omega arith)) (v.kind i) i (v.work i)
             (workers_on s w.name w.name w.head w.hist w.head w.hist w.born w.died w.born (update w.died b d) g.life g.life (λ _ _ _ _ _. refl) w.round v.ruling.phase g.who v.read (IsKept w.round v.read) A step_chains.1 (inl refl) (r.names.fits w.round (inl (inl refl))) (λ e. let t = two in absurd (omega arith)) (v.kind i) i (v.work i) (λ c k h x. (inr (i, k, refl, h), x)) (r.walks i))

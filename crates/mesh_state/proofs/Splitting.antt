@@ -1,5 +1,7 @@
 -- A pass is made, and a pass ends.
 use Rattle.std.proofs.Common.{◌≡◌, ◌≢◌, ℕ, suc, ◌+◌, ◌<◌, ◌≤◌, List, [], ◌⊎◌, refl, sym, ap, ◌∙◌, subst, inl, inr, ⊎_elim, arith}
+use Rattle.std.proofs.lemmas.List.{append-nil}
+use Rattle.mesh_state.proofs.Lists.{plan_on, history_read}
 use mathlib.Core.Logic.{dite}
 use native.Mathlib.Decide.{ℕ_discrete}
 use Rattle.mesh_words.specs.Setup.{Setup}
@@ -47,6 +49,13 @@ module _ (s : Setup) (w : Words) (n : ℕ) (v : Views) (g : Ghost) (r : Rule s w
     abbrev kind' : ℕ → ℕ
     kind' = update v.kind n kind
 
+    -- what the new pass knows: a worker's the half and the lists, each the history
+    abbrev new_work : Work
+    new_work = record idle { half = v.ruling.phase; plan = v.ruling.plan }
+
+    abbrev new_read : List Note → Read
+    new_read notes = record (blank notes) { told = v.ruling.history; seen = v.ruling.finished; made = v.ruling.finished }
+
     kind_old : (j : ℕ) → j < n → kind' j ≡ v.kind j
     kind_old j l = update_other v.kind n j kind (λ (e : j ≡ n). omega arith)
 
@@ -55,7 +64,7 @@ module _ (s : Setup) (w : Words) (n : ℕ) (v : Views) (g : Ghost) (r : Rule s w
 
     -- A pass is made: the owner is no longer sure of any word, where it is a pass at work
     pub splits : (notes : List Note) → ((k : Note) → HasEntry notes k → HasEntry (v.read 0).notes k)
-        → Rule s w (n + 1) (record v { kind = kind'; claims = update v.claims n []; work = update v.work n (record idle { half = v.ruling.phase }); sure = update (update v.sure 0 unsure) n unsure; read = update v.read n (blank notes); ruling = record v.ruling { workers = workers; readers = readers } }) g
+        → Rule s w (n + 1) (record v { kind = kind'; claims = update v.claims n []; work = update v.work n (record idle { half = v.ruling.phase; plan = v.ruling.plan }); sure = update (update v.sure 0 unsure) n unsure; read = update v.read n (record (blank notes) { told = v.ruling.history; seen = v.ruling.finished; made = v.ruling.finished }); ruling = record v.ruling { workers = workers; readers = readers } }) g
     splits notes told = record {
       names_apart = r.names_apart;
       claims = record {
@@ -80,20 +89,20 @@ module _ (s : Setup) (w : Words) (n : ℕ) (v : Views) (g : Ghost) (r : Rule s w
         now = r.pins.now;
         later = r.pins.later;
         count = λ q. r.pins.count q ∙ ap (λ (x : ℕ). w.released q + x) (sym (sum (λ (u : Read). one_where u.pin (q + 1)) (none_if 0 (q + 1) (λ (e : 0 ≡ q + 1). omega arith))));
-        past = update_cases (λ _ u. (q : ℕ) → u.pin ≡ q + 1 → q ≤ w.round) v.read n (blank notes) (λ q e. absurd (omega arith)) (λ j _. r.pins.past j);
+        past = update_cases (λ _ u. (q : ℕ) → u.pin ≡ q + 1 → q ≤ w.round) v.read n (new_read notes) (λ q e. absurd (omega arith)) (λ j _. r.pins.past j);
         few = λ j l. update_other v.kind n j kind (λ (e : j ≡ n). omega arith) ∙ r.pins.few j (omega arith);
-        readers = λ j o. dite (ℕ_discrete j n) (λ e. let u = update_at v.read n j (blank notes) e in (ap (λ (x : Read). x.pin) u, ap (λ (x : Read). x.ready) u))
-            (λ f. subst (λ (x : Read). (x.pin ≡ 0) × (x.ready ≡ 0)) (sym (update_other v.read n j (blank notes) f)) (r.pins.readers j (λ k. o (update_other v.kind n j kind f ∙ k))));
-        bit = update_cases (λ _ u. u.ready ≤ 1) v.read n (blank notes) (omega arith) (λ j _. r.pins.bit j);
+        readers = λ j o. dite (ℕ_discrete j n) (λ e. let u = update_at v.read n j (new_read notes) e in (ap (λ (x : Read). x.pin) u, ap (λ (x : Read). x.ready) u))
+            (λ f. subst (λ (x : Read). (x.pin ≡ 0) × (x.ready ≡ 0)) (sym (update_other v.read n j (new_read notes) f)) (r.pins.readers j (λ k. o (update_other v.kind n j kind f ∙ k))));
+        bit = update_cases (λ _ u. u.ready ≤ 1) v.read n (new_read notes) (omega arith) (λ j _. r.pins.bit j);
         bound = let a = sum (λ (u : Read). u.ready) refl in let b = r.pins.bound in omega arith;
       };
       works = λ j. dite (ℕ_discrete j n)
-          (λ e. subst (λ (u : Work). WorkRule s w.round v.ruling.phase w.name w.born w.died g.life (g.who (w.round + 1)) (kind' j) j u) (sym (update_at v.work n j (record idle { half = v.ruling.phase }) e))
+          (λ e. subst (λ (u : Work). WorkRule s w.round v.ruling.phase w.name w.born w.died g.life (g.who (w.round + 1)) (kind' j) j u) (sym (update_at v.work n j new_work e))
           record { only = λ _ _. (refl, refl, refl, refl); found = λ x i f. absurd f; known = λ i f. absurd f; open_ = λ i f. absurd f; given = λ b i f. absurd f })
-          (λ o. subst (λ (u : Work × ℕ). WorkRule s w.round v.ruling.phase w.name w.born w.died g.life (g.who (w.round + 1)) u.1 j u.0) (λ i. (sym (update_other v.work n j (record idle { half = v.ruling.phase }) o) i, sym (update_other v.kind n j kind o) i)) (r.works j));
+          (λ o. subst (λ (u : Work × ℕ). WorkRule s w.round v.ruling.phase w.name w.born w.died g.life (g.who (w.round + 1)) u.1 j u.0) (λ i. (sym (update_other v.work n j new_work o) i, sym (update_other v.kind n j kind o) i)) (r.works j));
       walks = λ j. dite (ℕ_discrete j n)
-          (λ e. subst (λ (u : Work). WalkRule s w.round v.ruling.phase w.name w.hist w.born w.died g.life g.who (kind' j) j u) (sym (update_at v.work n j (record idle { half = v.ruling.phase }) e)) (walks_idle s w.round v.ruling.phase w.name w.hist w.born w.died g.life g.who (kind' j) j v.ruling.phase (λ _. refl)))
-          (λ o. subst (λ (u : Work × ℕ). WalkRule s w.round v.ruling.phase w.name w.hist w.born w.died g.life g.who u.1 j u.0) (λ i. (sym (update_other v.work n j (record idle { half = v.ruling.phase }) o) i, sym (update_other v.kind n j kind o) i)) (r.walks j));
+          (λ e. subst (λ (u : Work). WalkRule s w.round v.ruling.phase w.name w.hist w.born w.died g.life g.who (kind' j) j u) (sym (update_at v.work n j new_work e)) (walks_idle s w.round v.ruling.phase w.name w.hist w.born w.died g.life g.who (kind' j) j v.ruling.phase v.ruling.plan (λ _. refl)))
+          (λ o. subst (λ (u : Work × ℕ). WalkRule s w.round v.ruling.phase w.name w.hist w.born w.died g.life g.who u.1 j u.0) (λ i. (sym (update_other v.work n j new_work o) i, sym (update_other v.kind n j kind o) i)) (r.walks j));
       sure = update_cases (λ j u. SureRule s.elements workers w.head w.hist w.born w.died w.name w.row g.stage j u) (update v.sure 0 unsure) n unsure
           nothing_sure
           (λ j _. update_cases (λ j u. SureRule s.elements workers w.head w.hist w.born w.died w.name w.row g.stage j u) v.sure 0 unsure nothing_sure (λ i ne. let t = r.sure i in record {
@@ -104,7 +113,7 @@ module _ (s : Setup) (w : Words) (n : ℕ) (v : Views) (g : Ghost) (r : Rule s w
             born_is = λ b k f z _. absurd (ne z);
             row_is = λ b k f z _. absurd (ne z);
           }) j);
-      goes = update_cases (λ _ u. ReaderRule s w.round w.name w.hist w.born w.died g.life g.who u) v.read n (blank notes)
+      goes = update_cases (λ _ u. ReaderRule s w.round w.name w.hist w.born w.died g.life g.who u) v.read n (new_read notes)
           record { went = λ q b p f. absurd f; walk = λ q p. tt; places = λ q x k p f. absurd f; yes_notes = λ k q h. (r.goes 0).yes_notes k q (told _ h); no_notes = λ k q h. (r.goes 0).no_notes k q (told _ h) }
           (λ j _. r.goes j);
       rules = record {
@@ -118,21 +127,32 @@ module _ (s : Setup) (w : Words) (n : ℕ) (v : Views) (g : Ghost) (r : Rule s w
       };
       stock = record { finished = r.stock.finished; cursor_is = r.stock.cursor_is; free_is = r.stock.free_is; never = r.stock.never; left = r.stock.left };
       note = record { undone = r.note.undone; all = r.note.all; placed = r.note.placed; seen = λ x e. let t = r.note.seen x e in (t.0, t.1, t.2, λ f. none (t.3 f)); quiet = λ e. none (r.note.quiet e) };
-      retired = λ b x m u e. ⊎_elim (λ t. inl (dite (ℕ_discrete t.0 n) (λ f. absurd (subst (λ (l : List ℕ). HasEntry l b) ((r.walks n).only (λ k. let z = new_kind in omega arith) not_first).3 (subst (λ (i : ℕ). HasEntry (v.work i).retired b) f t.1))) (λ o. (t.0, subst (λ (u : Work). HasEntry u.retired b) (sym (update_other v.work n t.0 (record idle { half = v.ruling.phase }) o)) t.1)))) inr (r.retired b x m u e);
+      retired = λ b x m u e. ⊎_elim (λ t. inl (dite (ℕ_discrete t.0 n) (λ f. absurd (subst (λ (l : List ℕ). HasEntry l b) ((r.walks n).only (λ k. let z = new_kind in omega arith) not_first).3 (subst (λ (i : ℕ). HasEntry (v.work i).retired b) f t.1))) (λ o. (t.0, subst (λ (u : Work). HasEntry u.retired b) (sym (update_other v.work n t.0 new_work o)) t.1)))) inr (r.retired b x m u e);
+      plan = plan_on s w.round v.ruling.phase g.who v.kind kind' v.work (update v.work n new_work) v.ruling.plan
+          (λ j k. dite (ℕ_discrete j n) (λ e. ap (λ (u : Work). u.plan) (update_at v.work n j new_work e)) (λ o. ap (λ (u : Work). u.plan) (update_other v.work n j new_work o) ∙ r.plan.same j (sym (update_other v.kind n j kind o) ∙ k))) r.plan;
+      history = history_read w.round g.who v.read v.ruling.history n (new_read notes) ([], sym (append-nil v.ruling.history)) ((let f = r.stock.finished in omega arith), let f = r.stock.finished in let l = r.history.rounds in omega arith) (omega arith, λ q e. absurd (omega arith)) r.history;
+      drawn = record {
+        only = λ j a b. dite (ℕ_discrete j n) (λ e. ap (λ (u : Work). u.drawn) (update_at v.work n j new_work e)) (λ o. ap (λ (u : Work). u.drawn) (update_other v.work n j new_work o) ∙ r.drawn.only j (λ k. a (update_other v.kind n j kind o ∙ k)) b);
+        drawn = λ j i b h. r.drawn.drawn j i b (drawn_was j i b h);
+        apart = λ j k i b c h l. r.drawn.apart j k i b c (drawn_was j i b h) (drawn_was k i c l);
+      };
       holders = λ x j m p h. ⊎_elim inl (λ k. inr (update_other v.kind n j kind (λ (e : j ≡ n). new_claims x m p (h ∙ ap (λ (i : ℕ). Held i m p) e)) ∙ k)) (r.holders x j m p h);
       hand = r.hand;
     }
       where
+        drawn_was : (j i b : ℕ) → HasEntry (update v.work n new_work j).drawn (i, b) → HasEntry (v.work j).drawn (i, b)
+        drawn_was = update_cases (λ j u. (i b : ℕ) → HasEntry u.drawn (i, b) → HasEntry (v.work j).drawn (i, b)) v.work n new_work (λ i b h. absurd h) (λ j _ i b h. h)
+
         nothing_sure : {j : ℕ} → SureRule s.elements workers w.head w.hist w.born w.died w.name w.row g.stage j unsure
         nothing_sure {j = j} = record { head_is = λ z l f h. absurd f; hist_is = λ b t l f h. absurd f; died_is = λ b k f h. absurd f; name_is = λ b t k f h. absurd f; born_is = λ b k f h i. absurd f; row_is = λ b k f h i. absurd f }
 
-        sum : (f : Read → ℕ) → f (blank notes) ≡ 0 → sum_below (n + 1) (λ j. f (update v.read n (blank notes) j)) ≡ sum_below n (λ j. f (v.read j))
-        sum f z = one_more_seat (λ j. f (v.read j)) (λ j. f (update v.read n (blank notes) j)) (λ i l. ap f (update_other v.read n i (blank notes) (λ (e : i ≡ n). omega arith))) ∙ (let a : f (update v.read n (blank notes) n) ≡ f (blank notes) = ap f (update_same v.read n (blank notes)) in omega arith)
+        sum : (f : Read → ℕ) → f (new_read notes) ≡ 0 → sum_below (n + 1) (λ j. f (update v.read n (new_read notes) j)) ≡ sum_below n (λ j. f (v.read j))
+        sum f z = one_more_seat (λ j. f (v.read j)) (λ j. f (update v.read n (new_read notes) j)) (λ i l. ap f (update_other v.read n i (new_read notes) (λ (e : i ≡ n). omega arith))) ∙ (let a : f (update v.read n (new_read notes) n) ≡ f (new_read notes) = ap f (update_same v.read n (new_read notes)) in omega arith)
 
-        none : NoneWent w.round v.read v.ruling.undone → NoneWent w.round (update v.read n (blank notes)) v.ruling.undone
-        none ok = update_cases (λ _ x. (b : ℕ) → x.pin ≡ w.round + 1 → HasEntry x.went b → HasEntry v.ruling.undone b → ⊥) v.read n (blank notes) (λ b p h m. absurd h) (λ i _. ok i)
+        none : NoneWent w.round v.read v.ruling.undone → NoneWent w.round (update v.read n (new_read notes)) v.ruling.undone
+        none ok = update_cases (λ _ x. (b : ℕ) → x.pin ≡ w.round + 1 → HasEntry x.went b → HasEntry v.ruling.undone b → ⊥) v.read n (new_read notes) (λ b p h m. absurd h) (λ i _. ok i)
 
-        back : (q : ℕ) → MayRead w.round v.ruling.phase (update v.read n (blank notes)) q → MayRead w.round v.ruling.phase v.read q
+        back : (q : ℕ) → MayRead w.round v.ruling.phase (update v.read n (new_read notes)) q → MayRead w.round v.ruling.phase v.read q
         back q (inr k) = inr k
         back q (inl (inl e)) = inl (inl e)
-        back q (inl (inr t)) = dite (ℕ_discrete t.0 n) (λ e. let z : 0 ≡ q + 1 = sym (ap (λ (x : Read). x.pin) (update_at v.read n t.0 (blank notes) e)) ∙ t.1 in absurd (omega arith)) (λ o. inl (inr (t.0, sym (ap (λ (x : Read). x.pin) (update_other v.read n t.0 (blank notes) o)) ∙ t.1)))
+        back q (inl (inr t)) = dite (ℕ_discrete t.0 n) (λ e. let z : 0 ≡ q + 1 = sym (ap (λ (x : Read). x.pin) (update_at v.read n t.0 (new_read notes) e)) ∙ t.1 in absurd (omega arith)) (λ o. inl (inr (t.0, sym (ap (λ (x : Read). x.pin) (update_other v.read n t.0 (new_read notes) o)) ∙ t.1)))

@@ -1,5 +1,5 @@
 -- The square's run, round 1: the patch is claimed, its block is drawn, filled, linked and published.
-use Rattle.std.proofs.Common.{◌+◌, ◌++◌, true, false, [], ◌∷◌, refl, inl, inr}
+use Rattle.std.proofs.Common.{⊎_elim, ◌+◌, ◌++◌, true, false, [], ◌∷◌, refl, inl, inr}
 use Rattle.mesh_names.specs.Squares.{square}
 use Rattle.mesh_names.specs.Validity.{across_of}
 use Rattle.mesh_names.proofs.Squares.{squares_fit}
@@ -8,7 +8,7 @@ use Rattle.mesh_words.specs.Places.{member_of, child_place}
 use Rattle.mesh_words.specs.Words.{node}
 use Rattle.mesh_words.specs.Claims.{moved_on, ended}
 use Rattle.mesh_words.specs.Functions.{update}
-use Rattle.mesh_words.specs.Views.{Views, Still, unsure}
+use Rattle.mesh_words.specs.Views.{no_plan, Views, Still, unsure}
 use Rattle.mesh_state.specs.Ghosts.{Open, Held, Loose, Placed, Ghost}
 use Rattle.mesh_state.specs.Fresh.{fresh_words, fresh_views, fresh_ghost, idle, blank}
 use Rattle.mesh_state.proofs.Bisections.{marks}
@@ -27,6 +27,7 @@ use Rattle.mesh_state.proofs.FirstLink.{links}
 use Rattle.mesh_state.proofs.SecondLink.{links_second}
 use Rattle.mesh_state.proofs.Publishing.{publishes}
 use Rattle.mesh_state.proofs.TakingBack.{unclaims}
+use Rattle.mesh_state.proofs.SquareLists.{both, first_plan, first_aim, none_listed, both_stay}
 use Rattle.mesh_state.proofs.SquareNotes.{en, kids_noted, living_claim, lt01, lt02, lt06, lt12, not_less, not_living, old_words, only_zero, past_four, three}
 
 abbrev pub v0 : Views
@@ -39,16 +40,16 @@ pub r0 : Rule square_setup (fresh_words 1) 1 v0 g0
 r0 = fresh_is_lawful square (across_of square) (squares_fit.0).2 record { rounds = 4; elements = 2; pool = 1 } 1
 
 abbrev pub v1 : Views
-v1 = record v0 { work = update v0.work 0 idle; ruling = record v0.ruling { phase = 1; hand = []; cursor = 0 } }
+v1 = record v0 { work = update v0.work 0 idle; ruling = record v0.ruling { phase = 1; hand = []; cursor = 0; plan = first_plan } }
 
 abbrev pub g1 : Ghost
 g1 = record g0 { who = g0.who }
 
 pub r1 : Rule square_setup (fresh_words 1) 1 v1 g1
-r1 = begins square_setup (fresh_words 1) 1 v0 g0 r0 refl refl
+r1 = begins square_setup (fresh_words 1) 1 v0 g0 r0 first_plan [] refl first_aim refl refl
 
 abbrev pub v2 : Views
-v2 = record v1 { kind = update v1.kind 1 1; claims = update v1.claims 1 []; work = update v1.work 1 (record idle { half = v1.ruling.phase }); sure = update (update v1.sure 0 unsure) 1 unsure; read = update v1.read 1 (blank []); ruling = record v1.ruling { workers = 1; readers = 0 } }
+v2 = record v1 { kind = update v1.kind 1 1; claims = update v1.claims 1 []; work = update v1.work 1 (record idle { half = v1.ruling.phase; plan = v1.ruling.plan }); sure = update (update v1.sure 0 unsure) 1 unsure; read = update v1.read 1 (record (blank []) { told = v1.ruling.history; seen = v1.ruling.finished; made = v1.ruling.finished }); ruling = record v1.ruling { workers = 1; readers = 0 } }
 
 pub r2 : Rule square_setup (fresh_words 1) 2 v2 g1
 r2 = splits square_setup (fresh_words 1) 1 v1 g1 r1 1 1 0 (inl (refl, inl refl, refl, refl)) [] (λ k h. absurd h)
@@ -84,10 +85,10 @@ abbrev pub g7 : Ghost
 g7 = record g1 { stage = update g1.stage 0 (Held 1 2 Claimed) }
 
 pub r7 : Rule square_setup claimed 2 v7 g7
-r7 = claims square_setup (fresh_words 1) 2 v6 g1 r6 1 0 2 name0 refl refl refl lt06 (inr (inl refl)) (inr (inl refl)) (inr (1, 536870912, refl, refl, inl refl, inl refl))
+r7 = claims square_setup (fresh_words 1) 2 v6 g1 r6 1 0 2 name0 refl refl refl lt06 (inr (inl refl)) (inl refl) (inr (inl refl)) (inr (1, 536870912, refl, refl, inl refl, inl refl))
 
 abbrev pub v8 : Views
-v8 = record v7 { claims = update v7.claims 1 (moved_on (v7.claims 1) 0 (Drawn (claimed.row claimed.cursor))); sure = update v7.sure 1 unsure }
+v8 = record v7 { claims = update v7.claims 1 (moved_on (v7.claims 1) 0 (Drawn (claimed.row claimed.cursor))); work = update v7.work 1 (record (v7.work 1) { drawn = (claimed.cursor, claimed.row claimed.cursor + 1) ∷ (v7.work 1).drawn }); sure = update v7.sure 1 unsure }
 
 abbrev pub g8 : Ghost
 g8 = record g7 { stage = update g7.stage 0 (Held 1 2 (Drawn (claimed.row claimed.cursor))); life = update g7.life (claimed.row claimed.cursor) (Loose (0 + 1)) }
@@ -180,16 +181,16 @@ pub r21 : Rule square_setup linked1 2 v21 g21
 r21 = links_second square_setup linked0 2 v20 g20 r20 1 0 1 0 (node 0 0) (inl refl) refl (past_four ((1, node 0 0) ∷ (0, node 0 0) ∷ []) 1 (node 0 0) lt12 (inl (refl, refl))) (inl (refl, refl))
 
 abbrev pub v22 : Views
-v22 = record v21 { claims = update v21.claims 1 (moved_on (v21.claims 1) 0 (Living 0)); work = update v21.work 1 (record (v21.work 1) { known = [] }) }
+v22 = record v21 { claims = update v21.claims 1 (moved_on (v21.claims 1) 0 (Living 0)); work = update v21.work 1 (record (v21.work 1) { known = name0 ∷ [] }) }
 
 abbrev pub g22 : Ghost
 g22 = record g21 { stage = update g21.stage 0 (Held 1 2 (Living 0)); who = update g21.who (linked1.round + 1) (marks 2 (linked1.name (member_of 0 false)) (linked1.name (member_of 0 true)) (0 + 1) (g21.who (linked1.round + 1))) }
 
 pub r22 : Rule square_setup published 2 v22 g22
-r22 = publishes square_setup linked1 2 v21 g21 r21 1 0 2 0 (inl refl) refl [] (λ k h. absurd h)
+r22 = publishes square_setup linked1 2 v21 g21 r21 1 0 2 0 (inl refl) refl (name0 ∷ []) (λ k h. ⊎_elim (λ e. inr (false, 0, refl, e)) (λ f. absurd f) h)
 
 abbrev pub v23 : Views
-v23 = record v22 { kind = update v22.kind 1 0; claims = update (update v22.claims 0 (v22.claims 0 ++ v22.claims 1)) 1 []; work = update (update v22.work 0 record { half = 0; found = (v22.work 0).found ++ (v22.work 1).found; known = (v22.work 0).known ++ (v22.work 1).known; open_ = (v22.work 0).open_ ++ (v22.work 1).open_; given = (v22.work 0).given ++ (v22.work 1).given; absent = (v22.work 0).absent ++ (v22.work 1).absent; stood = (v22.work 0).stood ++ (v22.work 1).stood; had = (v22.work 0).had ++ (v22.work 1).had; retired = (v22.work 0).retired ++ (v22.work 1).retired; went = []; walk = Still }) 1 idle; sure = update (update v22.sure 0 unsure) 1 unsure; ruling = record v22.ruling { workers = 0 } }
+v23 = record v22 { kind = update v22.kind 1 0; claims = update (update v22.claims 0 (v22.claims 0 ++ v22.claims 1)) 1 []; work = update (update v22.work 0 record { half = 0; plan = no_plan; drawn = (v22.work 0).drawn ++ (v22.work 1).drawn; found = (v22.work 0).found ++ (v22.work 1).found; known = (v22.work 0).known ++ (v22.work 1).known; open_ = (v22.work 0).open_ ++ (v22.work 1).open_; given = (v22.work 0).given ++ (v22.work 1).given; absent = (v22.work 0).absent ++ (v22.work 1).absent; stood = (v22.work 0).stood ++ (v22.work 1).stood; had = (v22.work 0).had ++ (v22.work 1).had; retired = (v22.work 0).retired ++ (v22.work 1).retired; went = []; walk = Still }) 1 idle; sure = update (update v22.sure 0 unsure) 1 unsure; ruling = record v22.ruling { workers = 0 } }
 
 abbrev pub g23 : Ghost
 g23 = record g22 { stage = λ x. moved 1 (g22.stage x) }
@@ -198,13 +199,13 @@ pub r23 : Rule square_setup published 2 v23 g23
 r23 = joins square_setup published 2 v22 g22 r22 1 (en 1 0 lt01) refl 0 refl
 
 abbrev pub v24 : Views
-v24 = record v23 { work = update v23.work 0 idle; ruling = record v23.ruling { phase = 2 } }
+v24 = record v23 { work = update v23.work 0 idle; ruling = record v23.ruling { phase = 2; plan = record v23.ruling.plan { retire = [] } } }
 
 abbrev pub g24 : Ghost
 g24 = record g23 { who = g23.who }
 
 pub r24 : Rule square_setup published 2 v24 g24
-r24 = plans square_setup published 2 v23 g23 r23 refl refl living_claim
+r24 = plans square_setup published 2 v23 g23 r23 [] (λ i h. h) refl refl living_claim
 
 abbrev pub v25 : Views
 v25 = record v24 { work = update v24.work 0 idle; ruling = record v24.ruling { phase = 3; retired = (v24.work 0).retired ++ v24.ruling.retired } }
@@ -213,7 +214,7 @@ abbrev pub g25 : Ghost
 g25 = record g24 { who = g24.who }
 
 pub r25 : Rule square_setup published 2 v25 g25
-r25 = closes square_setup published 2 v24 g24 r24 refl refl
+r25 = closes square_setup published 2 v24 g24 r24 (none_listed []) refl refl
 
 abbrev pub v26 : Views
 v26 = record v25 { ruling = record v25.ruling { placed = (0, 0, 2) ∷ v25.ruling.placed } }
@@ -231,10 +232,10 @@ pub r27 : Rule square_setup unclaimed 2 v27 g27
 r27 = unclaims square_setup published 2 v26 g25 r26 three not_less 0 2 (Living 0) (inl refl) only_zero not_living
 
 abbrev pub v28 : Views
-v28 = record v27 { work = update v27.work 0 idle; ruling = record v27.ruling { phase = 0; finished = v27.ruling.finished + 1; left = (unclaimed.round, unclaimed.taken) ∷ v27.ruling.left; retired = []; seen = 0; quiet = 0 } }
+v28 = record v27 { work = update v27.work 0 idle; ruling = record v27.ruling { phase = 0; finished = v27.ruling.finished + 1; history = v27.ruling.history ++ both ∷ []; left = (unclaimed.round, unclaimed.taken) ∷ v27.ruling.left; retired = []; seen = 0; quiet = 0 } }
 
 abbrev pub g28 : Ghost
 g28 = record g27 { who = update g27.who (unclaimed.round + 1 + 1) (g27.who (unclaimed.round + 1)) }
 
 pub r28 : Rule square_setup finished1 2 v28 g28
-r28 = advances square_setup unclaimed 2 v27 g27 r27 refl refl (λ b h. absurd h)
+r28 = advances square_setup unclaimed 2 v27 g27 r27 both both_stay (λ i h _. h) refl refl (λ b h. absurd h)

@@ -3,7 +3,7 @@ use Rattle.std.proofs.Common.{◌≡◌, ℕ, ◌+◌, ◌++◌, Bool, true, fal
 use Rattle.mesh_words.specs.Places.{child_place}
 use Rattle.mesh_words.specs.Words.{node}
 use Rattle.mesh_words.specs.Functions.{update}
-use Rattle.mesh_words.specs.Views.{Views, Still, At, unsure}
+use Rattle.mesh_words.specs.Views.{no_plan, Views, Still, At, unsure}
 use Rattle.mesh_state.specs.Ghosts.{Ghost}
 use Rattle.mesh_state.specs.Fresh.{idle, blank}
 use Rattle.mesh_state.specs.Rule.{Rule}
@@ -18,6 +18,7 @@ use Rattle.mesh_state.proofs.Retiring.{retires}
 use Rattle.mesh_state.proofs.Pinning.{shows_round, pins}
 use Rattle.mesh_state.proofs.Sweeping.{stops, rewinds}
 use Rattle.mesh_state.proofs.TakingBack.{stamps_head}
+use Rattle.mesh_state.proofs.SquareLists.{both, second_plan, second_aim, both_open, none_stays}
 use Rattle.mesh_state.proofs.SquareNotes.{both_stamped, children0, children1, en, le01, le11, lt01, lt02, lt03, lt12, many, ne, newly, no_claim, no_head, row_is, three}
 use Rattle.mesh_state.proofs.SquareRound1.{g28, r28, v28}
 
@@ -58,19 +59,19 @@ pub r34 : Rule square_setup rewound 2 v34 g28
 r34 = rewinds square_setup stopped 2 v33 g28 r33 refl refl
 
 abbrev pub v35 : Views
-v35 = record v34 { kind = update v34.kind 2 2; claims = update v34.claims 2 []; work = update v34.work 2 (record idle { half = v34.ruling.phase }); sure = update (update v34.sure 0 unsure) 2 unsure; read = update v34.read 2 (blank []); ruling = record v34.ruling { workers = 0; readers = 1 } }
+v35 = record v34 { kind = update v34.kind 2 2; claims = update v34.claims 2 []; work = update v34.work 2 (record idle { half = v34.ruling.phase; plan = v34.ruling.plan }); sure = update (update v34.sure 0 unsure) 2 unsure; read = update v34.read 2 (record (blank []) { told = v34.ruling.history; seen = v34.ruling.finished; made = v34.ruling.finished }); ruling = record v34.ruling { workers = 0; readers = 1 } }
 
 pub r35 : Rule square_setup rewound 3 v35 g28
 r35 = splits square_setup rewound 2 v34 g28 r34 2 0 1 (inr (refl, le01, refl, refl)) [] (λ k h. absurd h)
 
 abbrev pub v36 : Views
-v36 = record v35 { read = update v35.read 2 (record (v35.read 2) { ready = 1 }) }
+v36 = record v35 { read = update v35.read 2 (record (v35.read 2) { ready = 1; seen = rewound.round }) }
 
 pub r36 : Rule square_setup rewound 3 v36 g28
 r36 = shows_round square_setup rewound 3 v35 g28 r35 2 refl 1 (inl (refl, many))
 
 abbrev pub v37 : Views
-v37 = record v36 { read = update v36.read 2 record { pin = rewound.round + 1; ready = 0; went = []; walk = Still; notes = (v36.read 2).notes; places = [] } }
+v37 = record v36 { read = update v36.read 2 (record (v36.read 2) { pin = rewound.round + 1; ready = 0; went = []; walk = Still; places = []; seen = rewound.round }) }
 
 abbrev pub g37 : Ghost
 g37 = record g28 { pins = update g28.pins rewound.round (g28.pins rewound.round + 1) }
@@ -79,25 +80,25 @@ pub r37 : Rule square_setup pinned 3 v37 g37
 r37 = pins square_setup rewound 3 v36 g28 r36 2 refl refl refl
 
 abbrev pub v38 : Views
-v38 = record v37 { work = update v37.work 0 idle; ruling = record v37.ruling { phase = 1; hand = []; cursor = 0 } }
+v38 = record v37 { work = update v37.work 0 idle; ruling = record v37.ruling { phase = 1; hand = []; cursor = 0; plan = second_plan } }
 
 abbrev pub g38 : Ghost
 g38 = record g37 { who = g37.who }
 
 pub r38 : Rule square_setup pinned 3 v38 g38
-r38 = begins square_setup pinned 3 v37 g37 r37 refl refl
+r38 = begins square_setup pinned 3 v37 g37 r37 second_plan both refl second_aim refl refl
 
 abbrev pub v39 : Views
-v39 = record v38 { work = update v38.work 0 idle; ruling = record v38.ruling { phase = 2 } }
+v39 = record v38 { work = update v38.work 0 idle; ruling = record v38.ruling { phase = 2; plan = record v38.ruling.plan { retire = name0 ∷ [] } } }
 
 abbrev pub g39 : Ghost
 g39 = record g38 { who = g38.who }
 
 pub r39 : Rule square_setup pinned 3 v39 g39
-r39 = plans square_setup pinned 3 v38 g38 r38 refl refl no_claim
+r39 = plans square_setup pinned 3 v38 g38 r38 (name0 ∷ []) (λ i h. h) refl refl no_claim
 
 abbrev pub v40 : Views
-v40 = record v39 { kind = update v39.kind 3 1; claims = update v39.claims 3 []; work = update v39.work 3 (record idle { half = v39.ruling.phase }); sure = update (update v39.sure 0 unsure) 3 unsure; read = update v39.read 3 (blank []); ruling = record v39.ruling { workers = 1; readers = 1 } }
+v40 = record v39 { kind = update v39.kind 3 1; claims = update v39.claims 3 []; work = update v39.work 3 (record idle { half = v39.ruling.phase; plan = v39.ruling.plan }); sure = update (update v39.sure 0 unsure) 3 unsure; read = update v39.read 3 (record (blank []) { told = v39.ruling.history; seen = v39.ruling.finished; made = v39.ruling.finished }); ruling = record v39.ruling { workers = 1; readers = 1 } }
 
 pub r40 : Rule square_setup pinned 4 v40 g39
 r40 = splits square_setup pinned 3 v39 g39 r39 1 1 1 (inl (refl, inr refl, refl, refl)) [] (λ k h. absurd h)
@@ -165,7 +166,7 @@ pub r49 : Rule square_setup pinned 4 v49 g39
 r49 = opens_head square_setup pinned 4 v48 g39 r48 3 refl refl (child_place 2 0 t41 false) (square_setup.child name0 false) (inr (inr (inl refl))) (inl (no_head t41 false))
 
 pub who_left : ℕ → ℕ → ℕ
-who_left = (retires square_setup pinned 4 v49 g39 r49 3 0 name0 (inl refl) refl refl children0 children1 (name0 ∷ name1 ∷ (v49.work 3).open_) newly).0
+who_left = (retires square_setup pinned 4 v49 g39 r49 3 0 name0 (inl refl) refl (inl refl) refl children0 children1 (name0 ∷ name1 ∷ (v49.work 3).open_) newly).0
 
 abbrev pub v50 : Views
 v50 = record v49 { work = update v49.work 3 (record (v49.work 3) { open_ = name0 ∷ name1 ∷ (v49.work 3).open_; retired = 0 ∷ (v49.work 3).retired }) }
@@ -175,7 +176,7 @@ g50 = record g39 { who = who_left }
 
 pub r50 : Rule square_setup retired 4 v50 g50
 unfolding who_left
-r50 = (retires square_setup pinned 4 v49 g39 r49 3 0 name0 (inl refl) refl refl children0 children1 (name0 ∷ name1 ∷ (v49.work 3).open_) newly).1
+r50 = (retires square_setup pinned 4 v49 g39 r49 3 0 name0 (inl refl) refl (inl refl) refl children0 children1 (name0 ∷ name1 ∷ (v49.work 3).open_) newly).1
 
 pub gone0 : who_left 2 name0 ≡ 0
 gone0 = ((r50.works 3).open_ name0 (inl refl)).1
@@ -190,7 +191,7 @@ pub held1 : who_left 1 name1 ≡ 1
 held1 = (r50.walks 3).had 0 name1 (inl refl)
 
 abbrev pub v51 : Views
-v51 = record v50 { kind = update v50.kind 3 0; claims = update (update v50.claims 0 (v50.claims 0 ++ v50.claims 3)) 3 []; work = update (update v50.work 0 record { half = 0; found = (v50.work 0).found ++ (v50.work 3).found; known = (v50.work 0).known ++ (v50.work 3).known; open_ = (v50.work 0).open_ ++ (v50.work 3).open_; given = (v50.work 0).given ++ (v50.work 3).given; absent = (v50.work 0).absent ++ (v50.work 3).absent; stood = (v50.work 0).stood ++ (v50.work 3).stood; had = (v50.work 0).had ++ (v50.work 3).had; retired = (v50.work 0).retired ++ (v50.work 3).retired; went = []; walk = Still }) 3 idle; sure = update (update v50.sure 0 unsure) 3 unsure; ruling = record v50.ruling { workers = 0 } }
+v51 = record v50 { kind = update v50.kind 3 0; claims = update (update v50.claims 0 (v50.claims 0 ++ v50.claims 3)) 3 []; work = update (update v50.work 0 record { half = 0; plan = no_plan; drawn = (v50.work 0).drawn ++ (v50.work 3).drawn; found = (v50.work 0).found ++ (v50.work 3).found; known = (v50.work 0).known ++ (v50.work 3).known; open_ = (v50.work 0).open_ ++ (v50.work 3).open_; given = (v50.work 0).given ++ (v50.work 3).given; absent = (v50.work 0).absent ++ (v50.work 3).absent; stood = (v50.work 0).stood ++ (v50.work 3).stood; had = (v50.work 0).had ++ (v50.work 3).had; retired = (v50.work 0).retired ++ (v50.work 3).retired; went = []; walk = Still }) 3 idle; sure = update (update v50.sure 0 unsure) 3 unsure; ruling = record v50.ruling { workers = 0 } }
 
 abbrev pub g51 : Ghost
 g51 = record g50 { stage = λ x. moved 3 (g50.stage x) }
@@ -205,7 +206,7 @@ abbrev pub g52 : Ghost
 g52 = record g51 { who = g51.who }
 
 pub r52 : Rule square_setup retired 4 v52 g52
-r52 = closes square_setup retired 4 v51 g51 r51 refl refl
+r52 = closes square_setup retired 4 v51 g51 r51 both_open refl refl
 
 abbrev pub v53 : Views
 v53 = record v52 { sure = update v52.sure 0 (record (v52.sure 0) { head = (0, retired.head 0) ∷ (v52.sure 0).head }) }
@@ -238,10 +239,10 @@ pub r57 : Rule square_setup stamped1 4 v57 g52
 r57 = stamps_head square_setup stamped0 4 v56 g52 r56 three refl 1 0 0 2 true (inl refl) (λ h. h) refl (inr (ne 0 1 lt01, inl (refl, refl))) (inl (refl, refl))
 
 abbrev pub v58 : Views
-v58 = record v57 { work = update v57.work 0 idle; ruling = record v57.ruling { phase = 0; finished = v57.ruling.finished + 1; left = (stamped1.round, stamped1.taken) ∷ v57.ruling.left; retired = []; seen = 0; quiet = 0 } }
+v58 = record v57 { work = update v57.work 0 idle; ruling = record v57.ruling { phase = 0; finished = v57.ruling.finished + 1; history = v57.ruling.history ++ [] ∷ []; left = (stamped1.round, stamped1.taken) ∷ v57.ruling.left; retired = []; seen = 0; quiet = 0 } }
 
 abbrev pub g58 : Ghost
 g58 = record g52 { who = update g52.who (stamped1.round + 1 + 1) (g52.who (stamped1.round + 1)) }
 
 pub r58 : Rule square_setup finished2 4 v58 g58
-r58 = advances square_setup stamped1 4 v57 g52 r57 refl refl both_stamped
+r58 = advances square_setup stamped1 4 v57 g52 r57 [] (λ i h. absurd h) none_stays refl refl both_stamped

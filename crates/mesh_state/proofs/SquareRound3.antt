@@ -17,12 +17,13 @@ use Rattle.mesh_state.proofs.Claiming.{claims}
 use Rattle.mesh_state.proofs.Draws.{draws_one}
 use Rattle.mesh_state.proofs.Pinning.{unpins}
 use Rattle.mesh_state.proofs.Sweeping.{cuts_head, frees_all, zeroes, lays, opens_rows}
+use Rattle.mesh_state.proofs.SquareLists.{first_plan, first_aim}
 use Rattle.mesh_state.proofs.SquareNotes.{both_clear, clean_blocks, clean_tops, en, le22, lt01, lt02, lt04, lt06, lt12, lt14, lt24, lt34, more_hand, ne, one_row, same_below_one}
 use Rattle.mesh_state.proofs.SquareRound1.{g0, g7, g8, g20, g21, g22, g27, g28, r0, r7, r8, r11, r12, r13, r14, r15, r16, r17, r18, r19, r20, r21, r22, r27, r28, v0, v7, v8, v11, v12, v13, v14, v15, v16, v17, v18, v19, v20, v21, v22, v27, v28}
 use Rattle.mesh_state.proofs.SquareRound2.{g37, g50, g52, g58, gone0, gone1, held0, held1, r33, r34, r37, r50, r56, r57, r58, v33, v34, v37, v50, v56, v57, v58}
 
 abbrev pub v59 : Views
-v59 = record v58 { read = update v58.read 2 record { pin = 0; ready = (v58.read 2).ready; went = []; walk = Still; notes = (v58.read 2).notes; places = [] } }
+v59 = record v58 { read = update v58.read 2 (record (v58.read 2) { pin = 0; went = []; walk = Still; places = [] }) }
 
 abbrev pub g59 : Ghost
 g59 = record g58 { pins = g58.pins }
@@ -124,16 +125,16 @@ pub r74 : Rule square_setup opened 4 v74 g70
 r74 = loads_cursor square_setup opened 4 v73 g70 r73 (ne 0 1 lt01)
 
 abbrev pub v75 : Views
-v75 = record v74 { work = update v74.work 0 idle; ruling = record v74.ruling { phase = 1; hand = []; cursor = 0 } }
+v75 = record v74 { work = update v74.work 0 idle; ruling = record v74.ruling { phase = 1; hand = []; cursor = 0; plan = first_plan } }
 
 abbrev pub g75 : Ghost
 g75 = record g70 { who = g70.who }
 
 pub r75 : Rule square_setup opened 4 v75 g75
-r75 = begins square_setup opened 4 v74 g70 r74 refl refl
+r75 = begins square_setup opened 4 v74 g70 r74 first_plan [] refl first_aim refl refl
 
 abbrev pub v76 : Views
-v76 = record v75 { kind = update v75.kind 4 1; claims = update v75.claims 4 []; work = update v75.work 4 (record idle { half = v75.ruling.phase }); sure = update (update v75.sure 0 unsure) 4 unsure; read = update v75.read 4 (blank []); ruling = record v75.ruling { workers = 1; readers = 1 } }
+v76 = record v75 { kind = update v75.kind 4 1; claims = update v75.claims 4 []; work = update v75.work 4 (record idle { half = v75.ruling.phase; plan = v75.ruling.plan }); sure = update (update v75.sure 0 unsure) 4 unsure; read = update v75.read 4 (record (blank []) { told = v75.ruling.history; seen = v75.ruling.finished; made = v75.ruling.finished }); ruling = record v75.ruling { workers = 1; readers = 1 } }
 
 pub r76 : Rule square_setup opened 5 v76 g75
 r76 = splits square_setup opened 4 v75 g75 r75 1 1 1 (inl (refl, inl refl, refl, refl)) [] (λ k h. absurd h)
@@ -169,10 +170,10 @@ abbrev pub g81 : Ghost
 g81 = record g75 { stage = update g75.stage 0 (Held 4 2 Claimed) }
 
 pub r81 : Rule square_setup claimed_again 5 v81 g81
-r81 = claims square_setup opened 5 v80 g75 r80 4 0 2 name0 refl refl refl lt06 (inr (inl refl)) (inr (inl refl)) (inr (1, 536870912, refl, refl, inl refl, inl refl))
+r81 = claims square_setup opened 5 v80 g75 r80 4 0 2 name0 refl refl refl lt06 (inr (inl refl)) (inl refl) (inr (inl refl)) (inr (1, 536870912, refl, refl, inl refl, inl refl))
 
 abbrev pub v82 : Views
-v82 = record v81 { claims = update v81.claims 4 (moved_on (v81.claims 4) 0 (Drawn (claimed_again.row claimed_again.cursor))); sure = update v81.sure 4 unsure }
+v82 = record v81 { claims = update v81.claims 4 (moved_on (v81.claims 4) 0 (Drawn (claimed_again.row claimed_again.cursor))); work = update v81.work 4 (record (v81.work 4) { drawn = (claimed_again.cursor, claimed_again.row claimed_again.cursor + 1) ∷ (v81.work 4).drawn }); sure = update v81.sure 4 unsure }
 
 abbrev pub g82 : Ghost
 g82 = record g81 { stage = update g81.stage 0 (Held 4 2 (Drawn (claimed_again.row claimed_again.cursor))); life = update g81.life (claimed_again.row claimed_again.cursor) (Loose (0 + 1)) }

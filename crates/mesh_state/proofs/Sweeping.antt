@@ -111,6 +111,9 @@ module _ (s : Setup) (w : Words) (n : ℕ) (v : Views) (g : Ghost) (r : Rule s w
     stock = stock;
     note = note;
     retired = λ b x m h e. let t = back b x m h in r.retired b x m t.0 (sym t.1 ∙ e);
+    plan = r.plan;
+    history = r.history;
+    drawn = record { only = r.drawn.only; drawn = λ j i b h. absurd (q.0 (r.drawn.drawn j i b h).0); apart = r.drawn.apart };
     holders = λ x j m p h. inl (own x j m p h);
     hand = hands;
   }
@@ -389,6 +392,9 @@ again s w n v g r = record {
   stock = r.stock;
   note = r.note;
   retired = r.retired;
+  plan = r.plan;
+  history = r.history;
+  drawn = r.drawn;
   holders = r.holders;
   hand = r.hand;
 }

@@ -7,6 +7,7 @@ pub mod Work
 pub mod Sure
 pub mod Readers
 pub mod Owner
+pub mod Lists
 pub mod Rule
 pub mod Fresh
 pub mod Laws

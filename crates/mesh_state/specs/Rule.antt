@@ -1,5 +1,5 @@
 -- The rule of a shared table: there are a stage of each place, a life of each block, and a block for each round and name, of which the words and the views are what the parts say.
-use Rattle.std.specs.Prelude.{◌≡◌, ℕ, ◌+◌, ◌⊎◌, false}
+use Rattle.std.specs.Prelude.{◌≡◌, ℕ, ◌+◌, List, ◌⊎◌, false}
 use Rattle.mesh_words.specs.Claims.{Progress}
 use Rattle.mesh_words.specs.Entries.{HasEntry}
 use Rattle.mesh_words.specs.Places.{member_of}
@@ -14,18 +14,19 @@ use Rattle.mesh_state.specs.Pins.{PinsRule}
 use Rattle.mesh_state.specs.Work.{WorkRule, WalkRule, RetiredKnown}
 use Rattle.mesh_state.specs.Sure.{SureRule}
 use Rattle.mesh_state.specs.Readers.{ReaderRule}
+use Rattle.mesh_state.specs.Lists.{PlanRule, HistoryRule, DrawnRule}
 use Rattle.mesh_state.specs.Owner.{OwnerRule, StockRule, NoteRule}
 
--- in the first half the members of a claim's patch stand at its places, and are not bisected at the last finished round
-abbrev pub Labels : Setup → ℕ → ℕ → (ℕ → ℕ) → (ℕ → Stage) → (ℕ → ℕ → ℕ) → Type 0
-Labels s round phase name stage who = (x j m : ℕ) (p : Progress) → stage x ≡ Held j m p → phase ≡ 1 → (n : ℕ) × (s.leads n ≡ 1) × IsPlaceOf s name (who (round + 1)) x n × (who round n ≡ 0) × ((b : ℕ) → linked p ≡ b + 1 → name (member_of b false) ≡ n)
-    × ((m ≡ 0) × (s.mate n ≡ 0) ⊎ (y : ℕ) × (k : ℕ) × (m ≡ y + 1) × (s.mate n ≡ k + 1) × IsPlaceOf s name (who (round + 1)) y (k + 1) × (who round (k + 1) ≡ 0))
+-- in the first half the members of a claim's patch stand at its places, are not bisected at the last finished round, and the first is of the round's target
+abbrev pub Labels : Setup → ℕ → ℕ → (ℕ → ℕ) → (ℕ → Stage) → (ℕ → ℕ → ℕ) → List ℕ → Type 0
+Labels s round phase name stage who target = (x j m : ℕ) (p : Progress) → stage x ≡ Held j m p → phase ≡ 1 → (n : ℕ) × (s.leads n ≡ 1) × IsPlaceOf s name (who (round + 1)) x n × (who round n ≡ 0) × ((b : ℕ) → linked p ≡ b + 1 → name (member_of b false) ≡ n)
+    × ((m ≡ 0) × (s.mate n ≡ 0) ⊎ (y : ℕ) × (k : ℕ) × (m ≡ y + 1) × (s.mate n ≡ k + 1) × IsPlaceOf s name (who (round + 1)) y (k + 1) × (who round (k + 1) ≡ 0)) × HasEntry target n
 
 -- n is the number of seats that were ever made
 pub record Rule (s : Setup) (w : Words) (n : ℕ) (v : Views) (g : Ghost) : Type 0 where
   pub names_apart : NamesApart s
   pub claims : ClaimsRule s w.round w.cursor w.free v.ruling.phase w.row w.claimed w.head w.born g.life g.stage v.claims
-  pub labels : Labels s w.round v.ruling.phase w.name g.stage g.who
+  pub labels : Labels s w.round v.ruling.phase w.name g.stage g.who v.ruling.plan.target
   pub chains : ChainsRule s.elements w.round w.head w.hist w.born w.died g.life
   pub names : NamesRule s w.round v.ruling.phase w.name w.head w.hist w.born w.died g.life g.who v.read
   pub pins : PinsRule s w.round w.taken w.released n v.kind v.read g.pins
@@ -37,6 +38,9 @@ pub record Rule (s : Setup) (w : Words) (n : ℕ) (v : Views) (g : Ghost) : Type
   pub stock : StockRule w.round w.cursor w.free w.row g.life g.pins v.ruling
   pub note : NoteRule w.round w.taken g.life v.read v.ruling
   pub retired : RetiredKnown w.round w.died g.life v.work v.ruling.retired
+  pub plan : PlanRule s w.round v.ruling.phase g.who v.kind v.work v.ruling.plan
+  pub history : HistoryRule w.round g.who v.read v.ruling.history
+  pub drawn : DrawnRule v.ruling.phase w.cursor w.free w.row v.kind v.work
   -- a claim is the owner's or a worker's
   pub holders : (x j m : ℕ) (p : Progress) → g.stage x ≡ Held j m p → (j ≡ 0) ⊎ (v.kind j ≡ 1)
   -- blocks that the owner knows as free are so, but in the first half

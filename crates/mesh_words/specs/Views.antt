@@ -9,10 +9,23 @@ pub data Walk : Type 0 where
   At : ℕ → ℕ → ℕ → Bool → Walk
   Past : ℕ → ℕ → ℕ → Bool → Walk
 
+-- the lists of a round, of names: those that it needs, the least forest that holds them and the last finished round's, and the first members of the patches that the second half is to retire
+pub record Plan : Type 0 where
+  pub needs : List ℕ
+  pub target : List ℕ
+  pub retire : List ℕ
+
+-- no lists
+abbrev pub no_plan : Plan
+no_plan = record { needs = []; target = []; retire = [] }
+
 -- what a worker's pass knows of the round in work
 pub record Work : Type 0 where
   -- 1 in the first half of the round and 2 in the second
   pub half : ℕ
+  pub plan : Plan
+  -- the numbers that its draws found, each with one more than the block, or 0
+  pub drawn : List (ℕ × ℕ)
   -- places where it found elements, each with the element's name
   pub found : List (ℕ × ℕ)
   -- names that are bisected, and names that are not
@@ -62,6 +75,11 @@ pub record Read : Type 0 where
   pub notes : List Note
   -- places of elements at the pinned round, each with the element's name
   pub places : List (ℕ × ℕ)
+  -- the forests of the finished rounds that the pass was told, from round 0 on
+  pub told : List (List ℕ)
+  -- the last round that it saw finished, and the last finished round when it was made
+  pub seen : ℕ
+  pub made : ℕ
 
 -- what the owner knows
 pub record Ruling : Type 0 where
@@ -69,6 +87,10 @@ pub record Ruling : Type 0 where
   pub phase : ℕ
   -- the last finished round
   pub finished : ℕ
+  -- the forests of the finished rounds, from round 0 on, as lists of names
+  pub history : List (List ℕ)
+  -- the lists of the round in work
+  pub plan : Plan
   -- how many workers' and readers' passes are out
   pub workers : ℕ
   pub readers : ℕ

@@ -1,0 +1,106 @@
+-- The lists of a round, the history and the draws, across steps.
+use Rattle.std.proofs.Common.{◌≡◌, ℕ, zero, suc, ◌+◌, ◌<◌, ◌≤◌, List, [], ◌∷◌, ◌++◌, length, ◌⊎◌, refl, sym, ap, ◌∙◌, subst, inl, inr, ⊎_elim, arith}
+use Rattle.mesh_words.specs.Entries.{HasEntry, EntryAt}
+use Rattle.mesh_words.specs.Functions.{update}
+use Rattle.mesh_words.specs.Setup.{Setup}
+use Rattle.mesh_words.specs.Views.{Plan, Work, Read, Views}
+use Rattle.mesh_words.specs.Words.{Words}
+use Rattle.mesh_words.proofs.Functions.{update_cases}
+use Rattle.mesh_state.specs.Ghosts.{Ghost}
+use Rattle.mesh_state.specs.Bisections.{MayRead}
+use Rattle.mesh_state.specs.Lists.{Holds, IsClosed, IsTarget, PlanRule, HistoryRule, DrawnRule}
+use Rattle.mesh_state.specs.Rule.{Rule}
+use Rattle.mesh_state.proofs.Lawful.{parents_bisected, members_together}
+
+-- where the workers' passes keep the lists
+pub plan_on : (s : Setup) (round phase : ℕ) (who : ℕ → ℕ → ℕ) (kind kind' : ℕ → ℕ) (work work' : ℕ → Work) (p : Plan) → ((j : ℕ) → kind' j ≡ 1 → (work' j).plan ≡ p) → PlanRule s round phase who kind work p → PlanRule s round phase who kind' work' p
+plan_on s round phase who kind kind' work work' p same k = record { same = same; aim = k.aim; within = k.within; whole = k.whole; done = k.done }
+
+-- where one seat's knowledge changes, but not its lists
+pub plan_update : (s : Setup) (round phase : ℕ) (who : ℕ → ℕ → ℕ) (kind : ℕ → ℕ) (work : ℕ → Work) (p : Plan) (j : ℕ) (u : Work) → u.plan ≡ (work j).plan → PlanRule s round phase who kind work p → PlanRule s round phase who kind (update work j u) p
+plan_update s round phase who kind work p j u e k = plan_on s round phase who kind kind work (update work j u) p (update_cases (λ i x. kind i ≡ 1 → x.plan ≡ p) work j u (λ z. e ∙ k.same j z) (λ i _. k.same i)) k
+
+-- where one seat's knowledge changes, but not its draws
+pub drawn_update : (phase cursor free : ℕ) (row : ℕ → ℕ) (kind : ℕ → ℕ) (work : ℕ → Work) (j : ℕ) (u : Work) → u.drawn ≡ (work j).drawn → DrawnRule phase cursor free row kind work → DrawnRule phase cursor free row kind (update work j u)
+drawn_update phase cursor free row kind work j u e k = record {
+  only = λ i a b. same i ∙ k.only i a b;
+  drawn = λ i a b h. k.drawn i a b (was i a b h);
+  apart = λ i m a b c h l. k.apart i m a b c (was i a b h) (was m a c l);
+}
+  where
+    same : (i : ℕ) → (update work j u i).drawn ≡ (work i).drawn
+    same = update_cases (λ i x. x.drawn ≡ (work i).drawn) work j u e (λ _ _. refl)
+
+    was : (i a b : ℕ) → HasEntry (update work j u i).drawn (a, b) → HasEntry (work i).drawn (a, b)
+    was i a b h = subst (λ (l : List (ℕ × ℕ)). HasEntry l (a, b)) (same i) h
+
+-- there is no draw
+pub none_drawn : (phase cursor free : ℕ) (row : ℕ → ℕ) (kind : ℕ → ℕ) (work : ℕ → Work) → ((j : ℕ) → (work j).drawn ≡ []) → DrawnRule phase cursor free row kind work
+none_drawn phase cursor free row kind work none = record {
+  only = λ j _ _. none j;
+  drawn = λ j i b h. absurd (no j i b h);
+  apart = λ j k i b c h l. absurd (no j i b h);
+}
+  where
+    no : (j i b : ℕ) → HasEntry (work j).drawn (i, b) → ⊥
+    no j i b h = subst (λ (l : List (ℕ × ℕ)). HasEntry l (i, b)) (none j) h
+
+-- an entry's number is below the length
+pub entry_low : {A : Type 0} → (xs : List A) (i : ℕ) (a : A) → EntryAt xs i a → i < length xs
+entry_low [] i a e = absurd e
+entry_low (x ∷ xs) zero a e = omega arith
+entry_low (x ∷ xs) (suc i) a e = let l = entry_low xs i a e in omega arith
+
+-- while the finished rounds are what they were
+pub history_who : (round : ℕ) (who who' : ℕ → ℕ → ℕ) (read : ℕ → Read) (history : List (List ℕ)) → ((q : ℕ) → q ≤ round → who' q ≡ who q) → HistoryRule round who read history → HistoryRule round who' read history
+history_who round who who' read history old h = record {
+  rounds = h.rounds;
+  forests = λ q names e n. subst (λ (f : ℕ → ℕ). (HasEntry names n → Holds f n) × (Holds f n → HasEntry names n)) (sym (old q (let l = entry_low history q names e in let k = h.rounds in omega arith))) (h.forests q names e n);
+  told = h.told;
+  seen = h.seen;
+  made = h.made;
+}
+
+-- an entry of a list that has got one more
+pub entry_more : {A : Type 0} → (xs : List A) (y : A) (i : ℕ) (a : A) → EntryAt (xs ++ y ∷ []) i a → EntryAt xs i a ⊎ ((i ≡ length xs) × (a ≡ y))
+entry_more [] y zero a e = inr (refl, e)
+entry_more [] y (suc i) a e = absurd e
+entry_more (x ∷ xs) y zero a e = inl e
+entry_more (x ∷ xs) y (suc i) a e = ⊎_elim inl (λ t. let z = t.0 in inr (omega arith, t.1)) (entry_more xs y i a e)
+
+pub length_more : {A : Type 0} → (xs : List A) (y : A) → length (xs ++ y ∷ []) ≡ length xs + 1
+length_more [] y = refl
+length_more (x ∷ xs) y = let e = length_more xs y in omega arith
+
+-- the last entry is there
+pub entry_last : {A : Type 0} → (xs : List A) (i : ℕ) → length xs ≡ i + 1 → (a : A) × EntryAt xs i a
+entry_last [] i e = absurd (omega arith)
+entry_last (x ∷ xs) zero e = (x, refl)
+entry_last (x ∷ xs) (suc i) e = entry_last xs i (omega arith)
+
+-- where one reader's view changes
+pub history_read : (round : ℕ) (who : ℕ → ℕ → ℕ) (read : ℕ → Read) (history : List (List ℕ)) (j : ℕ) (u : Read) → ((rest : List (List ℕ)) × (history ≡ u.told ++ rest)) → ((u.seen ≤ round) × (length u.told ≤ u.seen + 1)) → ((u.made ≤ u.seen) × ((q : ℕ) → u.pin ≡ q + 1 → u.made ≤ q)) → HistoryRule round who read history → HistoryRule round who (update read j u) history
+history_read round who read history j u told seen made h = record {
+  rounds = h.rounds;
+  forests = h.forests;
+  told = update_cases (λ _ x. (rest : List (List ℕ)) × (history ≡ x.told ++ rest)) read j u told (λ i _. h.told i);
+  seen = update_cases (λ _ x. (x.seen ≤ round) × (length x.told ≤ x.seen + 1)) read j u seen (λ i _. h.seen i);
+  made = update_cases (λ _ x. (x.made ≤ x.seen) × ((q : ℕ) → x.pin ≡ q + 1 → x.made ≤ q)) read j u made (λ i _. h.made i);
+}
+
+-- the target stands over old names that are the same
+pub target_on : (s : Setup) (Old Old' : ℕ → Type 0) (p : Plan) → ((n : ℕ) → (Old n → Old' n) × (Old' n → Old n)) → IsTarget s Old p → IsTarget s Old' p
+target_on s Old Old' p same t = record {
+  closed = t.closed;
+  olds = λ n h. t.olds n ((same n).1 h);
+  needs = t.needs;
+  least = λ other c o k. t.least other c (λ n h. o n ((same n).0 h)) k;
+}
+
+-- at each round that may be read the bisected names are closed
+pub bisected_closed : (s : Setup) (w : Words) (n : ℕ) (v : Views) (g : Ghost) → Rule s w n v g → (q : ℕ) → MayRead w.round v.ruling.phase v.read q → IsClosed s (Holds (g.who q))
+bisected_closed s w n v g r q may = record {
+  parents = λ i c h. ⊎_elim (λ t. absurd (r.names_apart.top_child t.0 i c (sym t.2))) (λ t. let e = r.names_apart.child_one i t.0 c t.2 t.3 in (t.1, ap (g.who q) e.0 ∙ t.4)) (parents_bisected s w n v g r q may (s.child i c) h.0 h.1);
+  seconds = λ i k e h. (h.0, (members_together s w n v g r q may i k h.0 e).0 h.1);
+  firsts = λ i k e h. (h.0, (members_together s w n v g r q may i k h.0 e).1 h.1);
+}

@@ -1,0 +1,58 @@
+-- The lists of a round, the history of the finished rounds, and the numbers of draws.
+use Rattle.std.specs.Prelude.{◌≡◌, ℕ, ◌+◌, ◌<◌, ◌≤◌, Bool, List, [], ◌++◌, length, ◌⊎◌}
+use Rattle.mesh_words.specs.Entries.{HasEntry, EntryAt}
+use Rattle.mesh_words.specs.Setup.{Setup}
+use Rattle.mesh_words.specs.Views.{Plan, Work, Read}
+
+-- a block bisects the name, where `who` says which
+abbrev pub Holds : (ℕ → ℕ) → ℕ → Type 0
+Holds who n = (b : ℕ) × (who n ≡ b + 1)
+
+-- with each name the parent is there, and the other member of the patch
+pub record IsClosed (s : Setup) (Has : ℕ → Type 0) : Type 0 where
+  pub parents : (n : ℕ) (c : Bool) → Has (s.child n c) → Has n
+  pub seconds : (n k : ℕ) → s.mate n ≡ k + 1 → Has n → Has (k + 1)
+  pub firsts : (n k : ℕ) → s.mate n ≡ k + 1 → Has (k + 1) → Has n
+
+-- the target has the old names and the needs, is closed, and lies in each closed set of names that has these
+pub record IsTarget (s : Setup) (Old : ℕ → Type 0) (p : Plan) : Type 0 where
+  pub closed : IsClosed s (HasEntry p.target)
+  pub olds : (n : ℕ) → Old n → HasEntry p.target n
+  pub needs : (n : ℕ) → HasEntry p.needs n → HasEntry p.target n
+  pub least : (other : ℕ → ℕ) → IsClosed s (Holds other) → ((n : ℕ) → Old n → Holds other n) → ((n : ℕ) → HasEntry p.needs n → Holds other n) → (n : ℕ) → HasEntry p.target n → Holds other n
+
+-- n is a member of a patch whose first member is listed
+abbrev pub IsListed : Setup → List ℕ → ℕ → Type 0
+IsListed s list n = (k : ℕ) × HasEntry list k × ((n ≡ k) ⊎ ((i : ℕ) × (s.mate k ≡ i + 1) × (n ≡ i + 1)))
+
+-- the lists of the round in work
+pub record PlanRule (s : Setup) (round phase : ℕ) (who : ℕ → ℕ → ℕ) (kind : ℕ → ℕ) (work : ℕ → Work) (p : Plan) : Type 0 where
+  -- each worker's pass has them
+  pub same : (j : ℕ) → kind j ≡ 1 → (work j).plan ≡ p
+  pub aim : 0 < phase → phase < 4 → IsTarget s (Holds (who round)) p
+  -- the names that are bisected in the round are of the target
+  pub within : (n : ℕ) → 0 < phase → phase < 4 → Holds (who (round + 1)) n → HasEntry p.target n
+  -- from the second half on all of the target are, but of patches of the retire list
+  pub whole : (n : ℕ) → 1 < phase → phase < 4 → HasEntry p.target n → Holds (who (round + 1)) n ⊎ IsListed s p.retire n
+  -- of which none is when the round is closed
+  pub done : (n : ℕ) → phase ≡ 3 → IsListed s p.retire n → who (round + 1) n ≡ 0
+
+-- the forests of the finished rounds, and what passes were told of them
+pub record HistoryRule (round : ℕ) (who : ℕ → ℕ → ℕ) (read : ℕ → Read) (history : List (List ℕ)) : Type 0 where
+  pub rounds : length history ≡ round + 1
+  pub forests : (q : ℕ) (names : List ℕ) → EntryAt history q names → (n : ℕ) → (HasEntry names n → Holds (who q) n) × (Holds (who q) n → HasEntry names n)
+  -- what a pass was told is a prefix of the history
+  pub told : (j : ℕ) → (rest : List (List ℕ)) × (history ≡ (read j).told ++ rest)
+  -- what it saw is a finished round, and none before the last that it was told
+  pub seen : (j : ℕ) → ((read j).seen ≤ round) × (length (read j).told ≤ (read j).seen + 1)
+  -- its pin is of no round before the last finished one when it was made
+  pub made : (j : ℕ) → ((read j).made ≤ (read j).seen) × ((q : ℕ) → (read j).pin ≡ q + 1 → (read j).made ≤ q)
+
+-- the draws of the first half
+pub record DrawnRule (phase cursor free : ℕ) (row : ℕ → ℕ) (kind : ℕ → ℕ) (work : ℕ → Work) : Type 0 where
+  -- only workers' passes and the owner have draws
+  pub only : (j : ℕ) → (kind j ≡ 1 → ⊥) → (j ≡ 0 → ⊥) → (work j).drawn ≡ []
+  -- a draw's number is below CURSOR, and below FREE its block is that of the row
+  pub drawn : (j i b : ℕ) → HasEntry (work j).drawn (i, b) → (phase ≡ 1) × (i < cursor) × (i < free → b ≡ row i + 1) × (free ≤ i → b ≡ 0)
+  -- a draw is in one view
+  pub apart : (j k i b c : ℕ) → HasEntry (work j).drawn (i, b) → HasEntry (work k).drawn (i, c) → j ≡ k
