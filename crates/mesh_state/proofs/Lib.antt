@@ -25,6 +25,7 @@ pub mod JoiningReaders
 pub mod Sweeping
 pub mod TakingBack
 pub mod Fresh
+pub mod RoundLaws
 pub mod SquareNotes
 pub mod SquareLists
 pub mod SquareRound1

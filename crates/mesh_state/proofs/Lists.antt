@@ -72,11 +72,11 @@ pub length_more : {A : Type 0} → (xs : List A) (y : A) → length (xs ++ y ∷
 length_more [] y = refl
 length_more (x ∷ xs) y = let e = length_more xs y in omega arith
 
--- the last entry is there
-pub entry_last : {A : Type 0} → (xs : List A) (i : ℕ) → length xs ≡ i + 1 → (a : A) × EntryAt xs i a
-entry_last [] i e = absurd (omega arith)
-entry_last (x ∷ xs) zero e = (x, refl)
-entry_last (x ∷ xs) (suc i) e = entry_last xs i (omega arith)
+-- each entry below the length is there
+pub entry_at : {A : Type 0} → (xs : List A) (i : ℕ) → i < length xs → (a : A) × EntryAt xs i a
+entry_at [] i l = absurd (omega arith)
+entry_at (x ∷ xs) zero l = (x, refl)
+entry_at (x ∷ xs) (suc i) l = entry_at xs i (omega arith)
 
 -- where one reader's view changes
 pub history_read : (round : ℕ) (who : ℕ → ℕ → ℕ) (read : ℕ → Read) (history : List (List ℕ)) (j : ℕ) (u : Read) → ((rest : List (List ℕ)) × (history ≡ u.told ++ rest)) → ((u.seen ≤ round) × (length u.told ≤ u.seen + 1)) → ((u.made ≤ u.seen) × ((q : ℕ) → u.pin ≡ q + 1 → u.made ≤ q)) → HistoryRule round who read history → HistoryRule round who (update read j u) history

@@ -11,4 +11,5 @@ pub mod Lists
 pub mod Rule
 pub mod Fresh
 pub mod Laws
+pub mod RoundLaws
 pub mod SquareRun

@@ -1,6 +1,7 @@
 //! Laws over the definitions alone.
 ghost use Rattle.mesh_state.specs.Fresh.{FreshIsLawful};
 ghost use Rattle.mesh_state.specs.SquareRun.{SquareRuns};
+ghost use Rattle.mesh_state.specs.RoundLaws.{BetweenForests, BisectedClosed, ChainsStand, ClaimsAimed, DiffersByPatches, DrawsApart, HistoryRight, ListsKnown, NotesInHistory, QuietRound, StandingKept, ToldPrefix, WalksBegin};
 ghost use Rattle.mesh_state.specs.Laws.{ClearRounds, DrawsBounded, FreeRows, MembersTogether, NoEarlyReuse, NotesAgree, OneClaim, OneHolder, ParentsBisected, PinsBounded, PlacesAgree, WalksAgree, WalksEnd};
 
 /// What holds in each lawful state, and so between any two steps; that the fresh table is lawful,
@@ -19,6 +20,19 @@ pub fn laws()
     ensures notes { NotesAgree }
     ensures reuse { NoEarlyReuse }
     ensures clear { ClearRounds }
+    ensures between { BetweenForests }
+    ensures differs { DiffersByPatches }
+    ensures closed { BisectedClosed }
+    ensures aimed { ClaimsAimed }
+    ensures lists { ListsKnown }
+    ensures history { HistoryRight }
+    ensures told { ToldPrefix }
+    ensures noted { NotesInHistory }
+    ensures drawn { DrawsApart }
+    ensures quiet { QuietRound }
+    ensures begin { WalksBegin }
+    ensures chains { ChainsStand }
+    ensures standing { StandingKept }
     ensures fresh { FreshIsLawful }
     ensures square { SquareRuns }
 {}

@@ -1,5 +1,6 @@
 use Rattle.mesh_state.proofs.Fresh.{fresh_is_lawful}
 use Rattle.mesh_state.proofs.Lawful.{bounded, one_holder, one_claim, draws_bounded, free_rows, walks_agree, walks_end, parents_bisected, members_together, places_agree, notes_agree, no_early_reuse, clear_rounds}
+use Rattle.mesh_state.proofs.RoundLaws.{between, differs, closed, aimed, lists_known, history_right, told_prefix, notes_told, draws_apart, quiet_round, walks_begin, chains_stand, standing_kept}
 use Rattle.mesh_state.proofs.SquareRound3.{square_runs}
 use Rattle.mesh_state.proofs.laws.laws.Goals as goal
 
@@ -47,3 +48,42 @@ returns-clause-fresh c = fresh_is_lawful
 
 pub returns-clause-square : goal.returns-clause-square
 returns-clause-square c = square_runs
+
+pub returns-clause-between : goal.returns-clause-between
+returns-clause-between c = between
+
+pub returns-clause-differs : goal.returns-clause-differs
+returns-clause-differs c = differs
+
+pub returns-clause-closed : goal.returns-clause-closed
+returns-clause-closed c = closed
+
+pub returns-clause-aimed : goal.returns-clause-aimed
+returns-clause-aimed c = aimed
+
+pub returns-clause-lists : goal.returns-clause-lists
+returns-clause-lists c = lists_known
+
+pub returns-clause-history : goal.returns-clause-history
+returns-clause-history c = history_right
+
+pub returns-clause-told : goal.returns-clause-told
+returns-clause-told c = told_prefix
+
+pub returns-clause-noted : goal.returns-clause-noted
+returns-clause-noted c = notes_told
+
+pub returns-clause-drawn : goal.returns-clause-drawn
+returns-clause-drawn c = draws_apart
+
+pub returns-clause-quiet : goal.returns-clause-quiet
+returns-clause-quiet c = quiet_round
+
+pub returns-clause-begin : goal.returns-clause-begin
+returns-clause-begin c = walks_begin
+
+pub returns-clause-chains : goal.returns-clause-chains
+returns-clause-chains c = chains_stand
+
+pub returns-clause-standing : goal.returns-clause-standing
+returns-clause-standing c = standing_kept
