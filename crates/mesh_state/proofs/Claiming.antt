@@ -14,6 +14,7 @@ use Rattle.mesh_state.specs.Ghosts.{Stage, Open, Held, Ghost}
 use Rattle.mesh_state.specs.Claims.{Shape, draws_of, bit_of}
 use Rattle.mesh_state.specs.Bisections.{IsPlaceOf, MayRead}
 use Rattle.mesh_state.specs.Sure.{GuardsBlock, GuardsHead, SureRule}
+use Rattle.mesh_state.proofs.Lists.{crew_goes}
 use Rattle.mesh_state.specs.Rule.{Rule}
 use Rattle.mesh_state.proofs.FoundAgain.{one_more}
 use Rattle.mesh_state.proofs.HeldClaims.{not_open, held_one}
@@ -122,6 +123,7 @@ module _ (s : Setup) (w : Words) (n : ℕ) (v : Views) (g : Ghost) (r : Rule s w
       plan = r.plan;
       history = r.history;
       drawn = r.drawn;
+      crew = crew_goes s w.round v.ruling.phase v.kind v.work v.work g.stage v.ruling.lone x j m Claimed kind (λ _. refl) r.crew;
       holders = λ z i a p h. ⊎_elim (λ t. inr (ap v.kind t.1 ∙ kind)) (λ t. r.holders z i a p t.1) (back z i a p h);
       hand = r.hand;
     }

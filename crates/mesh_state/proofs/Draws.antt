@@ -17,7 +17,7 @@ use Rattle.mesh_state.specs.Claims.{Shape, linked, draws, draws_of, bit_of}
 use Rattle.mesh_state.specs.Bisections.{MayRead}
 use Rattle.mesh_state.specs.Sure.{GuardsBlock, GuardsHead, SureRule}
 use Rattle.mesh_state.specs.Work.{WorkRule, WalkRule}
-use Rattle.mesh_state.proofs.Lists.{plan_update}
+use Rattle.mesh_state.proofs.Lists.{plan_update, crew_goes, number_kept}
 use Rattle.mesh_state.specs.Rule.{Rule}
 use Rattle.mesh_state.proofs.FoundAgain.{placed, chained_stands, standing, reach_on, names_on, goes_on, workers_on, Moves}
 use Rattle.mesh_state.proofs.HeldClaims.{not_open, held_one, free_not, free_loose, loose_not, uses, used_life, shape_on, moved_on_has, moved_on_here, moved_on_keeps, place_of}
@@ -145,6 +145,7 @@ module _ (s : Setup) (w : Words) (n : ℕ) (v : Views) (g : Ghost) (r : Rule s w
           apart = λ a c i b f h l. ⊎_elim (λ t. ⊎_elim (λ u. t.0 ∙ sym u.0) (λ u. let z = (r.drawn.drawn c i f u).1 in let y = t.1 in absurd (omega arith)) (whose c i f l))
               (λ t. ⊎_elim (λ u. let z = (r.drawn.drawn a i b t).1 in let y = u.1 in absurd (omega arith)) (λ u. r.drawn.apart a c i b f t u) (whose c i f l)) (whose a i b h);
         };
+        crew = crew_goes s w.round v.ruling.phase v.kind v.work (update v.work j noted) g.stage v.ruling.lone x j m q kind (number_kept v.work j noted refl) r.crew;
         holders = λ z i k p h. ⊎_elim (λ t. inr (ap v.kind t.1 ∙ kind)) (λ t. r.holders z i k p t.1) (back z i k p h);
         hand = λ c h. absurd ((r.hand c h).0 one);
       }

@@ -15,6 +15,7 @@ use Rattle.mesh_state.specs.Chains.{IsPlace, ChainsRule}
 use Rattle.mesh_state.specs.Claims.{Shape, linked, draws}
 use Rattle.mesh_state.specs.Bisections.{MayRead, IsPatch}
 use Rattle.mesh_state.specs.Sure.{GuardsBlock, GuardsHead}
+use Rattle.mesh_state.proofs.Lists.{crew_goes}
 use Rattle.mesh_state.specs.Rule.{Rule}
 use Rattle.mesh_state.proofs.FoundAgain.{one_more, placed, seen_live, names_on, goes_on, workers_on, Moves}
 use Rattle.mesh_state.proofs.ChainSteps.{links_first, named}
@@ -150,6 +151,7 @@ module _ (s : Setup) (w : Words) (n : ℕ) (v : Views) (g : Ghost) (r : Rule s w
       plan = r.plan;
       history = r.history;
       drawn = r.drawn;
+      crew = crew_goes s w.round v.ruling.phase v.kind v.work v.work g.stage v.ruling.lone x j m q kind (λ _. refl) r.crew;
       holders = λ z i c p h. dite (ℕ_discrete z x) (λ f. let t = (held_one j i m c q p (sym (update_at g.stage x z (Held j m q) f) ∙ h)).0 in inr (ap v.kind (sym t) ∙ kind)) (λ o. r.holders z i c p (sym (update_other g.stage x z (Held j m q) o) ∙ h));
       hand = λ c h. absurd ((r.hand c h).0 one);
     }

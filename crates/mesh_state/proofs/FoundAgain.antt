@@ -238,8 +238,8 @@ workers_who s round phase name hist born died life who who' same more kind seat 
     walk_on (Past x n b t) h = (h.0, h.1, place_on x n h.2, λ c w. h.3 c (sym (ap (λ (f : ℕ → ℕ). f n) same) ∙ w))
 
 -- a seat that does not walk
-pub walks_idle : (s : Setup) (round phase : ℕ) (name : ℕ → ℕ) (hist : ℕ → Node) (born died : ℕ → ℕ) (life : ℕ → Life) (who : ℕ → ℕ → ℕ) (kind seat half : ℕ) (plan : Plan) → (kind ≡ 1 → half ≡ phase) → WalkRule s round phase name hist born died life who kind seat (record idle { half = half; plan = plan })
-walks_idle s round phase name hist born died life who kind seat half plan said = record { half = said; still = λ _. (refl, refl); only = λ _ _. (refl, refl, refl, refl); absent = λ n h. absurd h; stood = λ x n h. absurd h; had = λ b n h. absurd h; went = λ b h. absurd h; walk = tt }
+pub walks_idle : (s : Setup) (round phase : ℕ) (name : ℕ → ℕ) (hist : ℕ → Node) (born died : ℕ → ℕ) (life : ℕ → Life) (who : ℕ → ℕ → ℕ) (kind seat half number : ℕ) (plan : Plan) → (kind ≡ 1 → half ≡ phase) → WalkRule s round phase name hist born died life who kind seat (record idle { half = half; number = number; plan = plan })
+walks_idle s round phase name hist born died life who kind seat half number plan said = record { half = said; still = λ _. (refl, refl); only = λ _ _. (refl, refl, refl, refl); absent = λ n h. absurd h; stood = λ x n h. absurd h; had = λ b n h. absurd h; went = λ b h. absurd h; walk = tt }
 
 -- a seat that is no worker's keeps what it knows of the last finished round
 pub walks_home : (s : Setup) (round phase phase' : ℕ) (name : ℕ → ℕ) (hist hist' : ℕ → Node) (born died born' died' : ℕ → ℕ) (life life' : ℕ → Life) (who : ℕ → ℕ → ℕ) (kind seat : ℕ) (v : Work) → (kind ≡ 1 → ⊥) → WalkRule s round phase name hist born died life who kind seat v → WalkRule s round phase' name hist' born' died' life' who kind seat v

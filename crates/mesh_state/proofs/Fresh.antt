@@ -10,7 +10,7 @@ use Rattle.mesh_words.specs.Views.{no_plan}
 use Rattle.mesh_words.specs.Words.{node}
 use Rattle.mesh_state.specs.Ghosts.{Open, Free, Placed, Undone}
 use Rattle.mesh_state.specs.Lists.{Holds}
-use Rattle.mesh_state.proofs.Lists.{none_drawn}
+use Rattle.mesh_state.proofs.Lists.{none_drawn, crew_free}
 use Rattle.mesh_state.specs.Rule.{Rule}
 use Rattle.mesh_state.proofs.FoundAgain.{walks_idle}
 use Rattle.mesh_state.proofs.HeldClaims.{not_open}
@@ -62,7 +62,7 @@ starts s a = record {
   };
   pins = record { now = refl; later = λ q l. (refl, refl); count = λ q. let z : one_where 0 (q + 1) ≡ 0 = ap (λ (t : Bool). cond {A = ℕ} t 1 0) (ne_eqb 0 (q + 1) (λ (e : 0 ≡ q + 1). omega arith)) in omega arith; past = λ j q e. absurd (omega arith); few = λ j l. few j l; readers = λ j o. (refl, refl); bit = λ j. omega arith; bound = omega arith };
   works = λ j. record { only = λ _ _. (refl, refl, refl, refl); found = λ x k h. absurd h; known = λ k h. absurd h; open_ = λ k h. absurd h; given = λ b k h. absurd h };
-  walks = λ j. walks_idle s 0 0 (λ _. 0) (λ _. node 0 0) (λ _. 0) (λ _. 0) (λ _. Free) (λ _ _. 0) (fresh_kind j) j 0 no_plan (λ _. refl);
+  walks = λ j. walks_idle s 0 0 (λ _. 0) (λ _. node 0 0) (λ _. 0) (λ _. 0) (λ _. Free) (λ _ _. 0) (fresh_kind j) j 0 0 no_plan (λ _. refl);
   sure = sure_is;
   goes = λ j. record { went = λ q b p h. absurd h; walk = λ q p. tt; places = λ q x k p h. absurd h; yes_notes = λ k q h. absurd h; no_notes = λ k q h. absurd h };
   rules = record { owner = (refl, omega arith); one = λ j e. only j e; workers = refl; readers = refl; few_readers = omega arith; halves = λ _ _. refl; clear = λ q h. absurd h };
@@ -72,6 +72,7 @@ starts s a = record {
   plan = record { same = λ j e. absurd (not_one j e); aim = λ l. absurd (omega arith); within = λ i l. absurd (omega arith); whole = λ i l. absurd (omega arith); done = λ i e. absurd (omega arith) };
   history = record { rounds = refl; forests = λ q names e i. empty q names e i; told = λ j. ([] ∷ [], refl); seen = λ j. (omega arith, omega arith); made = λ j. (omega arith, λ q e. absurd (omega arith)) };
   drawn = none_drawn 0 0 s.pool (fresh_words s.pool).row fresh_kind (λ _. idle) (λ j. refl);
+  crew = crew_free s 0 0 fresh_kind (λ _. idle) (λ _. Open) 0 (omega arith, λ l. absurd (omega arith)) (λ e. absurd (omega arith));
   holders = λ x j m p h. absurd (not_open j m p (sym h));
   hand = λ b h. ((λ e. omega arith), refl);
 }

@@ -70,11 +70,11 @@ module _ (s : Setup) (w : Words) (n : ℕ) (v : Views) (g : Ghost) (r : Rule s w
   kind_sum k = sum_update n (λ i. one_where (v.kind i) k) (λ i. one_where (update v.kind j 0 i) k) j inside (λ i o. ap (λ (x : ℕ). one_where x k) (update_other v.kind j i 0 o)) ∙ ap (λ (x : ℕ). sum_below n (λ i. one_where (v.kind i) k) + one_where x k) (update_same v.kind j 0)
 
   abbrev joined : Work
-  joined = record { half = 0; plan = no_plan; drawn = (v.work 0).drawn ++ (v.work j).drawn; found = (v.work 0).found ++ (v.work j).found; known = (v.work 0).known ++ (v.work j).known; open_ = (v.work 0).open_ ++ (v.work j).open_; given = (v.work 0).given ++ (v.work j).given; absent = (v.work 0).absent ++ (v.work j).absent; stood = (v.work 0).stood ++ (v.work j).stood; had = (v.work 0).had ++ (v.work j).had; retired = (v.work 0).retired ++ (v.work j).retired; went = []; walk = Still }
+  joined = record { half = 0; number = 0; plan = no_plan; drawn = (v.work 0).drawn ++ (v.work j).drawn; found = (v.work 0).found ++ (v.work j).found; known = (v.work 0).known ++ (v.work j).known; open_ = (v.work 0).open_ ++ (v.work j).open_; given = (v.work 0).given ++ (v.work j).given; absent = (v.work 0).absent ++ (v.work j).absent; stood = (v.work 0).stood ++ (v.work j).stood; had = (v.work 0).had ++ (v.work j).had; retired = (v.work 0).retired ++ (v.work j).retired; went = []; walk = Still }
 
   -- the owner has the claims and the knowledge of both, and is sure of no word
   pub joins : (workers : ℕ) → v.ruling.workers ≡ workers + 1
-      → Rule s w n (record v { kind = update v.kind j 0; claims = update (update v.claims 0 (v.claims 0 ++ v.claims j)) j []; work = update (update v.work 0 record { half = 0; plan = no_plan; drawn = (v.work 0).drawn ++ (v.work j).drawn; found = (v.work 0).found ++ (v.work j).found; known = (v.work 0).known ++ (v.work j).known; open_ = (v.work 0).open_ ++ (v.work j).open_; given = (v.work 0).given ++ (v.work j).given; absent = (v.work 0).absent ++ (v.work j).absent; stood = (v.work 0).stood ++ (v.work j).stood; had = (v.work 0).had ++ (v.work j).had; retired = (v.work 0).retired ++ (v.work j).retired; went = []; walk = Still }) j idle; sure = update (update v.sure 0 unsure) j unsure; ruling = record v.ruling { workers = workers } }) (record g { stage = λ x. moved j (g.stage x) })
+      → Rule s w n (record v { kind = update v.kind j 0; claims = update (update v.claims 0 (v.claims 0 ++ v.claims j)) j []; work = update (update v.work 0 record { half = 0; number = 0; plan = no_plan; drawn = (v.work 0).drawn ++ (v.work j).drawn; found = (v.work 0).found ++ (v.work j).found; known = (v.work 0).known ++ (v.work j).known; open_ = (v.work 0).open_ ++ (v.work j).open_; given = (v.work 0).given ++ (v.work j).given; absent = (v.work 0).absent ++ (v.work j).absent; stood = (v.work 0).stood ++ (v.work j).stood; had = (v.work 0).had ++ (v.work j).had; retired = (v.work 0).retired ++ (v.work j).retired; went = []; walk = Still }) j idle; sure = update (update v.sure 0 unsure) j unsure; ruling = record v.ruling { workers = workers; lone = 0 } }) (record g { stage = λ x. moved j (g.stage x) })
   joins workers one = record {
     names_apart = r.names_apart;
     claims = record {
@@ -122,7 +122,7 @@ module _ (s : Setup) (w : Words) (n : ℕ) (v : Views) (g : Ghost) (r : Rule s w
           went = λ c h. absurd h;
           walk = tt;
         })
-        (walks_idle s w.round v.ruling.phase w.name w.hist w.born w.died g.life g.who (K j) j 0 no_plan (λ e. let z = update_same v.kind j 0 in absurd (omega arith)))
+        (walks_idle s w.round v.ruling.phase w.name w.hist w.born w.died g.life g.who (K j) j 0 0 no_plan (λ e. let z = update_same v.kind j 0 in absurd (omega arith)))
         (λ i a b. let t = r.walks i in record { still = λ o. t.still (λ k. o (update_other v.kind j i 0 b ∙ k)); only = λ o. t.only (λ k. o (update_other v.kind j i 0 b ∙ k)); half = λ e. t.half (sym (update_other v.kind j i 0 b) ∙ e); absent = t.absent; stood = t.stood; had = t.had; went = t.went; walk = t.walk }) i;
     sure = two_at (λ i u. SureRule s.elements workers w.head w.hist w.born w.died w.name w.row stage' i u) v.sure unsure unsure (nothing_sure 0) (nothing_sure j) (λ i a b. let t = r.sure i in record {
       head_is = λ z l f h. t.head_is z l f (head_was i a z h);
@@ -154,10 +154,18 @@ module _ (s : Setup) (w : Words) (n : ℕ) (v : Views) (g : Ghost) (r : Rule s w
       apart = λ i k a b c h l. let t = whose i a b h in let u = whose k a c l in let e = r.drawn.apart t.1 u.1 a b c t.2 u.2 in
           ⊎_elim (λ x. ⊎_elim (λ y. sym x ∙ e ∙ y) (λ y. absurd (t.0 (sym x ∙ e ∙ y.1))) u.3) (λ x. ⊎_elim (λ y. absurd (u.0 (sym y ∙ sym e ∙ x.1))) (λ y. x.0 ∙ sym y.0) u.3) t.3;
     };
+    crew = let K : ℕ → ℕ = update v.kind j 0 in record { rounds = r.crew.rounds; alone = λ i one k z. absurd (last i one k z); none = λ i one l k z. last i one k z };
     holders = λ x i m p h. ⊎_elim (λ t. ⊎_elim inl (λ k. inr (update_other v.kind j i 0 t.0 ∙ k)) (r.holders x i m p t.1)) (λ t. inl t.0) (moved_back j (g.stage x) i m p h);
     hand = r.hand;
   }
     where
+      -- no pass of worker 0 is left: it was alone
+      last : (i : ℕ) → v.ruling.phase ≡ 1 → update v.kind j 0 i ≡ 1 → (update (update v.work 0 joined) j idle i).number ≡ 0 → ⊥
+      last i one k z = dite (ℕ_discrete i j) (λ e. let y = update_at v.kind j i 0 e in omega arith) (λ o. dite (ℕ_discrete i 0)
+          (λ e. let y : v.kind i ≡ v.kind 0 = ap v.kind e in let x = r.rules.owner.0 in let u = sym (update_other v.kind j i 0 o) ∙ k in omega arith)
+          (λ far0. let u = sym (update_other v.kind j i 0 o) ∙ k in let same = ap (λ (x : Work). x.number) (update_other (update v.work 0 joined) j i idle o ∙ update_other v.work 0 i joined far0) in
+          o (sym ((r.crew.alone i one u (sym same ∙ z)).0 j kind))))
+
       -- the seat that had a draw before
       whose : (i a b : ℕ) → HasEntry (update (update v.work 0 joined) j idle i).drawn (a, b) → (i ≢ j) × (k : ℕ) × HasEntry (v.work k).drawn (a, b) × ((k ≡ i) ⊎ ((i ≡ 0) × (k ≡ j)))
       whose i a b = two_at (λ i u. HasEntry u.drawn (a, b) → (i ≢ j) × (k : ℕ) × HasEntry (v.work k).drawn (a, b) × ((k ≡ i) ⊎ ((i ≡ 0) × (k ≡ j)))) v.work joined idle

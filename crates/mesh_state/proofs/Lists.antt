@@ -1,14 +1,18 @@
 -- The lists of a round, the history and the draws, across steps.
 use Rattle.std.proofs.Common.{◌≡◌, ℕ, zero, suc, ◌+◌, ◌<◌, ◌≤◌, List, [], ◌∷◌, ◌++◌, length, ◌⊎◌, refl, sym, ap, ◌∙◌, subst, inl, inr, ⊎_elim, arith}
+use mathlib.Core.Logic.{dite}
+use native.Mathlib.Decide.{ℕ_discrete}
 use Rattle.mesh_words.specs.Entries.{HasEntry, EntryAt}
 use Rattle.mesh_words.specs.Functions.{update}
 use Rattle.mesh_words.specs.Setup.{Setup}
 use Rattle.mesh_words.specs.Views.{Plan, Work, Read, Views}
 use Rattle.mesh_words.specs.Words.{Words}
-use Rattle.mesh_words.proofs.Functions.{update_cases}
-use Rattle.mesh_state.specs.Ghosts.{Ghost}
+use Rattle.mesh_words.proofs.Functions.{update_at, update_cases, update_other}
+use Rattle.mesh_words.specs.Claims.{Progress}
+use Rattle.mesh_state.specs.Ghosts.{Stage, Held, Ghost}
+use Rattle.mesh_state.proofs.HeldClaims.{held_one}
 use Rattle.mesh_state.specs.Bisections.{MayRead}
-use Rattle.mesh_state.specs.Lists.{Holds, IsClosed, IsTarget, PlanRule, HistoryRule, DrawnRule}
+use Rattle.mesh_state.specs.Lists.{Holds, IsClosed, IsTarget, PlanRule, HistoryRule, DrawnRule, CrewRule}
 use Rattle.mesh_state.specs.Rule.{Rule}
 use Rattle.mesh_state.proofs.Lawful.{parents_bisected, members_together}
 
@@ -104,3 +108,26 @@ bisected_closed s w n v g r q may = record {
   seconds = λ i k e h. (h.0, (members_together s w n v g r q may i k h.0 e).0 h.1);
   firsts = λ i k e h. (h.0, (members_together s w n v g r q may i k h.0 e).1 h.1);
 }
+
+pub number_kept : (work : ℕ → Work) (j : ℕ) (u : Work) → u.number ≡ (work j).number → (i : ℕ) → (update work j u i).number ≡ (work i).number
+number_kept work j u e = update_cases (λ i x. x.number ≡ (work i).number) work j u e (λ _ _. refl)
+
+-- where a worker's claim goes on, and its number stays
+pub crew_goes : (s : Setup) (round phase : ℕ) (kind : ℕ → ℕ) (work work' : ℕ → Work) (stage : ℕ → Stage) (lone x j m : ℕ) (q : Progress) → kind j ≡ 1 → ((i : ℕ) → (work' i).number ≡ (work i).number) → CrewRule s round phase kind work stage lone → CrewRule s round phase kind work' (update stage x (Held j m q)) lone
+crew_goes s round phase kind work work' stage lone x j m q k same c = record {
+  rounds = c.rounds;
+  alone = λ i one a z. let t = c.alone i one a (sym (same i) ∙ z) in (t.0, λ y l n p h. dite (ℕ_discrete y x) (λ e. inl (sym (held_one j l m n q p (sym (update_at stage x y (Held j m q) e) ∙ h)).0 ∙ t.0 j k)) (λ o. t.1 y l n p (sym (update_other stage x y (Held j m q) o) ∙ h)));
+  none = λ i one l a z. c.none i one l a (sym (same i) ∙ z);
+}
+
+-- where one seat's knowledge changes, but not its number
+pub crew_update : (s : Setup) (round phase : ℕ) (kind : ℕ → ℕ) (work : ℕ → Work) (stage : ℕ → Stage) (lone j : ℕ) (u : Work) → u.number ≡ (work j).number → CrewRule s round phase kind work stage lone → CrewRule s round phase kind (update work j u) stage lone
+crew_update s round phase kind work stage lone j u e c = record {
+  rounds = c.rounds;
+  alone = λ i one a z. c.alone i one a (sym (number_kept work j u e i) ∙ z);
+  none = λ i one l a z. c.none i one l a (sym (number_kept work j u e i) ∙ z);
+}
+
+-- out of the first half
+pub crew_free : (s : Setup) (round phase : ℕ) (kind : ℕ → ℕ) (work : ℕ → Work) (stage : ℕ → Stage) (lone : ℕ) → (round ≤ s.rounds) × (0 < phase → round < s.rounds) → (phase ≡ 1 → (j : ℕ) → kind j ≡ 1 → ⊥) → CrewRule s round phase kind work stage lone
+crew_free s round phase kind work stage lone low out = record { rounds = low; alone = λ j one k. absurd (out one j k); none = λ j one l k. absurd (out one j k) }

@@ -34,7 +34,7 @@ module _ (s : Setup) (w : Words) (n : ℕ) (v : Views) (g : Ghost) (r : Rule s w
   opened : (open_ : List ℕ) → ((i : ℕ) → HasEntry open_ i → g.who d i ≡ 0) → Rule s w n (record v { work = update v.work j (record (v.work j) { open_ = open_ }) }) g
   opened open_ ok = reworks s w n v g r j (record (v.work j) { open_ = open_ })
       record { only = λ o. absurd (o kind); found = (r.works j).found; known = (r.works j).known; open_ = λ i h. (two, ok i h); given = (r.works j).given }
-      (let k = r.walks j in record { still = k.still; only = k.only; half = k.half; absent = k.absent; stood = k.stood; had = k.had; went = k.went; walk = k.walk }) refl refl refl
+      (let k = r.walks j in record { still = k.still; only = k.only; half = k.half; absent = k.absent; stood = k.stood; had = k.had; went = k.went; walk = k.walk }) refl refl refl refl
 
   opens : (k : ℕ) → g.who d k ≡ 0 → Rule s w n (record v { work = update v.work j (record (v.work j) { open_ = k ∷ u.open_ }) }) g
   opens k z = opened (k ∷ u.open_) (λ i h. ⊎_elim (λ e. ap (g.who d) e ∙ z) (λ t. ((r.works j).open_ i t).1) h)
@@ -58,7 +58,7 @@ module _ (s : Setup) (w : Words) (n : ℕ) (v : Views) (g : Ghost) (r : Rule s w
             (two, first a.0 a.2, (p.0, p.1, p.2, c.0, bo, ⊎_elim inl (λ q. inr (let z = (l (omega arith)).2 in omega arith)) c.2)))
             ((r.works j).given c' i) m;
       }
-      (let k = r.walks j in record { still = k.still; only = k.only; half = k.half; absent = k.absent; stood = k.stood; had = k.had; went = k.went; walk = k.walk }) refl refl refl
+      (let k = r.walks j in record { still = k.still; only = k.only; half = k.half; absent = k.absent; stood = k.stood; had = k.had; went = k.went; walk = k.walk }) refl refl refl refl
     where
       -- the leading name is the first member's
       first : (t : Bool) → w.name (member_of b t) ≡ k → w.name (member_of b false) ≡ k

@@ -1,5 +1,5 @@
 -- A pass is made, and a pass ends.
-use Rattle.std.proofs.Common.{◌≡◌, ◌≢◌, ℕ, suc, ◌+◌, ◌<◌, ◌≤◌, List, [], ◌⊎◌, refl, sym, ap, ◌∙◌, subst, inl, inr, ⊎_elim, arith}
+use Rattle.std.proofs.Common.{Bool, cond, ◌==◌, eq-eqb, ne_eqb, ◌≡◌, ◌≢◌, ℕ, suc, ◌+◌, ◌<◌, ◌≤◌, List, [], ◌⊎◌, refl, sym, ap, ◌∙◌, subst, inl, inr, ⊎_elim, arith}
 use Rattle.std.proofs.lemmas.List.{append-nil}
 use Rattle.mesh_state.proofs.Lists.{plan_on, history_read}
 use mathlib.Core.Logic.{dite}
@@ -8,8 +8,8 @@ use Rattle.mesh_words.specs.Setup.{Setup}
 use Rattle.mesh_words.specs.Functions.{update}
 use Rattle.mesh_words.specs.Sums.{sum_below, one_where}
 use Rattle.mesh_words.specs.Words.{Words}
-use Rattle.mesh_words.specs.Views.{Views, Work, unsure, Note, Read}
-use Rattle.mesh_words.specs.Claims.{Progress, claim}
+use Rattle.mesh_words.specs.Views.{Views, Work, Sure, unsure, Note, Read}
+use Rattle.mesh_words.specs.Claims.{Progress, Living, claim}
 use Rattle.mesh_words.specs.Entries.{HasEntry}
 use Rattle.mesh_words.proofs.Functions.{update_same, update_at, update_other, update_cases}
 use Rattle.mesh_words.proofs.Sums.{sum_same}
@@ -21,6 +21,7 @@ use Rattle.mesh_state.specs.Readers.{ReaderRule}
 use Rattle.mesh_state.specs.Owner.{NoneWent}
 use Rattle.mesh_state.specs.Rule.{Rule}
 use Rattle.mesh_state.proofs.FoundAgain.{walks_idle}
+use Rattle.mesh_state.proofs.Across.{some_worker}
 use Rattle.mesh_words.proofs.Sums.{one_if, none_if}
 use Rattle.mesh_state.specs.Fresh.{idle, blank}
 
@@ -50,8 +51,8 @@ module _ (s : Setup) (w : Words) (n : ℕ) (v : Views) (g : Ghost) (r : Rule s w
     kind' = update v.kind n kind
 
     -- what the new pass knows: a worker's the half and the lists, each the history
-    abbrev new_work : Work
-    new_work = record idle { half = v.ruling.phase; plan = v.ruling.plan }
+    abbrev new_work : ℕ → Work
+    new_work number = record idle { half = v.ruling.phase; number = number; plan = v.ruling.plan }
 
     abbrev new_read : List Note → Read
     new_read notes = record (blank notes) { told = v.ruling.history; seen = v.ruling.finished; made = v.ruling.finished }
@@ -62,10 +63,20 @@ module _ (s : Setup) (w : Words) (n : ℕ) (v : Views) (g : Ghost) (r : Rule s w
     counted : (k : ℕ) → sum_below (n + 1) (λ j. one_where (kind' j) k) ≡ sum_below n (λ j. one_where (v.kind j) k) + one_where kind k
     counted k = one_more_seat (λ j. one_where (v.kind j) k) (λ j. one_where (kind' j) k) (λ i l. ap (λ (x : ℕ). one_where x k) (kind_old i l)) ∙ ap (λ (x : ℕ). sum_below n (λ j. one_where (v.kind j) k) + one_where x k) (update_same v.kind n kind)
 
+    -- what the owner stays sure of: all, where the pass is a reader's
+    abbrev keep : Sure
+    keep = cond (kind == 2) (v.sure 0) unsure
+
+    -- Who may be at work besides: a pass of worker 0 is made in the first half while no other worker's is out and each claim of the owner has its living block, and none is made while it is out
+    abbrev pub MayJoin : ℕ → ℕ → Type 0
+    MayJoin number lone = (((kind ≡ 2) ⊎ (v.ruling.phase ≡ 2)) × (lone ≡ v.ruling.lone))
+        ⊎ ((number ≡ 0) × (v.ruling.workers ≡ 0) × ((x m : ℕ) (p : Progress) → HasEntry (v.claims 0) (claim x m p) → (b : ℕ) × (p ≡ Living b)) × (lone ≡ 1))
+        ⊎ ((0 < number) × (v.ruling.lone ≡ 0) × (lone ≡ 0))
+
     -- A pass is made: the owner is no longer sure of any word, where it is a pass at work
-    pub splits : (notes : List Note) → ((k : Note) → HasEntry notes k → HasEntry (v.read 0).notes k)
-        → Rule s w (n + 1) (record v { kind = kind'; claims = update v.claims n []; work = update v.work n (record idle { half = v.ruling.phase; plan = v.ruling.plan }); sure = update (update v.sure 0 unsure) n unsure; read = update v.read n (record (blank notes) { told = v.ruling.history; seen = v.ruling.finished; made = v.ruling.finished }); ruling = record v.ruling { workers = workers; readers = readers } }) g
-    splits notes told = record {
+    pub splits : (number lone : ℕ) → MayJoin number lone → (notes : List Note) → ((k : Note) → HasEntry notes k → HasEntry (v.read 0).notes k)
+        → Rule s w (n + 1) (record v { kind = kind'; claims = update v.claims n []; work = update v.work n (record idle { half = v.ruling.phase; number = number; plan = v.ruling.plan }); sure = update (update v.sure 0 (cond (kind == 2) (v.sure 0) unsure)) n unsure; read = update v.read n (record (blank notes) { told = v.ruling.history; seen = v.ruling.finished; made = v.ruling.finished }); ruling = record v.ruling { workers = workers; readers = readers; lone = lone } }) g
+    splits number lone may notes told = record {
       names_apart = r.names_apart;
       claims = record {
         held = update_cases (λ j cs. (x m : ℕ) (p : Progress) → HasEntry cs (claim x m p) → g.stage x ≡ Held j m p) v.claims n [] (λ x m p h. absurd h) (λ j _. r.claims.held j);
@@ -97,15 +108,15 @@ module _ (s : Setup) (w : Words) (n : ℕ) (v : Views) (g : Ghost) (r : Rule s w
         bound = let a = sum (λ (u : Read). u.ready) refl in let b = r.pins.bound in omega arith;
       };
       works = λ j. dite (ℕ_discrete j n)
-          (λ e. subst (λ (u : Work). WorkRule s w.round v.ruling.phase w.name w.born w.died g.life (g.who (w.round + 1)) (kind' j) j u) (sym (update_at v.work n j new_work e))
+          (λ e. subst (λ (u : Work). WorkRule s w.round v.ruling.phase w.name w.born w.died g.life (g.who (w.round + 1)) (kind' j) j u) (sym (update_at v.work n j (new_work number) e))
           record { only = λ _ _. (refl, refl, refl, refl); found = λ x i f. absurd f; known = λ i f. absurd f; open_ = λ i f. absurd f; given = λ b i f. absurd f })
-          (λ o. subst (λ (u : Work × ℕ). WorkRule s w.round v.ruling.phase w.name w.born w.died g.life (g.who (w.round + 1)) u.1 j u.0) (λ i. (sym (update_other v.work n j new_work o) i, sym (update_other v.kind n j kind o) i)) (r.works j));
+          (λ o. subst (λ (u : Work × ℕ). WorkRule s w.round v.ruling.phase w.name w.born w.died g.life (g.who (w.round + 1)) u.1 j u.0) (λ i. (sym (update_other v.work n j (new_work number) o) i, sym (update_other v.kind n j kind o) i)) (r.works j));
       walks = λ j. dite (ℕ_discrete j n)
-          (λ e. subst (λ (u : Work). WalkRule s w.round v.ruling.phase w.name w.hist w.born w.died g.life g.who (kind' j) j u) (sym (update_at v.work n j new_work e)) (walks_idle s w.round v.ruling.phase w.name w.hist w.born w.died g.life g.who (kind' j) j v.ruling.phase v.ruling.plan (λ _. refl)))
-          (λ o. subst (λ (u : Work × ℕ). WalkRule s w.round v.ruling.phase w.name w.hist w.born w.died g.life g.who u.1 j u.0) (λ i. (sym (update_other v.work n j new_work o) i, sym (update_other v.kind n j kind o) i)) (r.walks j));
-      sure = update_cases (λ j u. SureRule s.elements workers w.head w.hist w.born w.died w.name w.row g.stage j u) (update v.sure 0 unsure) n unsure
+          (λ e. subst (λ (u : Work). WalkRule s w.round v.ruling.phase w.name w.hist w.born w.died g.life g.who (kind' j) j u) (sym (update_at v.work n j (new_work number) e)) (walks_idle s w.round v.ruling.phase w.name w.hist w.born w.died g.life g.who (kind' j) j v.ruling.phase number v.ruling.plan (λ _. refl)))
+          (λ o. subst (λ (u : Work × ℕ). WalkRule s w.round v.ruling.phase w.name w.hist w.born w.died g.life g.who u.1 j u.0) (λ i. (sym (update_other v.work n j (new_work number) o) i, sym (update_other v.kind n j kind o) i)) (r.walks j));
+      sure = update_cases (λ j u. SureRule s.elements workers w.head w.hist w.born w.died w.name w.row g.stage j u) (update v.sure 0 keep) n unsure
           nothing_sure
-          (λ j _. update_cases (λ j u. SureRule s.elements workers w.head w.hist w.born w.died w.name w.row g.stage j u) v.sure 0 unsure nothing_sure (λ i ne. let t = r.sure i in record {
+          (λ j _. update_cases (λ j u. SureRule s.elements workers w.head w.hist w.born w.died w.name w.row g.stage j u) v.sure 0 keep kept_sure (λ i ne. let t = r.sure i in record {
             head_is = λ z l f h. t.head_is z l f (⊎_elim (λ e. absurd (ne e.0)) inr h);
             hist_is = λ b u l f h. t.hist_is b u l f (⊎_elim (λ e. absurd (ne e.0)) inr h);
             died_is = λ b k f h. t.died_is b k f (⊎_elim (λ e. absurd (ne e.0)) inr h);
@@ -127,24 +138,46 @@ module _ (s : Setup) (w : Words) (n : ℕ) (v : Views) (g : Ghost) (r : Rule s w
       };
       stock = record { finished = r.stock.finished; cursor_is = r.stock.cursor_is; free_is = r.stock.free_is; never = r.stock.never; left = r.stock.left };
       note = record { undone = r.note.undone; all = r.note.all; placed = r.note.placed; seen = λ x e. let t = r.note.seen x e in (t.0, t.1, t.2, λ f. none (t.3 f)); quiet = λ e. none (r.note.quiet e) };
-      retired = λ b x m u e. ⊎_elim (λ t. inl (dite (ℕ_discrete t.0 n) (λ f. absurd (subst (λ (l : List ℕ). HasEntry l b) ((r.walks n).only (λ k. let z = new_kind in omega arith) not_first).3 (subst (λ (i : ℕ). HasEntry (v.work i).retired b) f t.1))) (λ o. (t.0, subst (λ (u : Work). HasEntry u.retired b) (sym (update_other v.work n t.0 new_work o)) t.1)))) inr (r.retired b x m u e);
-      plan = plan_on s w.round v.ruling.phase g.who v.kind kind' v.work (update v.work n new_work) v.ruling.plan
-          (λ j k. dite (ℕ_discrete j n) (λ e. ap (λ (u : Work). u.plan) (update_at v.work n j new_work e)) (λ o. ap (λ (u : Work). u.plan) (update_other v.work n j new_work o) ∙ r.plan.same j (sym (update_other v.kind n j kind o) ∙ k))) r.plan;
+      retired = λ b x m u e. ⊎_elim (λ t. inl (dite (ℕ_discrete t.0 n) (λ f. absurd (subst (λ (l : List ℕ). HasEntry l b) ((r.walks n).only (λ k. let z = new_kind in omega arith) not_first).3 (subst (λ (i : ℕ). HasEntry (v.work i).retired b) f t.1))) (λ o. (t.0, subst (λ (u : Work). HasEntry u.retired b) (sym (update_other v.work n t.0 (new_work number) o)) t.1)))) inr (r.retired b x m u e);
+      plan = plan_on s w.round v.ruling.phase g.who v.kind kind' v.work (update v.work n (new_work number)) v.ruling.plan
+          (λ j k. dite (ℕ_discrete j n) (λ e. ap (λ (u : Work). u.plan) (update_at v.work n j (new_work number) e)) (λ o. ap (λ (u : Work). u.plan) (update_other v.work n j (new_work number) o) ∙ r.plan.same j (sym (update_other v.kind n j kind o) ∙ k))) r.plan;
       history = history_read w.round g.who v.read v.ruling.history n (new_read notes) ([], sym (append-nil v.ruling.history)) ((let f = r.stock.finished in omega arith), let f = r.stock.finished in let l = r.history.rounds in omega arith) (omega arith, λ q e. absurd (omega arith)) r.history;
       drawn = record {
-        only = λ j a b. dite (ℕ_discrete j n) (λ e. ap (λ (u : Work). u.drawn) (update_at v.work n j new_work e)) (λ o. ap (λ (u : Work). u.drawn) (update_other v.work n j new_work o) ∙ r.drawn.only j (λ k. a (update_other v.kind n j kind o ∙ k)) b);
+        only = λ j a b. dite (ℕ_discrete j n) (λ e. ap (λ (u : Work). u.drawn) (update_at v.work n j (new_work number) e)) (λ o. ap (λ (u : Work). u.drawn) (update_other v.work n j (new_work number) o) ∙ r.drawn.only j (λ k. a (update_other v.kind n j kind o ∙ k)) b);
         drawn = λ j i b h. r.drawn.drawn j i b (drawn_was j i b h);
         apart = λ j k i b c h l. r.drawn.apart j k i b c (drawn_was j i b h) (drawn_was k i c l);
+      };
+      crew = record {
+        rounds = r.crew.rounds;
+        alone = λ j one k z. dite (ℕ_discrete j n)
+            (λ e. let zero_ = sym (ap (λ (u : Work). u.number) (update_at v.work n j (new_work number) e)) ∙ z in let kj = sym (update_at v.kind n j kind e) ∙ k in ⊎_elim (λ a. absurd (⊎_elim (λ b. omega arith) (λ b. omega arith) a.0)) (⊎_elim
+            (λ a. ((λ i b. dite (ℕ_discrete i n) (λ f. f ∙ sym e) (λ o. absurd (no_other a.1 i (sym (update_other v.kind n i kind o) ∙ b)))), λ x i m p h. ⊎_elim (λ f. inr (a.2 x m p (subst (λ (c : ℕ). HasEntry (v.claims c) (claim x m p)) f (r.claims.holds i x m p h)))) (λ f. absurd (no_other a.1 i f)) (r.holders x i m p h)))
+            (λ a. let l = a.0 in absurd (omega arith))) may)
+            (λ o. let kj = sym (update_other v.kind n j kind o) ∙ k in let zero_ = sym (ap (λ (u : Work). u.number) (update_other v.work n j (new_work number) o)) ∙ z in ⊎_elim
+            (λ a. let t = r.crew.alone j one kj zero_ in ((λ i b. dite (ℕ_discrete i n) (λ f. let c = sym (update_at v.kind n i kind f) ∙ b in absurd (⊎_elim (λ d. omega arith) (λ d. omega arith) a.0)) (λ f. t.0 i (sym (update_other v.kind n i kind f) ∙ b))), t.1))
+            (⊎_elim (λ a. absurd (no_other a.1 j kj)) (λ a. absurd (r.crew.none j one a.1 kj zero_))) may);
+        none = λ j one l k z. dite (ℕ_discrete j n)
+            (λ e. let zero_ = sym (ap (λ (u : Work). u.number) (update_at v.work n j (new_work number) e)) ∙ z in let kj = sym (update_at v.kind n j kind e) ∙ k in ⊎_elim (λ a. ⊎_elim (λ b. omega arith) (λ b. omega arith) a.0) (⊎_elim (λ a. let c = a.3 in omega arith) (λ a. let c = a.0 in omega arith)) may)
+            (λ o. let kj = sym (update_other v.kind n j kind o) ∙ k in let zero_ = sym (ap (λ (u : Work). u.number) (update_other v.work n j (new_work number) o)) ∙ z in ⊎_elim (λ a. r.crew.none j one (sym a.1 ∙ l) kj zero_) (⊎_elim (λ a. let c = a.3 in omega arith) (λ a. r.crew.none j one a.1 kj zero_)) may);
       };
       holders = λ x j m p h. ⊎_elim inl (λ k. inr (update_other v.kind n j kind (λ (e : j ≡ n). new_claims x m p (h ∙ ap (λ (i : ℕ). Held i m p) e)) ∙ k)) (r.holders x j m p h);
       hand = r.hand;
     }
       where
-        drawn_was : (j i b : ℕ) → HasEntry (update v.work n new_work j).drawn (i, b) → HasEntry (v.work j).drawn (i, b)
-        drawn_was = update_cases (λ j u. (i b : ℕ) → HasEntry u.drawn (i, b) → HasEntry (v.work j).drawn (i, b)) v.work n new_work (λ i b h. absurd h) (λ j _ i b h. h)
+        drawn_was : (j i b : ℕ) → HasEntry (update v.work n (new_work number) j).drawn (i, b) → HasEntry (v.work j).drawn (i, b)
+        drawn_was = update_cases (λ j u. (i b : ℕ) → HasEntry u.drawn (i, b) → HasEntry (v.work j).drawn (i, b)) v.work n (new_work number) (λ i b h. absurd h) (λ j _ i b h. h)
+
+        no_other : v.ruling.workers ≡ 0 → (i : ℕ) → v.kind i ≡ 1 → ⊥
+        no_other z i k = let a = some_worker s w n v g r i k in omega arith
 
         nothing_sure : {j : ℕ} → SureRule s.elements workers w.head w.hist w.born w.died w.name w.row g.stage j unsure
         nothing_sure {j = j} = record { head_is = λ z l f h. absurd f; hist_is = λ b t l f h. absurd f; died_is = λ b k f h. absurd f; name_is = λ b t k f h. absurd f; born_is = λ b k f h i. absurd f; row_is = λ b k f h i. absurd f }
+
+        kept_sure : SureRule s.elements workers w.head w.hist w.born w.died w.name w.row g.stage 0 keep
+        kept_sure = ⊎_elim
+            (λ t. let k = t.0 in subst (SureRule s.elements workers w.head w.hist w.born w.died w.name w.row g.stage 0) (sym (ap (λ (c : Bool). cond c (v.sure 0) unsure) (ne_eqb kind 2 (λ (e : kind ≡ 2). omega arith)))) nothing_sure)
+            (λ t. subst (SureRule s.elements workers w.head w.hist w.born w.died w.name w.row g.stage 0) (sym (ap (λ (c : Bool). cond c (v.sure 0) unsure) (eq-eqb kind 2 t.0))) (subst (λ (c : ℕ). SureRule s.elements c w.head w.hist w.born w.died w.name w.row g.stage 0 (v.sure 0)) (sym t.2) (r.sure 0)))
+            which
 
         sum : (f : Read → ℕ) → f (new_read notes) ≡ 0 → sum_below (n + 1) (λ j. f (update v.read n (new_read notes) j)) ≡ sum_below n (λ j. f (v.read j))
         sum f z = one_more_seat (λ j. f (v.read j)) (λ j. f (update v.read n (new_read notes) j)) (λ i l. ap f (update_other v.read n i (new_read notes) (λ (e : i ≡ n). omega arith))) ∙ (let a : f (update v.read n (new_read notes) n) ≡ f (new_read notes) = ap f (update_same v.read n (new_read notes)) in omega arith)

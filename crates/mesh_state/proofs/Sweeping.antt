@@ -18,6 +18,7 @@ use Rattle.mesh_state.specs.Bisections.{MayRead}
 use Rattle.mesh_state.specs.Sure.{GuardsBlock, GuardsHead, SureRule}
 use Rattle.mesh_state.specs.Owner.{StockRule, NoteRule}
 use Rattle.mesh_state.specs.Rule.{Rule}
+use Rattle.mesh_state.proofs.Lists.{crew_free}
 use Rattle.mesh_state.proofs.FoundAgain.{placed, chained_stands, names_on, goes_on, walks_home, Moves}
 use Rattle.mesh_state.proofs.ChainSteps.{moves_same, skips, cuts_hist}
 use Rattle.mesh_state.proofs.BlockSteps.{resets, frees}
@@ -114,6 +115,7 @@ module _ (s : Setup) (w : Words) (n : ℕ) (v : Views) (g : Ghost) (r : Rule s w
     plan = r.plan;
     history = r.history;
     drawn = record { only = r.drawn.only; drawn = λ j i b h. absurd (q.0 (r.drawn.drawn j i b h).0); apart = r.drawn.apart };
+    crew = crew_free s w.round v.ruling.phase v.kind v.work stage v.ruling.lone r.crew.rounds (λ e. absurd (q.0 e));
     holders = λ x j m p h. inl (own x j m p h);
     hand = hands;
   }
@@ -395,6 +397,7 @@ again s w n v g r = record {
   plan = r.plan;
   history = r.history;
   drawn = r.drawn;
+  crew = r.crew;
   holders = r.holders;
   hand = r.hand;
 }

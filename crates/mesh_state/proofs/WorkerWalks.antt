@@ -14,7 +14,7 @@ use Rattle.mesh_state.specs.Work.{WorkRule, IsWorkPlace, WorkWalks, WalkRule}
 use Rattle.mesh_state.specs.Rule.{Rule}
 use Rattle.mesh_state.proofs.FoundAgain.{one_more, placed, chained_stands, placed_chained, standing, none_found, first_block, seen_live}
 use Rattle.mesh_state.proofs.ChainSteps.{named, older_head, dead_end}
-use Rattle.mesh_state.proofs.Lists.{plan_update, drawn_update}
+use Rattle.mesh_state.proofs.Lists.{crew_update, plan_update, drawn_update}
 use Rattle.mesh_state.proofs.SureWords.{retired_on}
 use Rattle.mesh_state.proofs.Across.{Went, half_of, zero_or_more, place_one, name_one}
 
@@ -23,9 +23,9 @@ module _ (s : Setup) (w : Words) (n : ℕ) (v : Views) (g : Ghost) (r : Rule s w
   d = w.round + 1
 
   -- what a step of a worker's knowledge is to show
-  pub reworks : (j : ℕ) (u : Work) → WorkRule s w.round v.ruling.phase w.name w.born w.died g.life (g.who d) (v.kind j) j u → WalkRule s w.round v.ruling.phase w.name w.hist w.born w.died g.life g.who (v.kind j) j u → u.retired ≡ (v.work j).retired → u.plan ≡ (v.work j).plan → u.drawn ≡ (v.work j).drawn
+  pub reworks : (j : ℕ) (u : Work) → WorkRule s w.round v.ruling.phase w.name w.born w.died g.life (g.who d) (v.kind j) j u → WalkRule s w.round v.ruling.phase w.name w.hist w.born w.died g.life g.who (v.kind j) j u → u.retired ≡ (v.work j).retired → u.plan ≡ (v.work j).plan → u.drawn ≡ (v.work j).drawn → u.number ≡ (v.work j).number
       → Rule s w n (record v { work = update v.work j u }) g
-  reworks j u works walks same lists draws = record {
+  reworks j u works walks same lists draws own = record {
     names_apart = r.names_apart;
     claims = r.claims;
     labels = r.labels;
@@ -43,6 +43,7 @@ module _ (s : Setup) (w : Words) (n : ℕ) (v : Views) (g : Ghost) (r : Rule s w
     plan = plan_update s w.round v.ruling.phase g.who v.kind v.work v.ruling.plan j u lists r.plan;
     history = r.history;
     drawn = drawn_update v.ruling.phase w.cursor w.free w.row v.kind v.work j u draws r.drawn;
+    crew = crew_update s w.round v.ruling.phase v.kind v.work g.stage v.ruling.lone j u own r.crew;
     holders = r.holders;
     hand = r.hand;
   }
@@ -102,7 +103,7 @@ module _ (s : Setup) (w : Words) (n : ℕ) (v : Views) (g : Ghost) (r : Rule s w
         → Rule s w n (record v { work = update v.work j (learned went walk found known absent stood had) }) g
     relearns went walk found known absent stood had f k a t h wt wk = reworks j (learned went walk found known absent stood had)
         record { only = λ o. absurd (o kind); found = f; known = k; open_ = (r.works j).open_; given = (r.works j).given }
-        record { still = λ o. absurd (o kind); only = λ o. absurd (o kind); half = (r.walks j).half; absent = a; stood = t; had = h; went = wt; walk = wk } refl refl refl
+        record { still = λ o. absurd (o kind); only = λ o. absurd (o kind); half = (r.walks j).half; absent = a; stood = t; had = h; went = wt; walk = wk } refl refl refl refl
 
     abbrev u : Work
     u = v.work j

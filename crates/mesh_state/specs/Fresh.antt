@@ -21,7 +21,7 @@ noted_below (suc n) f = (n, f n) ∷ noted_below n f
 
 -- a pass that knows nothing of the work
 abbrev pub idle : Work
-idle = record { half = 0; plan = no_plan; drawn = []; found = []; known = []; open_ = []; given = []; absent = []; stood = []; had = []; retired = []; went = []; walk = Still }
+idle = record { half = 0; number = 0; plan = no_plan; drawn = []; found = []; known = []; open_ = []; given = []; absent = []; stood = []; had = []; retired = []; went = []; walk = Still }
 
 -- a pass without a pin
 abbrev pub blank : List Note → Read
@@ -41,7 +41,7 @@ fresh_sure pool zero = record unsure { born = noted_below pool (λ _. 0); row = 
 fresh_sure pool (suc j) = unsure
 
 abbrev pub fresh_views : ℕ → Views
-fresh_views pool = record { kind = fresh_kind; claims = λ _. []; work = λ _. idle; sure = fresh_sure pool; read = λ _. blank []; ruling = record { phase = 0; finished = 0; history = [] ∷ []; plan = no_plan; workers = 0; readers = 0; left = []; clear = []; hand = numbers_below pool; cursor = 1; free = pool + 1; ever = 0; retired = []; placed = []; undone = []; seen = 0; quiet = 0 } }
+fresh_views pool = record { kind = fresh_kind; claims = λ _. []; work = λ _. idle; sure = fresh_sure pool; read = λ _. blank []; ruling = record { phase = 0; finished = 0; history = [] ∷ []; plan = no_plan; workers = 0; readers = 0; lone = 0; left = []; clear = []; hand = numbers_below pool; cursor = 1; free = pool + 1; ever = 0; retired = []; placed = []; undone = []; seen = 0; quiet = 0 } }
 
 abbrev pub fresh_ghost : Ghost
 fresh_ghost = record { stage = λ _. Open; life = λ _. Free; who = λ _ _. 0; pins = λ _. 0 }

@@ -1,8 +1,10 @@
--- The lists of a round, the history of the finished rounds, and the numbers of draws.
+-- The lists of a round, the history of the finished rounds, the numbers of draws, and who is at work.
 use Rattle.std.specs.Prelude.{◌≡◌, ℕ, ◌+◌, ◌<◌, ◌≤◌, Bool, List, [], ◌++◌, length, ◌⊎◌}
 use Rattle.mesh_words.specs.Entries.{HasEntry, EntryAt}
 use Rattle.mesh_words.specs.Setup.{Setup}
+use Rattle.mesh_words.specs.Claims.{Progress, Living}
 use Rattle.mesh_words.specs.Views.{Plan, Work, Read}
+use Rattle.mesh_state.specs.Ghosts.{Stage, Held}
 
 -- a block bisects the name, where `who` says which
 abbrev pub Holds : (ℕ → ℕ) → ℕ → Type 0
@@ -56,3 +58,12 @@ pub record DrawnRule (phase cursor free : ℕ) (row : ℕ → ℕ) (kind : ℕ �
   pub drawn : (j i b : ℕ) → HasEntry (work j).drawn (i, b) → (phase ≡ 1) × (i < cursor) × (i < free → b ≡ row i + 1) × (free ≤ i → b ≡ 0)
   -- a draw is in one view
   pub apart : (j k i b c : ℕ) → HasEntry (work j).drawn (i, b) → HasEntry (work k).drawn (i, c) → j ≡ k
+
+-- who is at work
+pub record CrewRule (s : Setup) (round phase : ℕ) (kind : ℕ → ℕ) (work : ℕ → Work) (stage : ℕ → Stage) (lone : ℕ) : Type 0 where
+  -- a round in work is one of those for which the table was made
+  pub rounds : (round ≤ s.rounds) × (0 < phase → round < s.rounds)
+  -- while a pass of worker 0 is out in the first half, no other worker's is, and each claim without a living block is its own
+  pub alone : (j : ℕ) → phase ≡ 1 → kind j ≡ 1 → (work j).number ≡ 0 → ((i : ℕ) → kind i ≡ 1 → i ≡ j) × ((x i m : ℕ) (p : Progress) → stage x ≡ Held i m p → (i ≡ j) ⊎ ((b : ℕ) × (p ≡ Living b)))
+  -- the owner knows where none is out
+  pub none : (j : ℕ) → phase ≡ 1 → lone ≡ 0 → kind j ≡ 1 → (work j).number ≡ 0 → ⊥

@@ -23,6 +23,8 @@ no_plan = record { needs = []; target = []; retire = [] }
 pub record Work : Type 0 where
   -- 1 in the first half of the round and 2 in the second
   pub half : ℕ
+  -- its number among the workers
+  pub number : ℕ
   pub plan : Plan
   -- the numbers that its draws found, each with one more than the block, or 0
   pub drawn : List (ℕ × ℕ)
@@ -94,6 +96,8 @@ pub record Ruling : Type 0 where
   -- how many workers' and readers' passes are out
   pub workers : ℕ
   pub readers : ℕ
+  -- 0 where no pass of worker 0 is out in the first half
+  pub lone : ℕ
   -- left rounds with the pins that were taken in them, and left rounds of which no pin is out
   pub left : List (ℕ × ℕ)
   pub clear : List ℕ
