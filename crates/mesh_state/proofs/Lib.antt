@@ -26,6 +26,7 @@ pub mod Sweeping
 pub mod TakingBack
 pub mod Fresh
 pub mod RoundLaws
+pub mod RoundForests
 pub mod SquareNotes
 pub mod SquareLists
 pub mod SquareRound1

@@ -5,10 +5,10 @@ use Rattle.mesh_words.specs.Claims.{Drawn}
 use Rattle.mesh_words.specs.Places.{member_of}
 use Rattle.mesh_state.specs.Ghosts.{Life, Free, chained, stands}
 use Rattle.mesh_state.specs.Claims.{bit_of}
-use Rattle.mesh_state.specs.RoundLaws.{BetweenForests, DiffersByPatches, BisectedClosed, ClaimsAimed, ListsKnown, HistoryRight, ToldPrefix, NotesInHistory, DrawsApart, QuietRound, WalksBegin, ChainsStand, StandingKept}
+use Rattle.mesh_state.specs.RoundLaws.{BetweenForests, DiffersByPatches, BisectedClosed, ClaimsAimed, ListsKnown, HistoryRight, ToldPrefix, NotesInHistory, DrawsApart, QuietRound, WalksBegin, ChainsStand, StandingKept, RoundsLeft, WorkerAlone}
 use Rattle.mesh_state.proofs.FoundAgain.{chained_stands, seen_live}
 use Rattle.mesh_state.proofs.ChainSteps.{named, older_named}
-use Rattle.mesh_state.proofs.Across.{Went}
+use Rattle.mesh_state.proofs.Across.{Went, half_of}
 use Rattle.mesh_state.proofs.Lists.{bisected_closed, entry_low, entry_at}
 
 pub between : BetweenForests
@@ -74,3 +74,9 @@ standing_kept s w n v g r b x t st = (
   where
     free : g.life b ≡ Free → ⊥
     free e = let z : 0 ≡ x + 1 = sym (ap (λ (l : Life). stands l t) e) ∙ st in omega arith
+
+pub rounds_left : RoundsLeft
+rounds_left s w n v g r = (r.crew.rounds.0, λ j k. r.crew.rounds.1 (⊎_elim (λ e. omega arith) (λ e. omega arith) (half_of s w n v g r j k)))
+
+pub worker_alone : WorkerAlone
+worker_alone s w n v g r j one k z = let t = r.crew.alone j one k z in (t.0, λ i x m p h. t.1 x i m p (r.claims.held i x m p h))

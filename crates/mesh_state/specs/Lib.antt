@@ -12,4 +12,5 @@ pub mod Rule
 pub mod Fresh
 pub mod Laws
 pub mod RoundLaws
+pub mod RoundForests
 pub mod SquareRun

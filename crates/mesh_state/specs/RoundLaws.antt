@@ -1,6 +1,6 @@
 -- What the rule says of the lists of a round, of the history, and of blocks that may not be used again.
 use Rattle.std.specs.Prelude.{◌≡◌, ℕ, ◌+◌, ◌<◌, ◌≤◌, Bool, true, false, List, ◌++◌, length, ◌⊎◌, ◌↔◌}
-use Rattle.mesh_words.specs.Claims.{Progress, Drawn, claim}
+use Rattle.mesh_words.specs.Claims.{Progress, Drawn, Living, claim}
 use Rattle.mesh_words.specs.Entries.{HasEntry, EntryAt}
 use Rattle.mesh_words.specs.Places.{member_of}
 use Rattle.mesh_state.specs.Ghosts.{Undone, stands}
@@ -61,3 +61,11 @@ ChainsStand = Always (λ s w n v g. ((x b : ℕ) → IsPlace s.elements g.life x
 -- a block that stands is in no free row, not free in the owner's hand, and of no claim that may fill it
 abbrev pub StandingKept : Type 0
 StandingKept = Always (λ s w n v g. (b x : ℕ) (t : Bool) → stands (g.life b) t ≡ x + 1 → ((i : ℕ) → w.cursor ≤ i → i < w.free → w.row i ≡ b → ⊥) × (HasEntry v.ruling.hand b → ⊥) × ((j y m : ℕ) → HasEntry (v.claims j) (claim y m (Drawn b)) → ⊥))
+
+-- a round in work is one of those for which the table was made
+abbrev pub RoundsLeft : Type 0
+RoundsLeft = Always (λ s w n v g. (w.round ≤ s.rounds) × ((j : ℕ) → v.kind j ≡ 1 → w.round < s.rounds))
+
+-- while a pass of worker 0 is out in the first half, no other worker's is, and each claim without a living block is its own
+abbrev pub WorkerAlone : Type 0
+WorkerAlone = Always (λ s w n v g. (j : ℕ) → v.ruling.phase ≡ 1 → v.kind j ≡ 1 → (v.work j).number ≡ 0 → ((i : ℕ) → v.kind i ≡ 1 → i ≡ j) × ((i x m : ℕ) (p : Progress) → HasEntry (v.claims i) (claim x m p) → (i ≡ j) ⊎ ((b : ℕ) × (p ≡ Living b))))

@@ -1,7 +1,8 @@
 //! Laws over the definitions alone.
 ghost use Rattle.mesh_state.specs.Fresh.{FreshIsLawful};
 ghost use Rattle.mesh_state.specs.SquareRun.{SquareRuns};
-ghost use Rattle.mesh_state.specs.RoundLaws.{BetweenForests, BisectedClosed, ChainsStand, ClaimsAimed, DiffersByPatches, DrawsApart, HistoryRight, ListsKnown, NotesInHistory, QuietRound, StandingKept, ToldPrefix, WalksBegin};
+ghost use Rattle.mesh_state.specs.RoundForests.{LeastIsTarget, LeastWhenNeeded, ReadsForests};
+ghost use Rattle.mesh_state.specs.RoundLaws.{BetweenForests, BisectedClosed, ChainsStand, ClaimsAimed, DiffersByPatches, DrawsApart, HistoryRight, ListsKnown, NotesInHistory, QuietRound, RoundsLeft, StandingKept, ToldPrefix, WalksBegin, WorkerAlone};
 ghost use Rattle.mesh_state.specs.Laws.{ClearRounds, DrawsBounded, FreeRows, MembersTogether, NoEarlyReuse, NotesAgree, OneClaim, OneHolder, ParentsBisected, PinsBounded, PlacesAgree, WalksAgree, WalksEnd};
 
 /// What holds in each lawful state, and so between any two steps; that the fresh table is lawful,
@@ -33,6 +34,11 @@ pub fn laws()
     ensures begin { WalksBegin }
     ensures chains { ChainsStand }
     ensures standing { StandingKept }
+    ensures rounds { RoundsLeft }
+    ensures alone { WorkerAlone }
+    ensures target { LeastIsTarget }
+    ensures forests { ReadsForests }
+    ensures least { LeastWhenNeeded }
     ensures fresh { FreshIsLawful }
     ensures square { SquareRuns }
 {}

@@ -13,14 +13,14 @@ use Rattle.mesh_words.specs.NameWords.{name_code, name_word, name_in}
 use Rattle.mesh_words.specs.Setup.{is_code, child_code, owner_code, partner_code, CodesApart}
 use Rattle.mesh_words.proofs.NameCodes.{few_bits, code_back}
 
-both : (a b : Bool) → (a && b) ≡ true → (a ≡ true) × (b ≡ true)
+pub both : (a b : Bool) → (a && b) ≡ true → (a ≡ true) × (b ≡ true)
 both true b e = (refl, e)
 both false b e = absurd (not e)
   where
     not : false ≡ true → ⊥
     not e = cc
 
-both_true : (a b : Bool) → a ≡ true → b ≡ true → (a && b) ≡ true
+pub both_true : (a b : Bool) → a ≡ true → b ≡ true → (a && b) ≡ true
 both_true true b e f = f
 both_true false b e f = absurd (not e)
   where
@@ -28,22 +28,22 @@ both_true false b e f = absurd (not e)
     not e = cc
 
 -- a code of at most 24 letters tells its name
-code_one : (n m : Name) → depth n ≤ 24 → depth m ≤ 24 → name_code n ≡ name_code m → n ≡ m
+pub code_one : (n m : Name) → depth n ≤ 24 → depth m ≤ 24 → name_code n ≡ name_code m → n ≡ m
 code_one n m h g e = sym (code_back n h) ∙ ap (λ (k : ℕ). name_in (k - 1)) e ∙ code_back m g
 
 module _ (mesh : Shape) where
   -- what it says of a number to be a code
-  of_code : (k : ℕ) → is_code mesh k ≡ true → (name_code (name_in (k - 1)) ≡ k) × (level mesh (name_in (k - 1)) < 24) × ((name_in (k - 1)).0 < size mesh)
+  pub of_code : (k : ℕ) → is_code mesh k ≡ true → (name_code (name_in (k - 1)) ≡ k) × (level mesh (name_in (k - 1)) < 24) × ((name_in (k - 1)).0 < size mesh)
   of_code k e =
       let a = both (eqb (name_code (name_in (k - 1))) k && ltb (level mesh (name_in (k - 1))) 24) (ltb (name_in (k - 1)).0 (size mesh)) e in
       let b = both (eqb (name_code (name_in (k - 1))) k) (ltb (level mesh (name_in (k - 1))) 24) a.0 in
       (eqb-true (name_code (name_in (k - 1))) k b.0, ltb-true (level mesh (name_in (k - 1))) 24 b.1, ltb-true (name_in (k - 1)).0 (size mesh) a.1)
 
-  abbrev far : ℕ → Bool → ℕ
+  abbrev pub far : ℕ → Bool → ℕ
   far k c = 1 + 31 * 16777216 + (2 * k + digit c) * 536870912
 
   -- a child's code is that of a child's name, or no code at all
-  child_is : (k : ℕ) (c : Bool) → ((is_code mesh k ≡ true) × (child_code mesh k c ≡ name_code ((name_in (k - 1)).0, c ∷ (name_in (k - 1)).1))) ⊎ (child_code mesh k c ≡ far k c)
+  pub child_is : (k : ℕ) (c : Bool) → ((is_code mesh k ≡ true) × (child_code mesh k c ≡ name_code ((name_in (k - 1)).0, c ∷ (name_in (k - 1)).1))) ⊎ (child_code mesh k c ≡ far k c)
   child_is k c = by (is_code mesh k) refl
     where
       by : (t : Bool) → is_code mesh k ≡ t → ((is_code mesh k ≡ true) × (child_code mesh k c ≡ name_code ((name_in (k - 1)).0, c ∷ (name_in (k - 1)).1))) ⊎ (child_code mesh k c ≡ far k c)
@@ -57,10 +57,10 @@ module _ (mesh : Shape) where
   far_one n m false true e = absurd (omega arith)
 
   -- no name of at most 24 letters has such a code
-  far_not : (n : Name) (k : ℕ) (c : Bool) → depth n ≤ 24 → name_code n ≡ far k c → ⊥
+  pub far_not : (n : Name) (k : ℕ) (c : Bool) → depth n ≤ 24 → name_code n ≡ far k c → ⊥
   far_not n k c h e = let b = few_bits n h in omega arith
 
-  child_low : (k : ℕ) (c : Bool) → is_code mesh k ≡ true → depth ((name_in (k - 1)).0, c ∷ (name_in (k - 1)).1) ≤ 24
+  pub child_low : (k : ℕ) (c : Bool) → is_code mesh k ≡ true → depth ((name_in (k - 1)).0, c ∷ (name_in (k - 1)).1) ≤ 24
   child_low k c e = let l = (of_code k e).1 in omega arith
 
   one : (n m : ℕ) (c d : Bool) → child_code mesh n c ≡ child_code mesh m d → (n ≡ m) × (c ≡ d)
@@ -95,11 +95,11 @@ module _ (mesh : Shape) where
           not e = cc
 
   module _ (across : Across) (tells : Tells mesh across) where
-    abbrev mate : ℕ → ℕ
+    abbrev pub mate : ℕ → ℕ
     mate k = cond (owner_code mesh across k) (partner_code across k) 0
 
     -- a name with a mate owns its patch, and the mate is its partner
-    mate_is : (k p : ℕ) → mate k ≡ p + 1 → (is_code mesh k ≡ true) × (owns across (name_in (k - 1)) ≡ true) × ((m : Name) × (t : Bool) × (partner across (name_in (k - 1)).0 (name_in (k - 1)).1 ≡ Some (m, t)) × (name_code m ≡ p + 1))
+    pub mate_is : (k p : ℕ) → mate k ≡ p + 1 → (is_code mesh k ≡ true) × (owns across (name_in (k - 1)) ≡ true) × ((m : Name) × (t : Bool) × (partner across (name_in (k - 1)).0 (name_in (k - 1)).1 ≡ Some (m, t)) × (name_code m ≡ p + 1))
     mate_is k p e = by (owner_code mesh across k) refl
       where
         some : (o : Option (Name × Bool)) → name_word (option_map (λ (m : Name × Bool). m.0) o) ≡ p + 1 → (m : Name) × (t : Bool) × (o ≡ Some (m, t)) × (name_code m ≡ p + 1)
@@ -111,7 +111,7 @@ module _ (mesh : Shape) where
         by false f = let z : 0 ≡ p + 1 = sym (ap (λ (t : Bool). cond t (partner_code across k) 0) f) ∙ e in absurd (omega arith)
 
     -- a partner's code is that of a name of the same level
-    partner_low : (k : ℕ) → is_code mesh k ≡ true → (m : Name) (t : Bool) → partner across (name_in (k - 1)).0 (name_in (k - 1)).1 ≡ Some (m, t) → depth m ≤ 24
+    pub partner_low : (k : ℕ) → is_code mesh k ≡ true → (m : Name) (t : Bool) → partner across (name_in (k - 1)).0 (name_in (k - 1)).1 ≡ Some (m, t) → depth m ≤ 24
     partner_low k c m t e = let o = of_code k c in let p = (partners_pair mesh across tells (name_in (k - 1)) m t o.2 e).level in let l = o.1 in omega arith
 
     mates : (n m k : ℕ) → mate n ≡ k + 1 → mate m ≡ k + 1 → n ≡ m

@@ -1,0 +1,42 @@
+-- The lists of a round as sets of names: the target is the least forest.
+use Rattle.std.specs.Prelude.{◌≡◌, ℕ, List, ◌+◌, ◌≤◌}
+use Rattle.mesh_names.specs.Names.{Name, depth}
+use Rattle.mesh_names.specs.Triangles.{Shape}
+use Rattle.mesh_names.specs.Forests.{Names, Has, IsForest, Conforms}
+use Rattle.mesh_names.specs.LeastForest.{IsLeast}
+use Rattle.mesh_names.specs.Partners.{Across, Tells}
+use Rattle.mesh_words.specs.declared.layout.Layout.{Layout}
+use Rattle.mesh_words.specs.Entries.{HasEntry}
+use Rattle.mesh_words.specs.NameWords.{name_code}
+use Rattle.mesh_words.specs.Setup.{setup_of}
+use Rattle.mesh_words.specs.Views.{Plan, Views}
+use Rattle.mesh_words.specs.Words.{Words}
+use Rattle.mesh_state.specs.Ghosts.{Ghost}
+use Rattle.mesh_state.specs.Bisections.{MayRead}
+use Rattle.mesh_state.specs.Lists.{Holds, IsTarget}
+use Rattle.mesh_state.specs.Rule.{Rule}
+
+-- the numbers are the codes of the names of the set, each of at most 24 letters
+pub record AreCodes (names : Names) (Coded : ℕ → Type 0) : Type 0 where
+  pub low : (n : Name) → Has names n → depth n ≤ 24
+  pub codes : (n : Name) → Has names n → Coded (name_code n)
+  pub names_of : (k : ℕ) → Coded k → (n : Name) × Has names n × (k ≡ name_code n)
+
+-- the law that the codes of the least forest are a target, so that a round can begin with them
+abbrev pub LeastIsTarget : Type 0
+LeastIsTarget = (mesh : Shape) (across : Across) (l : Layout) (passes : ℕ) → Tells mesh across → (old needs new : Names) → IsLeast mesh old needs new
+    → (names : List ℕ) (p : Plan) → AreCodes old (HasEntry names) → AreCodes needs (HasEntry p.needs) → AreCodes new (HasEntry p.target) → IsTarget (setup_of mesh across l passes) (HasEntry names) p
+
+-- so it is of each round that may be read of a table over a mesh
+abbrev pub OverMeshes : (Shape → (ℕ → ℕ) → Type 0) → Type 0
+OverMeshes P = (mesh : Shape) (across : Across) (l : Layout) (passes : ℕ) → Tells mesh across → (w : Words) (n : ℕ) (v : Views) (g : Ghost) → Rule (setup_of mesh across l passes) w n v g → (q : ℕ) → MayRead w.round v.ruling.phase v.read q → P mesh (g.who q)
+
+-- the law that the bisected names are a conforming forest
+abbrev pub ReadsForests : Type 0
+ReadsForests = OverMeshes (λ mesh who. (members : Names) → AreCodes members (Holds who) → IsForest mesh members × Conforms mesh members)
+
+-- the law that in the first half, once the names that the round needs are bisected, the bisected names are the least forest that holds these and the last finished round's
+abbrev pub LeastWhenNeeded : Type 0
+LeastWhenNeeded = (mesh : Shape) (across : Across) (l : Layout) (passes : ℕ) → Tells mesh across → (w : Words) (n : ℕ) (v : Views) (g : Ghost) → Rule (setup_of mesh across l passes) w n v g → v.ruling.phase ≡ 1
+    → ((k : ℕ) → HasEntry v.ruling.plan.needs k → Holds (g.who (w.round + 1)) k)
+    → (old needs new : Names) → AreCodes old (Holds (g.who w.round)) → AreCodes needs (HasEntry v.ruling.plan.needs) → AreCodes new (Holds (g.who (w.round + 1))) → IsLeast mesh old needs new
