@@ -11,7 +11,7 @@ use Rattle.mesh_words.specs.Entries.{HasEntry}
 use Rattle.mesh_words.proofs.Functions.{update_at, update_other, update_cases}
 use Rattle.mesh_words.proofs.Sums.{sum_same}
 use Rattle.mesh_state.specs.Ghosts.{Stage, Open, Held, Ghost}
-use Rattle.mesh_state.specs.Claims.{Shape, draws_of, bit_of}
+use Rattle.mesh_state.specs.Claims.{block_of, Shape, draws_of, bit_of}
 use Rattle.mesh_state.specs.Bisections.{IsPlaceOf, MayRead}
 use Rattle.mesh_state.specs.Sure.{GuardsBlock, GuardsHead, SureRule}
 use Rattle.mesh_state.proofs.Lists.{crew_goes}
@@ -123,6 +123,7 @@ module _ (s : Setup) (w : Words) (n : ℕ) (v : Views) (g : Ghost) (r : Rule s w
       plan = r.plan;
       history = r.history;
       drawn = r.drawn;
+      draws = λ z i a b p e h f. ⊎_elim (λ t. let y = ap block_of t.3 in absurd (omega arith)) (λ t. r.draws z i a b p e t.1 f) (back z i a p h);
       crew = crew_goes s w.round v.ruling.phase v.kind v.work v.work g.stage v.ruling.lone x j m Claimed kind (λ _. refl) r.crew;
       holders = λ z i a p h. ⊎_elim (λ t. inr (ap v.kind t.1 ∙ kind)) (λ t. r.holders z i a p t.1) (back z i a p h);
       hand = r.hand;

@@ -13,11 +13,12 @@ use Rattle.mesh_words.proofs.Functions.{update_same, update_at, update_other, up
 use Rattle.mesh_words.proofs.Sums.{sum_update}
 use Rattle.mesh_state.specs.Ghosts.{Stage, Open, Held, Life, Free, Loose, Placed, Undone, chained, stands, Ghost}
 use Rattle.mesh_state.specs.Chains.{Reaches, IsPlace}
-use Rattle.mesh_state.specs.Claims.{Shape, linked, draws, draws_of, bit_of}
+use Rattle.mesh_state.specs.Claims.{block_of, Shape, linked, draws, draws_of, bit_of}
 use Rattle.mesh_state.specs.Bisections.{MayRead}
 use Rattle.mesh_state.specs.Sure.{GuardsBlock, GuardsHead, SureRule}
 use Rattle.mesh_state.specs.Work.{WorkRule, WalkRule}
 use Rattle.mesh_state.proofs.Lists.{plan_update, crew_goes, number_kept}
+use Rattle.mesh_state.proofs.Lawful.{uses_block}
 use Rattle.mesh_state.specs.Rule.{Rule}
 use Rattle.mesh_state.proofs.FoundAgain.{placed, chained_stands, standing, reach_on, names_on, goes_on, workers_on, Moves}
 use Rattle.mesh_state.proofs.HeldClaims.{not_open, held_one, free_not, free_loose, loose_not, uses, used_life, shape_on, moved_on_has, moved_on_here, moved_on_keeps, place_of}
@@ -145,6 +146,9 @@ module _ (s : Setup) (w : Words) (n : ℕ) (v : Views) (g : Ghost) (r : Rule s w
           apart = λ a c i b f h l. ⊎_elim (λ t. ⊎_elim (λ u. t.0 ∙ sym u.0) (λ u. let z = (r.drawn.drawn c i f u).1 in let y = t.1 in absurd (omega arith)) (whose c i f l))
               (λ t. ⊎_elim (λ u. let z = (r.drawn.drawn a i b t).1 in let y = u.1 in absurd (omega arith)) (λ u. r.drawn.apart a c i b f t u) (whose c i f l)) (whose a i b h);
         };
+        draws = λ z i k b p a h f. ⊎_elim
+            (λ t. let u = used b (uses_block q b (sym (ap block_of t.3) ∙ f)) in let more = below u.1 in let same : e ≡ b + 1 = more ∙ ap (λ (y : ℕ). y + 1) (sym u.0) in (w.cursor, drawn_at i t.1 w.cursor (b + 1) (inl (λ y. (w.cursor, sym same y)))))
+            (λ t. let u = r.draws z i k b p a t.1 f in (u.0, drawn_on i u.0 (b + 1) u.1)) (back z i k p h);
         crew = crew_goes s w.round v.ruling.phase v.kind v.work (update v.work j noted) g.stage v.ruling.lone x j m q kind (number_kept v.work j noted refl) r.crew;
         holders = λ z i k p h. ⊎_elim (λ t. inr (ap v.kind t.1 ∙ kind)) (λ t. r.holders z i k p t.1) (back z i k p h);
         hand = λ c h. absurd ((r.hand c h).0 one);
@@ -158,6 +162,12 @@ module _ (s : Setup) (w : Words) (n : ℕ) (v : Views) (g : Ghost) (r : Rule s w
 
           new_draw : (i b : ℕ) → i ≡ w.cursor → b ≡ e → (v.ruling.phase ≡ 1) × (i < w.cursor + 1) × (i < w.free → b ≡ w.row i + 1) × (w.free ≤ i → b ≡ 0)
           new_draw i b z y = (one, omega arith, (λ l. y ∙ below (omega arith) ∙ ap (λ (t : ℕ). w.row t + 1) (sym z)), λ l. y ∙ above (omega arith))
+
+          drawn_at : (i : ℕ) → i ≡ j → (a b : ℕ) → HasEntry noted.drawn (a, b) → HasEntry (update v.work j noted i).drawn (a, b)
+          drawn_at i z a b h = subst (λ (u : Work). HasEntry u.drawn (a, b)) (sym (update_at v.work j i noted z)) h
+
+          drawn_on : (i a b : ℕ) → HasEntry (v.work i).drawn (a, b) → HasEntry (update v.work j noted i).drawn (a, b)
+          drawn_on i a b h = dite (ℕ_discrete i j) (λ z. drawn_at i z a b (inr (subst (λ (c : ℕ). HasEntry (v.work c).drawn (a, b)) z h))) (λ o. subst (λ (u : Work). HasEntry u.drawn (a, b)) (sym (update_other v.work j i noted o)) h)
 
           -- a draw is the new one, or was there
           whose : (a i b : ℕ) → HasEntry (update v.work j noted a).drawn (i, b) → ((a ≡ j) × (i ≡ w.cursor)) ⊎ HasEntry (v.work a).drawn (i, b)

@@ -111,6 +111,7 @@ module _ (s : Setup) (w : Words) (n : ℕ) (v : Views) (g : Ghost) (r : Rule s w
       plan = r.plan;
       history = r.history;
       drawn = r.drawn;
+      draws = r.draws;
       crew = r.crew;
       holders = r.holders;
       hand = r.hand;
@@ -192,6 +193,7 @@ module _ (s : Setup) (w : Words) (n : ℕ) (v : Views) (g : Ghost) (r : Rule s w
         plan = r.plan;
         history = r.history;
         drawn = r.drawn;
+        draws = r.draws;
         crew = r.crew;
         holders = r.holders;
         hand = r.hand;

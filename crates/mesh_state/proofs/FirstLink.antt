@@ -12,10 +12,11 @@ use Rattle.mesh_words.specs.Entries.{HasEntry, Noted}
 use Rattle.mesh_words.proofs.Functions.{update_same, update_at, update_other}
 use Rattle.mesh_state.specs.Ghosts.{Held, Life, Loose, Placed, Undone, stands, Ghost}
 use Rattle.mesh_state.specs.Chains.{IsPlace, ChainsRule}
-use Rattle.mesh_state.specs.Claims.{Shape, linked, draws}
+use Rattle.mesh_state.specs.Claims.{block_of, Shape, linked, draws}
 use Rattle.mesh_state.specs.Bisections.{MayRead, IsPatch}
 use Rattle.mesh_state.specs.Sure.{GuardsBlock, GuardsHead}
 use Rattle.mesh_state.proofs.Lists.{crew_goes}
+use Rattle.mesh_state.proofs.Lists.{draws_goes}
 use Rattle.mesh_state.specs.Rule.{Rule}
 use Rattle.mesh_state.proofs.FoundAgain.{one_more, placed, seen_live, names_on, goes_on, workers_on, Moves}
 use Rattle.mesh_state.proofs.ChainSteps.{links_first, named}
@@ -151,6 +152,7 @@ module _ (s : Setup) (w : Words) (n : ℕ) (v : Views) (g : Ghost) (r : Rule s w
       plan = r.plan;
       history = r.history;
       drawn = r.drawn;
+      draws = draws_goes v.ruling.phase v.work g.stage x j m (Drawn b) q is (λ c e. ⊎_elim (λ f. sym (ap block_of f) ∙ e) (λ f. sym (ap block_of f.0) ∙ e) how) r.draws;
       crew = crew_goes s w.round v.ruling.phase v.kind v.work v.work g.stage v.ruling.lone x j m q kind (λ _. refl) r.crew;
       holders = λ z i c p h. dite (ℕ_discrete z x) (λ f. let t = (held_one j i m c q p (sym (update_at g.stage x z (Held j m q) f) ∙ h)).0 in inr (ap v.kind (sym t) ∙ kind)) (λ o. r.holders z i c p (sym (update_other g.stage x z (Held j m q) o) ∙ h));
       hand = λ c h. absurd ((r.hand c h).0 one);

@@ -72,6 +72,7 @@ starts s a = record {
   plan = record { same = λ j e. absurd (not_one j e); aim = λ l. absurd (omega arith); within = λ i l. absurd (omega arith); whole = λ i l. absurd (omega arith); done = λ i e. absurd (omega arith) };
   history = record { rounds = refl; forests = λ q names e i. empty q names e i; told = λ j. ([] ∷ [], refl); seen = λ j. (omega arith, omega arith); made = λ j. (omega arith, λ q e. absurd (omega arith)) };
   drawn = none_drawn 0 0 s.pool (fresh_words s.pool).row fresh_kind (λ _. idle) (λ j. refl);
+  draws = λ x j m b p e. absurd (omega arith);
   crew = crew_free s 0 0 fresh_kind (λ _. idle) (λ _. Open) 0 (omega arith, λ l. absurd (omega arith)) (λ e. absurd (omega arith));
   holders = λ x j m p h. absurd (not_open j m p (sym h));
   hand = λ b h. ((λ e. omega arith), refl);

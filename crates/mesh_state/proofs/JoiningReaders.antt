@@ -98,6 +98,7 @@ module _ (s : Setup) (w : Words) (n : ℕ) (v : Views) (g : Ghost) (r : Rule s w
     history = history_read w.round g.who (update v.read 0 own) v.ruling.history j (blank []) (v.ruling.history, refl) (omega arith, omega arith) (omega arith, λ q e. absurd (omega arith))
         (history_read w.round g.who v.read v.ruling.history 0 own (r.history.told 0) (r.history.seen 0) (r.history.made 0) r.history);
     drawn = record { only = λ i o. r.drawn.only i (kept_work i o); drawn = r.drawn.drawn; apart = r.drawn.apart };
+    draws = r.draws;
     crew = record { rounds = r.crew.rounds; alone = λ i one k z. let t = r.crew.alone i one (was i 1 (λ z. omega arith) k) z in ((λ a c. t.0 a (was a 1 (λ z. omega arith) c)), t.1); none = λ i one l k. r.crew.none i one l (was i 1 (λ z. omega arith) k) };
     holders = λ x i m p h. ⊎_elim inl (λ k. inr (dite (ℕ_discrete i j) (λ e. let y : v.kind i ≡ v.kind j = ap v.kind e in absurd (omega arith)) (λ f. update_other v.kind j i 0 f ∙ k))) (r.holders x i m p h);
     hand = r.hand;

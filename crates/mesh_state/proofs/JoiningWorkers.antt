@@ -154,6 +154,7 @@ module _ (s : Setup) (w : Words) (n : ℕ) (v : Views) (g : Ghost) (r : Rule s w
       apart = λ i k a b c h l. let t = whose i a b h in let u = whose k a c l in let e = r.drawn.apart t.1 u.1 a b c t.2 u.2 in
           ⊎_elim (λ x. ⊎_elim (λ y. sym x ∙ e ∙ y) (λ y. absurd (t.0 (sym x ∙ e ∙ y.1))) u.3) (λ x. ⊎_elim (λ y. absurd (u.0 (sym y ∙ sym e ∙ x.1))) (λ y. x.0 ∙ sym y.0) u.3) t.3;
     };
+    draws = λ x i m b p one e f. ⊎_elim (λ t. let u = r.draws x i m b p one t.1 f in (u.0, drawn_now i u.0 (b + 1) u.1 t.0)) (λ t. let u = r.draws x j m b p one t.1 f in (u.0, subst (λ (c : ℕ). HasEntry (update (update v.work 0 joined) j idle c).drawn (u.0, b + 1)) (sym t.0) (own_now u.0 (b + 1) (entry_right (v.work 0).drawn (v.work j).drawn (u.0, b + 1) u.1)))) (moved_back j (g.stage x) i m p e);
     crew = let K : ℕ → ℕ = update v.kind j 0 in record { rounds = r.crew.rounds; alone = λ i one k z. absurd (last i one k z); none = λ i one l k z. last i one k z };
     holders = λ x i m p h. ⊎_elim (λ t. ⊎_elim inl (λ k. inr (update_other v.kind j i 0 t.0 ∙ k)) (r.holders x i m p t.1)) (λ t. inl t.0) (moved_back j (g.stage x) i m p h);
     hand = r.hand;
@@ -165,6 +166,14 @@ module _ (s : Setup) (w : Words) (n : ℕ) (v : Views) (g : Ghost) (r : Rule s w
           (λ e. let y : v.kind i ≡ v.kind 0 = ap v.kind e in let x = r.rules.owner.0 in let u = sym (update_other v.kind j i 0 o) ∙ k in omega arith)
           (λ far0. let u = sym (update_other v.kind j i 0 o) ∙ k in let same = ap (λ (x : Work). x.number) (update_other (update v.work 0 joined) j i idle o ∙ update_other v.work 0 i joined far0) in
           o (sym ((r.crew.alone i one u (sym same ∙ z)).0 j kind))))
+
+      own_now : (a b : ℕ) → HasEntry joined.drawn (a, b) → HasEntry (update (update v.work 0 joined) j idle 0).drawn (a, b)
+      own_now a b h = subst (λ (u : Work). HasEntry u.drawn (a, b)) (sym (update_other (update v.work 0 joined) j 0 idle (λ e. far (sym e)) ∙ update_same v.work 0 joined)) h
+
+      drawn_now : (i a b : ℕ) → HasEntry (v.work i).drawn (a, b) → i ≢ j → HasEntry (update (update v.work 0 joined) j idle i).drawn (a, b)
+      drawn_now i a b h o = dite (ℕ_discrete i 0)
+          (λ e. subst (λ (c : ℕ). HasEntry (update (update v.work 0 joined) j idle c).drawn (a, b)) (sym e) (own_now a b (entry_left (v.work 0).drawn (v.work j).drawn (a, b) (subst (λ (c : ℕ). HasEntry (v.work c).drawn (a, b)) e h))))
+          (λ z. subst (λ (u : Work). HasEntry u.drawn (a, b)) (sym (update_other (update v.work 0 joined) j i idle o ∙ update_other v.work 0 i joined z)) h)
 
       -- the seat that had a draw before
       whose : (i a b : ℕ) → HasEntry (update (update v.work 0 joined) j idle i).drawn (a, b) → (i ≢ j) × (k : ℕ) × HasEntry (v.work k).drawn (a, b) × ((k ≡ i) ⊎ ((i ≡ 0) × (k ≡ j)))

@@ -9,7 +9,8 @@ use Rattle.mesh_state.specs.Ghosts.{Stage, Open, Held, Life, stands, chained}
 use Rattle.mesh_state.specs.Chains.{Finds, Reaches}
 use Rattle.mesh_state.specs.Claims.{draws_of}
 use Rattle.mesh_state.specs.Bisections.{IsPlaceOf}
-use Rattle.mesh_state.specs.Laws.{block_of, PinsBounded, OneHolder, OneClaim, DrawsBounded, FreeRows, WalksAgree, WalksEnd, ParentsBisected, MembersTogether, PlacesAgree, NotesAgree, NoEarlyReuse, ClearRounds}
+use Rattle.mesh_state.specs.Claims.{block_of}
+use Rattle.mesh_state.specs.Laws.{PinsBounded, OneHolder, OneClaim, DrawsBounded, FreeRows, WalksAgree, WalksEnd, ParentsBisected, MembersTogether, PlacesAgree, NotesAgree, NoEarlyReuse, ClearRounds}
 use Rattle.mesh_state.proofs.FoundAgain.{one_more, placed, found_covers, standing, placed_chained}
 use Rattle.mesh_state.proofs.HeldClaims.{held_one, uses, one_user}
 use Rattle.mesh_state.proofs.Across.{place_one, name_one, no_pin}
@@ -20,7 +21,7 @@ bounded s w n v g r = let b = r.pins.bound in (omega arith, sym r.pins.now ∙ r
 pub one_holder : OneHolder
 one_holder s w n v g r i j x m k p q a b = (held_one i j m k p q (sym (r.claims.held i x m p a) ∙ r.claims.held j x k q b)).0
 
-uses_block : (p : Progress) (b : ℕ) → block_of p ≡ b + 1 → uses p ≡ b + 1
+pub uses_block : (p : Progress) (b : ℕ) → block_of p ≡ b + 1 → uses p ≡ b + 1
 uses_block Claimed b e = e
 uses_block Failed b e = e
 uses_block (Drawn c) b e = e

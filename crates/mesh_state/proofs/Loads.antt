@@ -17,7 +17,7 @@ use Rattle.mesh_state.specs.Rule.{Rule}
 
 module _ (s : Setup) (w : Words) (n : ℕ) (v : Views) (g : Ghost) (r : Rule s w n v g) where
   learns_sure : (j : ℕ) (u : Sure) → SureRule s.elements v.ruling.workers w.head w.hist w.born w.died w.name w.row g.stage j u → Rule s w n (record v { sure = update v.sure j u }) g
-  learns_sure j u ok = record { names_apart = r.names_apart; claims = r.claims; labels = r.labels; chains = r.chains; names = r.names; pins = r.pins; works = r.works; walks = r.walks; sure = update_cases (λ i x. SureRule s.elements v.ruling.workers w.head w.hist w.born w.died w.name w.row g.stage i x) v.sure j u ok (λ i _. r.sure i); goes = r.goes; rules = r.rules; stock = r.stock; note = r.note; retired = r.retired; plan = r.plan; history = r.history; drawn = r.drawn; crew = r.crew; holders = r.holders; hand = r.hand }
+  learns_sure j u ok = record { names_apart = r.names_apart; claims = r.claims; labels = r.labels; chains = r.chains; names = r.names; pins = r.pins; works = r.works; walks = r.walks; sure = update_cases (λ i x. SureRule s.elements v.ruling.workers w.head w.hist w.born w.died w.name w.row g.stage i x) v.sure j u ok (λ i _. r.sure i); goes = r.goes; rules = r.rules; stock = r.stock; note = r.note; retired = r.retired; plan = r.plan; history = r.history; drawn = r.drawn; draws = r.draws; crew = r.crew; holders = r.holders; hand = r.hand }
 
   -- words of which a seat is sure while it guards them
   pub loads_head : (j x : ℕ) → Rule s w n (record v { sure = update v.sure j (record (v.sure j) { head = (x, w.head x) ∷ (v.sure j).head }) }) g
@@ -100,6 +100,7 @@ module _ (s : Setup) (w : Words) (n : ℕ) (v : Views) (g : Ghost) (r : Rule s w
     plan = r.plan;
     history = r.history;
     drawn = r.drawn;
+    draws = r.draws;
     crew = r.crew;
     holders = r.holders;
     hand = hand;

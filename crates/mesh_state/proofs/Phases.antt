@@ -80,10 +80,10 @@ module _ (s : Setup) (w : Words) (n : ℕ) (v : Views) (g : Ghost) (r : Rule s w
   idle_drawn h p cursor free row = none_drawn p cursor free row v.kind (update v.work 0 idle) (update_cases (λ _ u. u.drawn ≡ []) v.work 0 idle refl (λ j ne. r.drawn.only j (not_work h j) ne))
 
   -- the owner goes on to another phase of the same round, and forgets what held in this one
-  pub rephases : Home → (p : ℕ) (who : ℕ → ℕ → ℕ) (hand : List ℕ) (cursor : ℕ) (retired : List ℕ) (plan : Plan) → (0 < p → w.round < s.rounds) → PlanRule s w.round p who (λ _. 0) v.work plan → RetiredKnown w.round w.died g.life (update v.work 0 idle) retired → ((k : ℕ) → cursor ≡ k + 1 → (p ≡ 1 → ⊥) × (w.cursor ≡ k)) → ((b : ℕ) → HasEntry hand b → (p ≡ 1 → ⊥) × (g.life b ≡ Free)) → ((q : ℕ) → q ≤ w.round → who q ≡ g.who q)
+  pub rephases : Home → (p : ℕ) (who : ℕ → ℕ → ℕ) (hand : List ℕ) (cursor : ℕ) (retired : List ℕ) (plan : Plan) → (0 < p → w.round < s.rounds) → (p ≡ 1 → v.ruling.phase ≡ 0) → PlanRule s w.round p who (λ _. 0) v.work plan → RetiredKnown w.round w.died g.life (update v.work 0 idle) retired → ((k : ℕ) → cursor ≡ k + 1 → (p ≡ 1 → ⊥) × (w.cursor ≡ k)) → ((b : ℕ) → HasEntry hand b → (p ≡ 1 → ⊥) × (g.life b ≡ Free)) → ((q : ℕ) → q ≤ w.round → who q ≡ g.who q)
       → ClaimsRule s w.round w.cursor w.free p w.row w.claimed w.head w.born g.life g.stage v.claims → Labels s w.round p w.name g.stage who plan.target → NamesRule s w.round p w.name w.head w.hist w.born w.died g.life who v.read
       → Rule s w n (record v { work = update v.work 0 idle; ruling = record v.ruling { phase = p; hand = hand; cursor = cursor; retired = retired; plan = plan } }) (record g { who = who })
-  rephases h p who hand cursor retired plan room lists known sure free old claims labels names = record {
+  rephases h p who hand cursor retired plan room early lists known sure free old claims labels names = record {
     names_apart = r.names_apart;
     claims = claims;
     labels = labels;
@@ -101,6 +101,7 @@ module _ (s : Setup) (w : Words) (n : ℕ) (v : Views) (g : Ghost) (r : Rule s w
     plan = plan_on s w.round p who (λ _. 0) v.kind v.work (update v.work 0 idle) plan (λ j k. absurd (not_work h j k)) lists;
     history = history_who w.round g.who who v.read v.ruling.history old r.history;
     drawn = idle_drawn h p w.cursor w.free w.row;
+    draws = λ x j m b q e h. absurd (not_open j m q (sym h ∙ r.claims.none x (early e)));
     crew = crew_free s w.round p v.kind (update v.work 0 idle) g.stage v.ruling.lone (r.crew.rounds.0, room) (λ _ j k. not_work h j k);
     holders = r.holders;
     hand = free;
@@ -164,7 +165,7 @@ module _ (s : Setup) (w : Words) (n : ℕ) (v : Views) (g : Ghost) (r : Rule s w
 
   -- the first half begins: the lists of the round stand over the last forest of the history
   pub begins : (plan : Plan) (names : List ℕ) → EntryAt v.ruling.history v.ruling.finished names → IsTarget s (HasEntry names) plan → v.ruling.finished < s.rounds → v.ruling.phase ≡ 0 → v.ruling.cursor ≡ 1 → Rule s w n (record v { work = update v.work 0 idle; ruling = record v.ruling { phase = 1; hand = []; cursor = 0; plan = plan } }) (record g { who = g.who })
-  begins plan names last aim room z c = rephases (r.rules.halves (λ e. omega arith) (λ e. omega arith)) 1 g.who [] 0 v.ruling.retired plan (λ _. let f = r.stock.finished in omega arith)
+  begins plan names last aim room z c = rephases (r.rules.halves (λ e. omega arith) (λ e. omega arith)) 1 g.who [] 0 v.ruling.retired plan (λ _. let f = r.stock.finished in omega arith) (λ _. z)
       record { same = λ j e. absurd (omega arith); aim = λ _ _. target_on s (HasEntry names) (Holds (g.who w.round)) plan (last_forest names last) aim; within = λ i _ _ h. aim.olds i ((last_forest names last i).1 (h.0, sym (r.names.fresh i z) ∙ h.1)); whole = λ i l. absurd (omega arith); done = λ i e. absurd (omega arith) }
       (calm_retired ((λ e. omega arith), λ e. omega arith)) (λ k e. absurd (omega arith)) (λ b f. absurd f) (λ _ _. refl)
       (claims_phase 1 (λ o e. omega arith) (λ _. (r.stock.cursor_is 0 c).1 ∙ sym (zero_total (places s) (λ x. draws_of (g.stage x)) (λ x. ap draws_of (r.claims.none x z)))) (λ x j m q h e. absurd (not_open j m q (sym h ∙ r.claims.none x z))) (λ x e. absurd (omega arith)))
@@ -173,7 +174,7 @@ module _ (s : Setup) (w : Words) (n : ℕ) (v : Views) (g : Ghost) (r : Rule s w
 
   -- the second half is planned: by the owner's view each claim has a living block, and each name that the round needs is bisected; so the round in work is the target
   pub plans : (retire : List ℕ) → ((i : ℕ) → HasEntry v.ruling.plan.needs i → HasEntry (v.work 0).known i) → v.ruling.phase ≡ 1 → Home → ((x m : ℕ) (p : Progress) → HasEntry (v.claims 0) (claim x m p) → (b : ℕ) × (p ≡ Living b)) → Rule s w n (record v { work = update v.work 0 idle; ruling = record v.ruling { phase = 2; plan = record v.ruling.plan { retire = retire } } }) (record g { who = g.who })
-  plans retire known one h lives = rephases h 2 g.who v.ruling.hand v.ruling.cursor v.ruling.retired (record v.ruling.plan { retire = retire }) (λ _. r.crew.rounds.1 (omega arith))
+  plans retire known one h lives = rephases h 2 g.who v.ruling.hand v.ruling.cursor v.ruling.retired (record v.ruling.plan { retire = retire }) (λ _. r.crew.rounds.1 (omega arith)) (λ e. absurd (omega arith))
       (let t = r.plan.aim (omega arith) (omega arith) in record {
         same = λ j e. absurd (omega arith);
         aim = λ _ _. record { closed = t.closed; olds = t.olds; needs = t.needs; least = t.least };
@@ -187,14 +188,14 @@ module _ (s : Setup) (w : Words) (n : ℕ) (v : Views) (g : Ghost) (r : Rule s w
 
   -- the round is closed: by the owner's view no listed patch is left
   pub closes : ((i : ℕ) → IsListed s v.ruling.plan.retire i → HasEntry (v.work 0).open_ i) → v.ruling.phase ≡ 2 → Home → Rule s w n (record v { work = update v.work 0 idle; ruling = record v.ruling { phase = 3; retired = (v.work 0).retired ++ v.ruling.retired } }) (record g { who = g.who })
-  closes gone two h = rephases h 3 g.who v.ruling.hand v.ruling.cursor ((v.work 0).retired ++ v.ruling.retired) v.ruling.plan (λ _. r.crew.rounds.1 (omega arith))
+  closes gone two h = rephases h 3 g.who v.ruling.hand v.ruling.cursor ((v.work 0).retired ++ v.ruling.retired) v.ruling.plan (λ _. r.crew.rounds.1 (omega arith)) (λ e. absurd (omega arith))
       record { same = λ j e. absurd (omega arith); aim = λ _ _. r.plan.aim (omega arith) (omega arith); within = λ i _ _. r.plan.within i (omega arith) (omega arith); whole = λ i _ _. r.plan.whole i (omega arith) (omega arith); done = λ i _ k. ((r.works 0).open_ i (gone i k)).1 }
       (owner_retired h) (λ k e. ((λ f. absurd (omega arith)), (r.stock.cursor_is k e).1)) (λ b f. ((λ e. absurd (omega arith)), (r.hand b f).1)) (λ _ _. refl) (claims_phase 3 (λ o e. o refl) (λ e. absurd (omega arith)) (λ x j m q e f. absurd (omega arith)) (λ x e. absurd (omega arith)))
       (λ x j m q e f. absurd (omega arith)) (names_phase 3 (λ _. omega arith) (λ l. absurd (l.1 refl)) (λ l. absurd (omega arith)) (λ e. absurd (omega arith)))
 
   -- the round is refused
   pub refuses : v.ruling.phase ≡ 1 → Home → Rule s w n (record v { work = update v.work 0 idle; ruling = record v.ruling { phase = 4 } }) (record g { who = g.who })
-  refuses one h = rephases h 4 g.who v.ruling.hand v.ruling.cursor v.ruling.retired v.ruling.plan (λ _. r.crew.rounds.1 (omega arith)) (no_lists 4 g.who (inr refl)) (calm_retired ((λ e. omega arith), λ e. omega arith)) (λ k e. ((λ f. absurd (omega arith)), (r.stock.cursor_is k e).1)) (λ b f. ((λ e. absurd (omega arith)), (r.hand b f).1)) (λ _ _. refl) (claims_phase 4 (λ o e. omega arith) (λ e. absurd (omega arith)) (λ x j m q e f. absurd (omega arith)) (λ x e. absurd (omega arith)))
+  refuses one h = rephases h 4 g.who v.ruling.hand v.ruling.cursor v.ruling.retired v.ruling.plan (λ _. r.crew.rounds.1 (omega arith)) (λ e. absurd (omega arith)) (no_lists 4 g.who (inr refl)) (calm_retired ((λ e. omega arith), λ e. omega arith)) (λ k e. ((λ f. absurd (omega arith)), (r.stock.cursor_is k e).1)) (λ b f. ((λ e. absurd (omega arith)), (r.hand b f).1)) (λ _ _. refl) (claims_phase 4 (λ o e. omega arith) (λ e. absurd (omega arith)) (λ x j m q e f. absurd (omega arith)) (λ x e. absurd (omega arith)))
       (λ x j m q e f. absurd (omega arith)) (names_phase 4 (λ l. absurd (omega arith)) (λ _. ((λ e. omega arith), λ e. omega arith)) (λ l. absurd (omega arith)) (λ e. absurd (omega arith)))
 
   -- the next round reads as this one, while nothing is born or retired in it
@@ -217,7 +218,7 @@ module _ (s : Setup) (w : Words) (n : ℕ) (v : Views) (g : Ghost) (r : Rule s w
 
   -- the round is taken back: its claims have ended, and the round in work is again as the last
   pub restores : v.ruling.phase ≡ 4 → v.claims 0 ≡ [] → Rule s w n (record v { work = update v.work 0 idle; ruling = record v.ruling { phase = 0 } }) (record g { who = update g.who d (g.who w.round) })
-  restores four none = rephases home 0 who' v.ruling.hand v.ruling.cursor v.ruling.retired v.ruling.plan (λ l. absurd (omega arith)) (no_lists 0 who' (inl refl)) (calm_retired ((λ e. omega arith), λ e. omega arith)) (λ k e. ((λ f. absurd (omega arith)), (r.stock.cursor_is k e).1)) (λ b f. ((λ e. absurd (omega arith)), (r.hand b f).1)) old
+  restores four none = rephases home 0 who' v.ruling.hand v.ruling.cursor v.ruling.retired v.ruling.plan (λ l. absurd (omega arith)) (λ e. absurd (omega arith)) (no_lists 0 who' (inl refl)) (calm_retired ((λ e. omega arith), λ e. omega arith)) (λ k e. ((λ f. absurd (omega arith)), (r.stock.cursor_is k e).1)) (λ b f. ((λ e. absurd (omega arith)), (r.hand b f).1)) old
       (claims_phase 0 (λ o e. omega arith) (λ e. absurd (omega arith)) (λ x j m q e f. absurd (omega arith)) (λ x _. all_open home none x)) (λ x j m q e f. absurd (omega arith))
       record {
         fits = λ q k. ⊎_elim (λ e. subst (λ (f : ℕ → ℕ). Fits s w.name w.head w.hist w.born w.died g.life f q) (sym (old q (low s w n v g r q e))) (r.names.fits q (inl e)))
@@ -314,6 +315,7 @@ module _ (s : Setup) (w : Words) (n : ℕ) (v : Views) (g : Ghost) (r : Rule s w
       made = r.history.made;
     };
     drawn = idle_drawn home 0 w.cursor w.free w.row;
+    draws = λ x j m b q e. absurd (omega arith);
     crew = crew_free s d 0 v.kind (update v.work 0 idle) g.stage v.ruling.lone ((let l = r.crew.rounds.1 (omega arith) in omega arith), λ l. absurd (omega arith)) (λ _ j k. absurd (not_work home j k));
     holders = r.holders;
     hand = λ b f. ((λ e. absurd (omega arith)), (r.hand b f).1);

@@ -47,6 +47,7 @@ module _ (s : Setup) (w : Words) (n : ℕ) (v : Views) (g : Ghost) (r : Rule s w
     plan = r.plan;
     history = history;
     drawn = r.drawn;
+    draws = r.draws;
     crew = r.crew;
     holders = r.holders;
     hand = r.hand;

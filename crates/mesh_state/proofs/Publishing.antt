@@ -17,6 +17,7 @@ use Rattle.mesh_state.specs.Bisections.{IsPlaceOf, IsKept, IsPatch}
 use Rattle.mesh_state.specs.Work.{WorkRule, WalkRule}
 use Rattle.mesh_state.specs.Lists.{Holds}
 use Rattle.mesh_state.proofs.Lists.{crew_goes, number_kept, plan_update, target_on, history_who, drawn_update}
+use Rattle.mesh_state.proofs.Lists.{draws_goes, draws_update}
 use Rattle.mesh_state.specs.Rule.{Rule}
 use Rattle.mesh_state.proofs.FoundAgain.{one_more, goes_on, goes_who, workers_on, workers_who, Moves}
 use Rattle.mesh_state.proofs.BlockSteps.{undead, bears}
@@ -180,6 +181,7 @@ module _ (s : Setup) (w : Words) (n : ℕ) (v : Views) (g : Ghost) (r : Rule s w
       };
       history = history_who w.round g.who who' v.read v.ruling.history (λ q l. update_other g.who d q now (λ (e : q ≡ w.round + 1). omega arith)) r.history;
       drawn = drawn_update v.ruling.phase w.cursor w.free w.row v.kind v.work j (record (v.work j) { known = known }) refl r.drawn;
+      draws = draws_update v.ruling.phase v.work stage' j (record (v.work j) { known = known }) refl (draws_goes v.ruling.phase v.work g.stage x j m (Whole b) (Living b) is (λ c e. e) r.draws);
       crew = crew_goes s w.round v.ruling.phase v.kind v.work (update v.work j (record (v.work j) { known = known })) g.stage v.ruling.lone x j m (Living b) kind (number_kept v.work j (record (v.work j) { known = known }) refl) r.crew;
       holders = λ z i k q h. dite (ℕ_discrete z x) (λ f. ⊎_elim (λ e. inl (sym (held_one j i m k (Living b) q (sym (update_at g.stage x z (Held j m (Living b)) f) ∙ h)).0 ∙ e)) (λ e. inr (ap v.kind (sym (held_one j i m k (Living b) q (sym (update_at g.stage x z (Held j m (Living b)) f) ∙ h)).0) ∙ e)) (r.holders x j m (Whole b) is)) (λ o. r.holders z i k q (sym (update_other g.stage x z (Held j m (Living b)) o) ∙ h));
       hand = λ c h. absurd ((r.hand c h).0 one);

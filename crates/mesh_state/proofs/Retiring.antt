@@ -17,6 +17,7 @@ use Rattle.mesh_state.specs.Work.{WorkRule, WalkRule}
 use Rattle.mesh_state.specs.Sure.{GuardsBlock}
 use Rattle.mesh_state.specs.Lists.{Holds, IsListed}
 use Rattle.mesh_state.proofs.Lists.{crew_free, plan_update, target_on, history_who, drawn_update}
+use Rattle.mesh_state.proofs.Lists.{draws_update}
 use Rattle.mesh_state.specs.Rule.{Rule}
 use Rattle.mesh_state.proofs.FoundAgain.{goes_on, goes_who, workers_on, workers_who, Moves}
 use Rattle.mesh_state.proofs.BlockSteps.{kills}
@@ -122,6 +123,7 @@ module _ (s : Setup) (w : Words) (n : ℕ) (v : Views) (g : Ghost) (r : Rule s w
         };
         history = history_who w.round g.who who' v.read v.ruling.history (λ q l. update_other g.who d q now (λ (e : q ≡ w.round + 1). omega arith)) r.history;
         drawn = drawn_update v.ruling.phase w.cursor w.free w.row v.kind v.work j (record (v.work j) { open_ = names; retired = b ∷ (v.work j).retired }) refl r.drawn;
+        draws = draws_update v.ruling.phase v.work g.stage j (record (v.work j) { open_ = names; retired = b ∷ (v.work j).retired }) refl r.draws;
         crew = crew_free s w.round v.ruling.phase v.kind (update v.work j (record (v.work j) { open_ = names; retired = b ∷ (v.work j).retired })) g.stage v.ruling.lone r.crew.rounds (λ e. let z = two in absurd (omega arith));
         holders = r.holders;
         hand = r.hand;

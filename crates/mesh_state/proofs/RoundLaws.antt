@@ -5,7 +5,7 @@ use Rattle.mesh_words.specs.Claims.{Drawn}
 use Rattle.mesh_words.specs.Places.{member_of}
 use Rattle.mesh_state.specs.Ghosts.{Life, Free, chained, stands}
 use Rattle.mesh_state.specs.Claims.{bit_of}
-use Rattle.mesh_state.specs.RoundLaws.{BetweenForests, DiffersByPatches, BisectedClosed, ClaimsAimed, ListsKnown, HistoryRight, ToldPrefix, NotesInHistory, DrawsApart, QuietRound, WalksBegin, ChainsStand, StandingKept, RoundsLeft, WorkerAlone}
+use Rattle.mesh_state.specs.RoundLaws.{BetweenForests, DiffersByPatches, BisectedClosed, ClaimsAimed, ClaimsDrawn, ListsKnown, HistoryRight, ToldPrefix, NotesInHistory, DrawsApart, QuietRound, WalksBegin, ChainsStand, StandingKept, RoundsLeft, WorkerAlone}
 use Rattle.mesh_state.proofs.FoundAgain.{chained_stands, seen_live}
 use Rattle.mesh_state.proofs.ChainSteps.{named, older_named}
 use Rattle.mesh_state.proofs.Across.{Went, half_of}
@@ -80,3 +80,6 @@ rounds_left s w n v g r = (r.crew.rounds.0, λ j k. r.crew.rounds.1 (⊎_elim (�
 
 pub worker_alone : WorkerAlone
 worker_alone s w n v g r j one k z = let t = r.crew.alone j one k z in (t.0, λ i x m p h. t.1 x i m p (r.claims.held i x m p h))
+
+pub claims_drawn : ClaimsDrawn
+claims_drawn s w n v g r j x m b p one h f = r.draws x j m b p one (r.claims.held j x m p h) f

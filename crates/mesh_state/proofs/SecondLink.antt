@@ -15,6 +15,7 @@ use Rattle.mesh_state.specs.Chains.{Finds, IsPlace}
 use Rattle.mesh_state.specs.Bisections.{IsPlaceOf, MayRead}
 use Rattle.mesh_state.specs.Sure.{GuardsHead}
 use Rattle.mesh_state.proofs.Lists.{crew_goes}
+use Rattle.mesh_state.proofs.Lists.{draws_goes}
 use Rattle.mesh_state.specs.Rule.{Rule}
 use Rattle.mesh_state.proofs.FoundAgain.{one_more, chained_stands, seen_live, names_on, goes_on, workers_on, Moves}
 use Rattle.mesh_state.proofs.ChainSteps.{moves_head, chains_head}
@@ -100,6 +101,7 @@ module _ (s : Setup) (w : Words) (n : ℕ) (v : Views) (g : Ghost) (r : Rule s w
       plan = r.plan;
       history = r.history;
       drawn = r.drawn;
+      draws = draws_goes v.ruling.phase v.work g.stage x j (y + 1) (Half b) (Whole b) is (λ c e. e) r.draws;
       crew = crew_goes s w.round v.ruling.phase v.kind v.work v.work g.stage v.ruling.lone x j (y + 1) (Whole b) kind (λ _. refl) r.crew;
       holders = λ z i c p h. dite (ℕ_discrete z x) (λ f. let t = (held_one j i (y + 1) c (Whole b) p (sym (update_at g.stage x z (Held j (y + 1) (Whole b)) f) ∙ h)).0 in inr (ap v.kind (sym t) ∙ kind)) (λ o. r.holders z i c p (sym (update_other g.stage x z (Held j (y + 1) (Whole b)) o) ∙ h));
       hand = r.hand;

@@ -147,6 +147,7 @@ module _ (s : Setup) (w : Words) (n : ℕ) (v : Views) (g : Ghost) (r : Rule s w
         drawn = λ j i b h. r.drawn.drawn j i b (drawn_was j i b h);
         apart = λ j k i b c h l. r.drawn.apart j k i b c (drawn_was j i b h) (drawn_was k i c l);
       };
+      draws = λ x j m b p one e f. dite (ℕ_discrete j n) (λ z. absurd (new_claims x m p (e ∙ ap (λ (i : ℕ). Held i m p) z))) (λ o. let t = r.draws x j m b p one e f in (t.0, subst (λ (u : Work). HasEntry u.drawn (t.0, b + 1)) (sym (update_other v.work n j (new_work number) o)) t.1));
       crew = record {
         rounds = r.crew.rounds;
         alone = λ j one k z. dite (ℕ_discrete j n)

@@ -115,6 +115,7 @@ module _ (s : Setup) (w : Words) (n : ℕ) (v : Views) (g : Ghost) (r : Rule s w
     plan = r.plan;
     history = r.history;
     drawn = record { only = r.drawn.only; drawn = λ j i b h. absurd (q.0 (r.drawn.drawn j i b h).0); apart = r.drawn.apart };
+    draws = λ x j m b p e. absurd (q.0 e);
     crew = crew_free s w.round v.ruling.phase v.kind v.work stage v.ruling.lone r.crew.rounds (λ e. absurd (q.0 e));
     holders = λ x j m p h. inl (own x j m p h);
     hand = hands;
@@ -362,42 +363,3 @@ module _ (s : Setup) (w : Words) (n : ℕ) (v : Views) (g : Ghost) (r : Rule s w
         (λ i j a l b m e. one i j l m (sym (own.rows i (at i) (rows i l).0) ∙ e ∙ own.rows j (at j) (rows j m).0))) moves_id
         (λ _ _ _ u. (u, refl)) (λ y j k p u. absurd (no_stage y j k p u)) own r.hand
         record { finished = r.stock.finished; cursor_is = r.stock.cursor_is; free_is = λ i e. omega arith; left = r.stock.left; never = λ b l. ⊎_elim inl (λ t. let t2 = t.2 in absurd (omega arith)) (r.stock.never b l) } record { undone = r.note.undone; all = r.note.all; placed = r.note.placed; seen = r.note.seen; quiet = r.note.quiet }
-
--- the owner's claims written again
-pub again : (s : Setup) (w : Words) (n : ℕ) (v : Views) (g : Ghost) → Rule s w n v g → Rule s w n (record v { claims = update v.claims 0 (v.claims 0) }) g
-again s w n v g r = record {
-  names_apart = r.names_apart;
-  claims = let c = r.claims in record {
-    held = update_cases (λ j cs. (x m : ℕ) (p : Progress) → HasEntry cs (claim x m p) → g.stage x ≡ Held j m p) v.claims 0 (v.claims 0) (c.held 0) (λ j _. c.held j);
-    holds = update_cases (λ j cs. (x m : ℕ) (p : Progress) → g.stage x ≡ Held j m p → HasEntry cs (claim x m p)) v.claims 0 (v.claims 0) (c.holds 0) (λ j _. c.holds j);
-    bits = c.bits;
-    inside = c.inside;
-    mates = c.mates;
-    shape = c.shape;
-    kept = c.kept;
-    half = c.half;
-    rows = c.rows;
-    apart = c.apart;
-    drawn = c.drawn;
-    living = c.living;
-    none = c.none;
-  };
-  labels = r.labels;
-  chains = r.chains;
-  names = r.names;
-  pins = r.pins;
-  works = r.works;
-  walks = r.walks;
-  sure = r.sure;
-  goes = r.goes;
-  rules = r.rules;
-  stock = r.stock;
-  note = r.note;
-  retired = r.retired;
-  plan = r.plan;
-  history = r.history;
-  drawn = r.drawn;
-  crew = r.crew;
-  holders = r.holders;
-  hand = r.hand;
-}

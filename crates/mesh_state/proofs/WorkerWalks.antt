@@ -15,6 +15,7 @@ use Rattle.mesh_state.specs.Rule.{Rule}
 use Rattle.mesh_state.proofs.FoundAgain.{one_more, placed, chained_stands, placed_chained, standing, none_found, first_block, seen_live}
 use Rattle.mesh_state.proofs.ChainSteps.{named, older_head, dead_end}
 use Rattle.mesh_state.proofs.Lists.{crew_update, plan_update, drawn_update}
+use Rattle.mesh_state.proofs.Lists.{draws_update}
 use Rattle.mesh_state.proofs.SureWords.{retired_on}
 use Rattle.mesh_state.proofs.Across.{Went, half_of, zero_or_more, place_one, name_one}
 
@@ -43,6 +44,7 @@ module _ (s : Setup) (w : Words) (n : ℕ) (v : Views) (g : Ghost) (r : Rule s w
     plan = plan_update s w.round v.ruling.phase g.who v.kind v.work v.ruling.plan j u lists r.plan;
     history = r.history;
     drawn = drawn_update v.ruling.phase w.cursor w.free w.row v.kind v.work j u draws r.drawn;
+    draws = draws_update v.ruling.phase v.work g.stage j u draws r.draws;
     crew = crew_update s w.round v.ruling.phase v.kind v.work g.stage v.ruling.lone j u own r.crew;
     holders = r.holders;
     hand = r.hand;

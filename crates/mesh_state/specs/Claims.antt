@@ -34,6 +34,15 @@ linked (Half b) = b + 1
 linked (Whole b) = b + 1
 linked (Living b) = b + 1
 
+-- the block of a claim, one more than its number, or 0
+abbrev pub block_of : Progress → ℕ
+block_of Claimed = 0
+block_of Failed = 0
+block_of (Drawn b) = b + 1
+block_of (Half b) = b + 1
+block_of (Whole b) = b + 1
+block_of (Living b) = b + 1
+
 -- what the words have of a claim of the place x with the second place m
 abbrev pub Shape : ℕ → (ℕ → Node) → (ℕ → ℕ) → (ℕ → Life) → ℕ → ℕ → Progress → Type 0
 Shape round head born life x m Claimed = Unit {0}

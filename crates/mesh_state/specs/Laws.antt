@@ -3,7 +3,8 @@ use Rattle.std.specs.Prelude.{◌≡◌, ℕ, ◌+◌, ◌*◌, ◌≤◌, ◌<�
 use Rattle.mesh_words.specs.Setup.{Setup}
 use Rattle.mesh_words.specs.Words.{Words}
 use Rattle.mesh_words.specs.Views.{Views}
-use Rattle.mesh_words.specs.Claims.{Progress, Claimed, Failed, Drawn, Half, Whole, Living, claim}
+use Rattle.mesh_words.specs.Claims.{Progress, claim}
+use Rattle.mesh_state.specs.Claims.{block_of}
 use Rattle.mesh_words.specs.Places.{member_of}
 use Rattle.mesh_words.specs.Entries.{HasEntry}
 use Rattle.mesh_words.specs.Sums.{sum_below, one_where}
@@ -19,15 +20,6 @@ Always P = (s : Setup) (w : Words) (n : ℕ) (v : Views) (g : Ghost) → Rule s 
 -- so it is of each round that may be read: `who` says which block bisects a name at the round
 abbrev pub AtRounds : (Setup → Words → Ghost → ℕ → (ℕ → ℕ) → Type 0) → Type 0
 AtRounds P = Always (λ s w n v g. (q : ℕ) → MayRead w.round v.ruling.phase v.read q → P s w g q (g.who q))
-
--- the block of a claim, one more than its number, or 0
-abbrev pub block_of : Progress → ℕ
-block_of Claimed = 0
-block_of Failed = 0
-block_of (Drawn b) = b + 1
-block_of (Half b) = b + 1
-block_of (Whole b) = b + 1
-block_of (Living b) = b + 1
 
 -- the claim of a place stands in one view
 abbrev pub OneHolder : Type 0

@@ -14,7 +14,7 @@ use Rattle.mesh_state.specs.Pins.{PinsRule}
 use Rattle.mesh_state.specs.Work.{WorkRule, WalkRule, RetiredKnown}
 use Rattle.mesh_state.specs.Sure.{SureRule}
 use Rattle.mesh_state.specs.Readers.{ReaderRule}
-use Rattle.mesh_state.specs.Lists.{PlanRule, HistoryRule, DrawnRule, CrewRule}
+use Rattle.mesh_state.specs.Lists.{PlanRule, HistoryRule, DrawnRule, DrawnFor, CrewRule}
 use Rattle.mesh_state.specs.Owner.{OwnerRule, StockRule, NoteRule}
 
 -- in the first half the members of a claim's patch stand at its places, are not bisected at the last finished round, and the first is of the round's target
@@ -41,6 +41,7 @@ pub record Rule (s : Setup) (w : Words) (n : ℕ) (v : Views) (g : Ghost) : Type
   pub plan : PlanRule s w.round v.ruling.phase g.who v.kind v.work v.ruling.plan
   pub history : HistoryRule w.round g.who v.read v.ruling.history
   pub drawn : DrawnRule v.ruling.phase w.cursor w.free w.row v.kind v.work
+  pub draws : DrawnFor v.ruling.phase v.work g.stage
   pub crew : CrewRule s w.round v.ruling.phase v.kind v.work g.stage v.ruling.lone
   -- a claim is the owner's or a worker's
   pub holders : (x j m : ℕ) (p : Progress) → g.stage x ≡ Held j m p → (j ≡ 0) ⊎ (v.kind j ≡ 1)

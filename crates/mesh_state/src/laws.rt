@@ -2,7 +2,7 @@
 ghost use Rattle.mesh_state.specs.Fresh.{FreshIsLawful};
 ghost use Rattle.mesh_state.specs.SquareRun.{SquareRuns};
 ghost use Rattle.mesh_state.specs.RoundForests.{LeastIsTarget, LeastWhenNeeded, ReadsForests};
-ghost use Rattle.mesh_state.specs.RoundLaws.{BetweenForests, BisectedClosed, ChainsStand, ClaimsAimed, DiffersByPatches, DrawsApart, HistoryRight, ListsKnown, NotesInHistory, QuietRound, RoundsLeft, StandingKept, ToldPrefix, WalksBegin, WorkerAlone};
+ghost use Rattle.mesh_state.specs.RoundLaws.{BetweenForests, BisectedClosed, ChainsStand, ClaimsAimed, ClaimsDrawn, DiffersByPatches, DrawsApart, HistoryRight, ListsKnown, NotesInHistory, QuietRound, RoundsLeft, StandingKept, ToldPrefix, WalksBegin, WorkerAlone};
 ghost use Rattle.mesh_state.specs.Laws.{ClearRounds, DrawsBounded, FreeRows, MembersTogether, NoEarlyReuse, NotesAgree, OneClaim, OneHolder, ParentsBisected, PinsBounded, PlacesAgree, WalksAgree, WalksEnd};
 
 /// What holds in each lawful state, and so between any two steps; that the fresh table is lawful,
@@ -30,6 +30,7 @@ pub fn laws()
     ensures told { ToldPrefix }
     ensures noted { NotesInHistory }
     ensures drawn { DrawsApart }
+    ensures draw { ClaimsDrawn }
     ensures quiet { QuietRound }
     ensures begin { WalksBegin }
     ensures chains { ChainsStand }

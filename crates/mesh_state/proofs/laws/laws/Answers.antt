@@ -1,6 +1,6 @@
 use Rattle.mesh_state.proofs.Fresh.{fresh_is_lawful}
 use Rattle.mesh_state.proofs.Lawful.{bounded, one_holder, one_claim, draws_bounded, free_rows, walks_agree, walks_end, parents_bisected, members_together, places_agree, notes_agree, no_early_reuse, clear_rounds}
-use Rattle.mesh_state.proofs.RoundLaws.{between, differs, closed, aimed, lists_known, history_right, told_prefix, notes_told, draws_apart, quiet_round, walks_begin, chains_stand, standing_kept, rounds_left, worker_alone}
+use Rattle.mesh_state.proofs.RoundLaws.{between, differs, closed, aimed, lists_known, history_right, told_prefix, notes_told, draws_apart, quiet_round, walks_begin, chains_stand, standing_kept, rounds_left, worker_alone, claims_drawn}
 use Rattle.mesh_state.proofs.RoundForests.{least_is_target, reads_forests, least_when_needed}
 use Rattle.mesh_state.proofs.SquareRound3.{square_runs}
 use Rattle.mesh_state.proofs.laws.laws.Goals as goal
@@ -103,3 +103,6 @@ returns-clause-forests c = reads_forests
 
 pub returns-clause-least : goal.returns-clause-least
 returns-clause-least c = least_when_needed
+
+pub returns-clause-draw : goal.returns-clause-draw
+returns-clause-draw c = claims_drawn
