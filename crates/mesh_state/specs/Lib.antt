@@ -13,4 +13,5 @@ pub mod Fresh
 pub mod Laws
 pub mod RoundLaws
 pub mod RoundForests
+pub mod SeatLaws
 pub mod SquareRun

@@ -3,6 +3,7 @@ ghost use Rattle.mesh_state.specs.Fresh.{FreshIsLawful};
 ghost use Rattle.mesh_state.specs.SquareRun.{SquareRuns};
 ghost use Rattle.mesh_state.specs.RoundForests.{LeastIsTarget, LeastWhenNeeded, ReadsForests};
 ghost use Rattle.mesh_state.specs.RoundLaws.{BetweenForests, BisectedClosed, ChainsStand, ClaimsAimed, ClaimsDrawn, DiffersByPatches, DrawsApart, HistoryRight, ListsKnown, NotesInHistory, QuietRound, RoundsLeft, StandingKept, ToldPrefix, WalksBegin, WorkerAlone};
+ghost use Rattle.mesh_state.specs.SeatLaws.{BeginsEqual, FilledStays, FindingsRight, LivingBlocks, LivingClaimed, LoadedStays, OneHalf, OwnerSure, WorkersWent};
 ghost use Rattle.mesh_state.specs.Laws.{ClearRounds, DrawsBounded, FreeRows, MembersTogether, NoEarlyReuse, NotesAgree, OneClaim, OneHolder, ParentsBisected, PinsBounded, PlacesAgree, WalksAgree, WalksEnd};
 
 /// What holds in each lawful state, and so between any two steps; that the fresh table is lawful,
@@ -37,6 +38,15 @@ pub fn laws()
     ensures standing { StandingKept }
     ensures rounds { RoundsLeft }
     ensures alone { WorkerAlone }
+    ensures equal { BeginsEqual }
+    ensures claimed { LivingClaimed }
+    ensures living { LivingBlocks }
+    ensures findings { FindingsRight }
+    ensures went { WorkersWent }
+    ensures half { OneHalf }
+    ensures filled { FilledStays }
+    ensures loaded { LoadedStays }
+    ensures sure { OwnerSure }
     ensures target { LeastIsTarget }
     ensures forests { ReadsForests }
     ensures least { LeastWhenNeeded }

@@ -1,6 +1,7 @@
 use Rattle.mesh_state.proofs.Fresh.{fresh_is_lawful}
 use Rattle.mesh_state.proofs.Lawful.{bounded, one_holder, one_claim, draws_bounded, free_rows, walks_agree, walks_end, parents_bisected, members_together, places_agree, notes_agree, no_early_reuse, clear_rounds}
 use Rattle.mesh_state.proofs.RoundLaws.{between, differs, closed, aimed, lists_known, history_right, told_prefix, notes_told, draws_apart, quiet_round, walks_begin, chains_stand, standing_kept, rounds_left, worker_alone, claims_drawn}
+use Rattle.mesh_state.proofs.SeatLaws.{begins_equal, living_claimed, living_blocks, findings_right, workers_went, one_half, filled_stays, loaded_stays, owner_sure}
 use Rattle.mesh_state.proofs.RoundForests.{least_is_target, reads_forests, least_when_needed}
 use Rattle.mesh_state.proofs.SquareRound3.{square_runs}
 use Rattle.mesh_state.proofs.laws.laws.Goals as goal
@@ -106,3 +107,30 @@ returns-clause-least c = least_when_needed
 
 pub returns-clause-draw : goal.returns-clause-draw
 returns-clause-draw c = claims_drawn
+
+pub returns-clause-equal : goal.returns-clause-equal
+returns-clause-equal c = begins_equal
+
+pub returns-clause-claimed : goal.returns-clause-claimed
+returns-clause-claimed c = living_claimed
+
+pub returns-clause-living : goal.returns-clause-living
+returns-clause-living c = living_blocks
+
+pub returns-clause-findings : goal.returns-clause-findings
+returns-clause-findings c = findings_right
+
+pub returns-clause-went : goal.returns-clause-went
+returns-clause-went c = workers_went
+
+pub returns-clause-half : goal.returns-clause-half
+returns-clause-half c = one_half
+
+pub returns-clause-filled : goal.returns-clause-filled
+returns-clause-filled c = filled_stays
+
+pub returns-clause-loaded : goal.returns-clause-loaded
+returns-clause-loaded c = loaded_stays
+
+pub returns-clause-sure : goal.returns-clause-sure
+returns-clause-sure c = owner_sure

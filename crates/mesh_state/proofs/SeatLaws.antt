@@ -1,0 +1,69 @@
+-- The laws of what seats know, and of blocks and claims of the round in work.
+use Rattle.std.proofs.Common.{◌≡◌, ℕ, ◌+◌, ◌<◌, Bool, false, List, [], ◌∷◌, refl, sym, ap, ◌∙◌, subst, inl, inr, ⊎_elim, arith}
+use Rattle.mesh_words.specs.Claims.{Drawn, Half, Living}
+use Rattle.mesh_words.specs.Places.{member_of}
+use Rattle.mesh_state.specs.Ghosts.{Life, Placed, chained, stands}
+use Rattle.mesh_state.specs.Chains.{Finds}
+use Rattle.mesh_state.specs.Claims.{bit_of}
+use Rattle.mesh_state.specs.SeatLaws.{BeginsEqual, LivingClaimed, LivingBlocks, FindingsRight, WorkersWent, OneHalf, FilledStays, LoadedStays, OwnerSure}
+use Rattle.mesh_state.proofs.FoundAgain.{one_more}
+use Rattle.mesh_state.proofs.Across.{half_of, place_one}
+use Rattle.mesh_state.proofs.Lawful.{walks_end}
+
+pub begins_equal : BeginsEqual
+begins_equal s w n v g r k z = r.names.fresh k z
+
+pub living_claimed : LivingClaimed
+living_claimed s w n v g r b x m u e o = let t = r.claims.kept b x m u e o in (r.claims.bits x ∙ ap bit_of t.1, (t.0, r.claims.holds t.0 x m (Living b) t.1))
+
+pub living_blocks : LivingBlocks
+living_blocks s w n v g r b x m u p z l = (
+  r.names.patch b x m u,
+  (λ t y c. (heads t y c, is b x m u p z t y c)),
+  λ c y i a q d e. let k = is b x m u p z false x (ap (λ (f : Life). chained f false) u) in let j = is c y i a q d false y (ap (λ (f : Life). chained f false) a) in one_more c b (sym j ∙ ap (g.who (w.round + 1)) e ∙ k),
+)
+  where
+    is : (c y i : ℕ) → g.life c ≡ Placed y i → 0 < w.born c → w.died c ≡ 0 → (t : Bool) (z : ℕ) → chained (g.life c) t ≡ z + 1 → g.who (w.round + 1) (w.name (member_of c t)) ≡ c + 1
+    is c y i a q d t z h = (r.names.sound (w.round + 1) (inr (refl, l)) c t z h (q, r.chains.borns c, inl d)).0
+
+    -- a block that a HISTORY word leads to is retired
+    later : (y : ℕ) (ts : List (ℕ × Bool)) (a : ℕ) (t : Bool) → stands (g.life a) t ≡ y + 1 → Finds w.hist w.born w.died g.life (w.round + 1) y b (w.hist (member_of a t)) ts → ⊥
+    later y [] a t h f = absurd f
+    later y (c ∷ ts) a t h f = ⊎_elim (λ e. let d = (walks_end s w n v g r a c.0 y t h f.0).0 in let k : w.died c.0 ≡ w.died b = ap w.died e.0 in omega arith) (λ q. later y ts c.0 c.1 f.1 q) f.2
+
+    first : (y : ℕ) (ts : List (ℕ × Bool)) → Finds w.hist w.born w.died g.life (w.round + 1) y b (w.head y) ts → (w.head y).block ≡ b + 1
+    first y [] f = absurd f
+    first y (c ∷ ts) f = ⊎_elim (λ e. f.0 ∙ ap (λ (i : ℕ). i + 1) e.0) (λ q. absurd (later y ts c.0 c.1 f.1 q)) f.2
+
+    heads : (t : Bool) (y : ℕ) → chained (g.life b) t ≡ y + 1 → (w.head y).block ≡ b + 1
+    heads t y c = let k = (r.names.sound (w.round + 1) (inr (refl, l)) b t y c (p, r.chains.borns b, inl z)) in let f = (r.names.fits (w.round + 1) (inr (refl, l))).found (w.name (member_of b t)) b k.0 in
+        let same = place_one s w n v g r (w.round + 1) (inr (refl, l)) f.1 y (w.name (member_of b t)) f.4 k.1 in first y f.5.0 (subst (λ (i : ℕ). Finds w.hist w.born w.died g.life (w.round + 1) i b (w.head i) f.5.0) same f.5.1)
+
+pub findings_right : FindingsRight
+findings_right s w n v g r j k = let u = r.works j in ((λ x h. u.found x k h), (λ h. u.known k h), (λ h. u.open_ k h), λ b h. let t = u.given b k h in (t.1, t.2.3, t.2.4, t.2.5))
+
+pub workers_went : WorkersWent
+workers_went s w n v g r j b h = let t = ((r.walks j).went b h).0 in (t, λ e. let z : 0 ≡ t.1 + 1 = sym (ap (λ (l : Life). stands l t.0) e) ∙ t.2 in omega arith)
+
+pub one_half : OneHalf
+one_half s w n v g r j k = ((r.walks j).half k, half_of s w n v g r j k, λ two i x m p h. r.claims.living x i m p (r.claims.held i x m p h) two)
+
+pub filled_stays : FilledStays
+filled_stays s w n v g r j x m b h = let e = r.claims.held j x m (Drawn b) h in let u = r.sure j in (
+  (λ t l f. u.hist_is b t l f (inr (x, m, inl e))),
+  (λ t k f. u.name_is b t k f (inr (x, m, inl e))),
+  (λ k f. u.died_is b k f (inr (x, m, inl e))),
+  λ z l a f. u.head_is z l f (inr (x, m, b, inl (e, a))),
+)
+
+pub loaded_stays : LoadedStays
+loaded_stays s w n v g r j x z b l h f = (r.sure j).head_is z l f (inr (x, z + 1, b, inr (r.claims.held j x (z + 1) (Half b) h, refl)))
+
+pub owner_sure : OwnerSure
+owner_sure s w n v g r home = let u = r.sure 0 in (
+  (λ z l f. u.head_is z l f (inl (refl, home))),
+  (λ b t l f. u.hist_is b t l f (inl (refl, home))),
+  (λ b t k f. u.name_is b t k f (inl (refl, home))),
+  (λ b k. ((λ f. u.born_is b k f refl home), λ f. u.died_is b k f (inl (refl, home)))),
+  λ i b f. u.row_is i b f refl home,
+)

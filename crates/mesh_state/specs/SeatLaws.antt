@@ -1,0 +1,52 @@
+-- What the rule says of what seats know, and of blocks and claims of the round in work.
+use Rattle.std.specs.Prelude.{◌≡◌, ℕ, ◌+◌, ◌<◌, ◌≤◌, Bool, false, ◌⊎◌}
+use Rattle.mesh_words.specs.Claims.{Progress, Drawn, Half, Living, claim}
+use Rattle.mesh_words.specs.Entries.{HasEntry, Noted}
+use Rattle.mesh_words.specs.Places.{member_of, child_place}
+use Rattle.mesh_words.specs.Words.{Node}
+use Rattle.mesh_state.specs.Ghosts.{Free, Placed, chained, stands}
+use Rattle.mesh_state.specs.Bisections.{IsPlaceOf, IsPatch}
+use Rattle.mesh_state.specs.Laws.{Always}
+use Rattle.mesh_state.specs.Lists.{Holds}
+
+-- before the round's first pass the round in work reads as the last finished one
+abbrev pub BeginsEqual : Type 0
+BeginsEqual = Always (λ s w n v g. (k : ℕ) → v.ruling.phase ≡ 0 → g.who (w.round + 1) k ≡ g.who w.round k)
+
+-- each block that was published in the round in work has its claim in a view, with the bit set, but while the round is closed
+abbrev pub LivingClaimed : Type 0
+LivingClaimed = Always (λ s w n v g. (b x m : ℕ) → g.life b ≡ Placed x m → w.born b ≡ w.round + 1 → (v.ruling.phase ≡ 3 → ⊥) → (w.claimed x ≡ 1) × ((j : ℕ) × HasEntry (v.claims j) (claim x m (Living b))))
+
+-- a living block has the names of a patch, which it bisects at the round in work; the LINK of each member names it; and no other block has a name of the patch
+abbrev pub LivingBlocks : Type 0
+LivingBlocks = Always (λ s w n v g. (b x m : ℕ) → g.life b ≡ Placed x m → 0 < w.born b → w.died b ≡ 0 → v.ruling.phase < 4 → IsPatch s w.name b m
+    × ((t : Bool) (y : ℕ) → chained (g.life b) t ≡ y + 1 → ((w.head y).block ≡ b + 1) × (g.who (w.round + 1) (w.name (member_of b t)) ≡ b + 1))
+    × ((c y i : ℕ) → g.life c ≡ Placed y i → 0 < w.born c → w.died c ≡ 0 → w.name (member_of c false) ≡ w.name (member_of b false) → c ≡ b))
+
+-- what a pass found of the round in work is so: places and bisected names in the first half, and in the second names that are not bisected and blocks of patches
+abbrev pub FindingsRight : Type 0
+FindingsRight = Always (λ s w n v g. (j k : ℕ) → ((x : ℕ) → HasEntry (v.work j).found (x, k) → (v.ruling.phase ≡ 1) × IsPlaceOf s w.name (g.who (w.round + 1)) x k) × (HasEntry (v.work j).known k → (v.ruling.phase ≡ 1) × Holds (g.who (w.round + 1)) k) × (HasEntry (v.work j).open_ k → (v.ruling.phase ≡ 2) × (g.who (w.round + 1) k ≡ 0))
+    × ((b : ℕ) → HasEntry (v.work j).given (b, k) → (w.name (member_of b false) ≡ k) × (0 < w.born b) × (w.born b ≤ w.round) × ((w.died b ≡ 0) ⊎ (w.died b ≡ w.round + 1))))
+
+-- a block to which a worker's pass has gone stands, so that it is not free
+abbrev pub WorkersWent : Type 0
+WorkersWent = Always (λ s w n v g. (j b : ℕ) → HasEntry (v.work j).went b → ((t : Bool) × (x : ℕ) × (stands (g.life b) t ≡ x + 1)) × (g.life b ≡ Free → ⊥))
+
+-- all workers' passes are of one half, and in the second each claim has a living block
+abbrev pub OneHalf : Type 0
+OneHalf = Always (λ s w n v g. (j : ℕ) → v.kind j ≡ 1 → ((v.work j).half ≡ v.ruling.phase) × ((v.ruling.phase ≡ 1) ⊎ (v.ruling.phase ≡ 2)) × (v.ruling.phase ≡ 2 → (i x m : ℕ) (p : Progress) → HasEntry (v.claims i) (claim x m p) → (b : ℕ) × (p ≡ Living b)))
+
+-- until a claim's block is linked whole, what its seat filled into the words of the block, and what it loaded from the members' LINK words or filled into the children's, stands there
+abbrev pub FilledStays : Type 0
+FilledStays = Always (λ s w n v g. (j x m b : ℕ) → HasEntry (v.claims j) (claim x m (Drawn b)) →
+    ((t : Bool) (l : Node) → Noted (v.sure j).hist (member_of b t) l → w.hist (member_of b t) ≡ l) × ((t : Bool) (k : ℕ) → Noted (v.sure j).name (member_of b t) k → w.name (member_of b t) ≡ k) × ((k : ℕ) → Noted (v.sure j).died b k → w.died b ≡ k)
+    × ((z : ℕ) (l : Node) → (z ≡ x) ⊎ (m ≡ z + 1) ⊎ ((t : Bool) × (c : Bool) × (z ≡ child_place s.elements b t c)) → Noted (v.sure j).head z l → w.head z ≡ l))
+
+-- and the same of the second member's LINK while the first alone is linked
+abbrev pub LoadedStays : Type 0
+LoadedStays = Always (λ s w n v g. (j x z b : ℕ) (l : Node) → HasEntry (v.claims j) (claim x (z + 1) (Half b)) → Noted (v.sure j).head z l → w.head z ≡ l)
+
+-- while no worker's pass is out, what the owner noted of a word is its content
+abbrev pub OwnerSure : Type 0
+OwnerSure = Always (λ s w n v g. v.ruling.workers ≡ 0 → ((z : ℕ) (l : Node) → Noted (v.sure 0).head z l → w.head z ≡ l) × ((b : ℕ) (t : Bool) (l : Node) → Noted (v.sure 0).hist (member_of b t) l → w.hist (member_of b t) ≡ l)
+    × ((b : ℕ) (t : Bool) (k : ℕ) → Noted (v.sure 0).name (member_of b t) k → w.name (member_of b t) ≡ k) × ((b k : ℕ) → (Noted (v.sure 0).born b k → w.born b ≡ k) × (Noted (v.sure 0).died b k → w.died b ≡ k)) × ((i b : ℕ) → Noted (v.sure 0).row i b → w.row i ≡ b))
