@@ -105,4 +105,4 @@ pub no_early_reuse : NoEarlyReuse
 no_early_reuse s w n v g r j q b p h = (r.goes j).went q b p h
 
 pub clear_rounds : ClearRounds
-clear_rounds s w n v g r q j h e = no_pin s w n v g r q h j e
+clear_rounds s w n v g r q j h = ((r.rules.clear q h).0, λ e. no_pin s w n v g r q h j e)

@@ -16,7 +16,7 @@ between s w n v g r one = (r.plan.aim (omega arith) (omega arith), λ k. ((λ h.
 
 pub differs : DiffersByPatches
 differs s w n v g r later k = let a : 1 < v.ruling.phase = ⊎_elim (λ e. omega arith) (λ e. omega arith) later in let b : v.ruling.phase < 4 = ⊎_elim (λ e. omega arith) (λ e. omega arith) later in
-    ((λ h. r.plan.within k (omega arith) b h), λ h. r.plan.whole k a b h)
+    ((λ h. r.plan.within k (omega arith) b h), (λ h. r.plan.whole k a b h), λ e h l. let z = r.plan.done k e h in let y = l.1 in omega arith)
 
 pub closed : BisectedClosed
 closed s w n v g r q may = bisected_closed s w n v g r q may

@@ -1,12 +1,13 @@
 -- The laws of what seats know, and of blocks and claims of the round in work.
-use Rattle.std.proofs.Common.{◌≡◌, ℕ, ◌+◌, ◌<◌, Bool, false, List, [], ◌∷◌, refl, sym, ap, ◌∙◌, subst, inl, inr, ⊎_elim, arith}
+use Rattle.std.proofs.Common.{◌⊎◌, ◌≤◌, ◌≡◌, ℕ, ◌+◌, ◌<◌, Bool, false, List, [], ◌∷◌, refl, sym, ap, ◌∙◌, subst, inl, inr, ⊎_elim, arith}
+use Rattle.mesh_words.specs.Words.{Node}
 use Rattle.mesh_words.specs.Claims.{Drawn, Half, Living}
 use Rattle.mesh_words.specs.Places.{member_of}
 use Rattle.mesh_state.specs.Ghosts.{Life, Placed, chained, stands}
 use Rattle.mesh_state.specs.Chains.{Finds}
 use Rattle.mesh_state.specs.Claims.{bit_of}
-use Rattle.mesh_state.specs.SeatLaws.{BeginsEqual, LivingClaimed, LivingBlocks, FindingsRight, WorkersWent, OneHalf, FilledStays, LoadedStays, OwnerSure}
-use Rattle.mesh_state.proofs.FoundAgain.{one_more}
+use Rattle.mesh_state.specs.SeatLaws.{BeginsEqual, LivingClaimed, LivingBlocks, FindingsRight, WorkersWent, OneHalf, FilledStays, LoadedStays, OwnerSure, PinsCounted, LinkWords, HistoryWords, RetiredNoted}
+use Rattle.mesh_state.proofs.FoundAgain.{one_more, placed}
 use Rattle.mesh_state.proofs.Across.{half_of, place_one}
 use Rattle.mesh_state.proofs.Lawful.{walks_end}
 
@@ -14,7 +15,10 @@ pub begins_equal : BeginsEqual
 begins_equal s w n v g r k z = r.names.fresh k z
 
 pub living_claimed : LivingClaimed
-living_claimed s w n v g r b x m u e o = let t = r.claims.kept b x m u e o in (r.claims.bits x ∙ ap bit_of t.1, (t.0, r.claims.holds t.0 x m (Living b) t.1))
+living_claimed = (
+  (λ s w n v g r b x m u e o. let t = r.claims.kept b x m u e o in (r.claims.bits x ∙ ap bit_of t.1, (t.0, r.claims.holds t.0 x m (Living b) t.1))),
+  λ s w n v g r j b x m h. let t = r.claims.shape x j m (Living b) (r.claims.held j x m (Living b) h) in (t.1, t.0, t.2, t.3),
+)
 
 pub living_blocks : LivingBlocks
 living_blocks s w n v g r b x m u p z l = (
@@ -67,3 +71,23 @@ owner_sure s w n v g r home = let u = r.sure 0 in (
   (λ b k. ((λ f. u.born_is b k f refl home), λ f. u.died_is b k f (inl (refl, home)))),
   λ i b f. u.row_is i b f refl home,
 )
+
+pub pins_counted : PinsCounted
+pins_counted s w n v g r = ((λ q k h. sym (r.stock.left q k h).1 ∙ r.pins.count q), (λ q l. (r.pins.later q l).1), r.pins.past, (let a = r.rules.few_readers in let b = r.rules.readers in omega arith), r.pins.bound)
+
+pub link_words : LinkWords
+link_words s w n v g r x b l e = ⊎_elim
+    (λ o. let z : 0 ≡ b + 1 = sym (ap (λ (k : Node). k.block) o) ∙ e in absurd (omega arith))
+    (λ o. let same : o.0 ≡ b = one_more o.0 b (sym o.2 ∙ e) in subst (λ (i : ℕ). ((t : Bool) × (chained (g.life i) t ≡ x + 1)) × (0 < (w.head x).died → ((w.head x).died ≡ w.died i) × (w.born i < w.died i)) × ((w.head x).died ≡ 0 → (w.died i ≡ 0) ⊎ (w.died i ≡ w.round + 1))) same
+    ((o.1, o.3), (λ p. let d = o.4 p in let q = placed (g.life o.0) o.1 x o.3 in (d, (r.chains.dieds o.0 q.0 q.1 q.2 (omega arith)).1)), o.5))
+    (r.chains.heads x l)
+
+pub history_words : HistoryWords
+history_words s w n v g r a c x t h e = ⊎_elim
+    (λ o. let z : 0 ≡ c + 1 = sym (ap (λ (k : Node). k.block) o) ∙ e in absurd (omega arith))
+    (λ o. let same : o.0 ≡ c = one_more o.0 c (sym (ap (λ (k : Node). k.block) o.2) ∙ e) in subst (λ (i : ℕ). ((u : Bool) × (chained (g.life i) u ≡ x + 1)) × ((w.hist (member_of a t)).died ≡ w.died i) × (0 < w.died i) × (w.born i < w.died i) × (w.died i ≤ w.round) × (0 < w.born a → w.died i < w.born a)) same
+    (let q = placed (g.life o.0) o.1 x o.3 in ((o.1, o.3), ap (λ (k : Node). k.died) o.2, o.4, (r.chains.dieds o.0 q.0 q.1 q.2 o.4).1, o.6, o.5)))
+    (r.chains.hists a t x h)
+
+pub retired_noted : RetiredNoted
+retired_noted s w n v g r b x m u e = r.retired b x m u e

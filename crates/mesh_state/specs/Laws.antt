@@ -69,6 +69,6 @@ PinsBounded = Always (λ s w n v g. (w.taken ≤ s.limit + s.passes + 1) × (w.t
 abbrev pub NoEarlyReuse : Type 0
 NoEarlyReuse = Always (λ s w n v g. (j q b : ℕ) → (v.read j).pin ≡ q + 1 → HasEntry (v.read j).went b → ((t : Bool) × (x : ℕ) × (stands (g.life b) t ≡ x + 1)) × ((w.died b ≡ 0) ⊎ (q < w.died b)))
 
--- of a round that the owner knows as clear no view has a pin
+-- a round that the owner knows as clear was left, and no view has a pin of it
 abbrev pub ClearRounds : Type 0
-ClearRounds = Always (λ s w n v g. (q j : ℕ) → HasEntry v.ruling.clear q → (v.read j).pin ≡ q + 1 → ⊥)
+ClearRounds = Always (λ s w n v g. (q j : ℕ) → HasEntry v.ruling.clear q → (q < w.round) × ((v.read j).pin ≡ q + 1 → ⊥))

@@ -14,9 +14,9 @@ use Rattle.mesh_state.specs.Lists.{Holds, IsClosed, IsTarget, IsListed}
 abbrev pub BetweenForests : Type 0
 BetweenForests = Always (λ s w n v g. v.ruling.phase ≡ 1 → IsTarget s (Holds (g.who w.round)) v.ruling.plan × ((k : ℕ) → (Holds (g.who w.round) k → Holds (g.who (w.round + 1)) k) × (Holds (g.who (w.round + 1)) k → HasEntry v.ruling.plan.target k)))
 
--- in the second half and while the round is closed they are the target's, but for patches of the retire list
+-- in the second half and while the round is closed they are the target's, but for patches of the retire list, of which none is left when the round is closed
 abbrev pub DiffersByPatches : Type 0
-DiffersByPatches = Always (λ s w n v g. (v.ruling.phase ≡ 2) ⊎ (v.ruling.phase ≡ 3) → (k : ℕ) → (Holds (g.who (w.round + 1)) k → HasEntry v.ruling.plan.target k) × (HasEntry v.ruling.plan.target k → Holds (g.who (w.round + 1)) k ⊎ IsListed s v.ruling.plan.retire k))
+DiffersByPatches = Always (λ s w n v g. (v.ruling.phase ≡ 2) ⊎ (v.ruling.phase ≡ 3) → (k : ℕ) → (Holds (g.who (w.round + 1)) k → HasEntry v.ruling.plan.target k) × (HasEntry v.ruling.plan.target k → Holds (g.who (w.round + 1)) k ⊎ IsListed s v.ruling.plan.retire k) × (v.ruling.phase ≡ 3 → IsListed s v.ruling.plan.retire k → Holds (g.who (w.round + 1)) k → ⊥))
 
 -- at each round that may be read the parent of a bisected name is bisected, and the other member of its patch
 abbrev pub BisectedClosed : Type 0

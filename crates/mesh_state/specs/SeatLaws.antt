@@ -3,8 +3,10 @@ use Rattle.std.specs.Prelude.{◌≡◌, ℕ, ◌+◌, ◌<◌, ◌≤◌, Bool,
 use Rattle.mesh_words.specs.Claims.{Progress, Drawn, Half, Living, claim}
 use Rattle.mesh_words.specs.Entries.{HasEntry, Noted}
 use Rattle.mesh_words.specs.Places.{member_of, child_place}
-use Rattle.mesh_words.specs.Words.{Node}
+use Rattle.mesh_words.specs.Sums.{sum_below, one_where}
+use Rattle.mesh_words.specs.Words.{Node, node}
 use Rattle.mesh_state.specs.Ghosts.{Free, Placed, chained, stands}
+use Rattle.mesh_state.specs.Chains.{IsPlace}
 use Rattle.mesh_state.specs.Bisections.{IsPlaceOf, IsPatch}
 use Rattle.mesh_state.specs.Laws.{Always}
 use Rattle.mesh_state.specs.Lists.{Holds}
@@ -13,9 +15,10 @@ use Rattle.mesh_state.specs.Lists.{Holds}
 abbrev pub BeginsEqual : Type 0
 BeginsEqual = Always (λ s w n v g. (k : ℕ) → v.ruling.phase ≡ 0 → g.who (w.round + 1) k ≡ g.who w.round k)
 
--- each block that was published in the round in work has its claim in a view, with the bit set, but while the round is closed
+-- each block that was published in the round in work has its claim in a view, with the bit set, but while the round is closed; and the block of such a claim was, and both links name it
 abbrev pub LivingClaimed : Type 0
 LivingClaimed = Always (λ s w n v g. (b x m : ℕ) → g.life b ≡ Placed x m → w.born b ≡ w.round + 1 → (v.ruling.phase ≡ 3 → ⊥) → (w.claimed x ≡ 1) × ((j : ℕ) × HasEntry (v.claims j) (claim x m (Living b))))
+    × Always (λ s w n v g. (j b x m : ℕ) → HasEntry (v.claims j) (claim x m (Living b)) → (w.born b ≡ w.round + 1) × (g.life b ≡ Placed x m) × (w.head x ≡ node (b + 1) 0) × ((y : ℕ) → m ≡ y + 1 → w.head y ≡ node (b + 1) 0))
 
 -- a living block has the names of a patch, which it bisects at the round in work; the LINK of each member names it; and no other block has a name of the patch
 abbrev pub LivingBlocks : Type 0
@@ -50,3 +53,20 @@ LoadedStays = Always (λ s w n v g. (j x z b : ℕ) (l : Node) → HasEntry (v.c
 abbrev pub OwnerSure : Type 0
 OwnerSure = Always (λ s w n v g. v.ruling.workers ≡ 0 → ((z : ℕ) (l : Node) → Noted (v.sure 0).head z l → w.head z ≡ l) × ((b : ℕ) (t : Bool) (l : Node) → Noted (v.sure 0).hist (member_of b t) l → w.hist (member_of b t) ≡ l)
     × ((b : ℕ) (t : Bool) (k : ℕ) → Noted (v.sure 0).name (member_of b t) k → w.name (member_of b t) ≡ k) × ((b k : ℕ) → (Noted (v.sure 0).born b k → w.born b ≡ k) × (Noted (v.sure 0).died b k → w.died b ≡ k)) × ((i b : ℕ) → Noted (v.sure 0).row i b → w.row i ≡ b))
+
+-- pins of a round that was left were given back or are in a view; none is of a later round; and readers and pins are bounded
+abbrev pub PinsCounted : Type 0
+PinsCounted = Always (λ s w n v g. ((q k : ℕ) → HasEntry v.ruling.left (q, k) → k ≡ w.released q + sum_below n (λ j. one_where (v.read j).pin (q + 1))) × ((q : ℕ) → w.round < q → w.released q ≡ 0) × ((j q : ℕ) → (v.read j).pin ≡ q + 1 → q ≤ w.round)
+    × (sum_below n (λ j. one_where (v.kind j) 2) ≤ s.passes + 1) × (w.taken + sum_below n (λ j. (v.read j).ready) ≤ s.limit + s.passes + 1))
+
+-- a LINK word names a block of its place: with the block's retired round, or with none where the block is not retired or in the round in work alone
+abbrev pub LinkWords : Type 0
+LinkWords = Always (λ s w n v g. (x b : ℕ) → IsPlace s.elements g.life x → (w.head x).block ≡ b + 1 → ((t : Bool) × (chained (g.life b) t ≡ x + 1)) × (0 < (w.head x).died → ((w.head x).died ≡ w.died b) × (w.born b < w.died b)) × ((w.head x).died ≡ 0 → (w.died b ≡ 0) ⊎ (w.died b ≡ w.round + 1)))
+
+-- a HISTORY word names a block of the same place with its retired round, which is of a finished round, and before the birth of the block that has the word
+abbrev pub HistoryWords : Type 0
+HistoryWords = Always (λ s w n v g. (a c x : ℕ) (t : Bool) → stands (g.life a) t ≡ x + 1 → (w.hist (member_of a t)).block ≡ c + 1 → ((u : Bool) × (chained (g.life c) u ≡ x + 1)) × ((w.hist (member_of a t)).died ≡ w.died c) × (0 < w.died c) × (w.born c < w.died c) × (w.died c ≤ w.round) × (0 < w.born a → w.died c < w.born a))
+
+-- each block that was retired in the round in work is noted in the view of a worker's pass or the owner's
+abbrev pub RetiredNoted : Type 0
+RetiredNoted = Always (λ s w n v g. (b x m : ℕ) → g.life b ≡ Placed x m → w.died b ≡ w.round + 1 → ((j : ℕ) × HasEntry (v.work j).retired b) ⊎ HasEntry v.ruling.retired b)

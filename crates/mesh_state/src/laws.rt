@@ -3,7 +3,7 @@ ghost use Rattle.mesh_state.specs.Fresh.{FreshIsLawful};
 ghost use Rattle.mesh_state.specs.SquareRun.{SquareRuns};
 ghost use Rattle.mesh_state.specs.RoundForests.{LeastIsTarget, LeastWhenNeeded, ReadsForests};
 ghost use Rattle.mesh_state.specs.RoundLaws.{BetweenForests, BisectedClosed, ChainsStand, ClaimsAimed, ClaimsDrawn, DiffersByPatches, DrawsApart, HistoryRight, ListsKnown, NotesInHistory, QuietRound, RoundsLeft, StandingKept, ToldPrefix, WalksBegin, WorkerAlone};
-ghost use Rattle.mesh_state.specs.SeatLaws.{BeginsEqual, FilledStays, FindingsRight, LivingBlocks, LivingClaimed, LoadedStays, OneHalf, OwnerSure, WorkersWent};
+ghost use Rattle.mesh_state.specs.SeatLaws.{BeginsEqual, FilledStays, FindingsRight, HistoryWords, LinkWords, LivingBlocks, LivingClaimed, LoadedStays, OneHalf, OwnerSure, PinsCounted, RetiredNoted, WorkersWent};
 ghost use Rattle.mesh_state.specs.Laws.{ClearRounds, DrawsBounded, FreeRows, MembersTogether, NoEarlyReuse, NotesAgree, OneClaim, OneHolder, ParentsBisected, PinsBounded, PlacesAgree, WalksAgree, WalksEnd};
 
 /// What holds in each lawful state, and so between any two steps; that the fresh table is lawful,
@@ -47,6 +47,10 @@ pub fn laws()
     ensures filled { FilledStays }
     ensures loaded { LoadedStays }
     ensures sure { OwnerSure }
+    ensures pinned { PinsCounted }
+    ensures links { LinkWords }
+    ensures histories { HistoryWords }
+    ensures retired { RetiredNoted }
     ensures target { LeastIsTarget }
     ensures forests { ReadsForests }
     ensures least { LeastWhenNeeded }
