@@ -27,6 +27,7 @@ pub mod TakingBack
 pub mod Fresh
 pub mod RoundLaws
 pub mod RoundForests
+pub mod RoundCoarsens
 pub mod SeatLaws
 pub mod SquareNotes
 pub mod SquareLists

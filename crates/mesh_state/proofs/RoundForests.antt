@@ -48,7 +48,7 @@ module _ (mesh : Shape) (across : Across) (l : Layout) (passes : ℕ) (tells : T
       (child_is mesh (name_code n) c)
 
   -- the second member of a patch that the name owns
-  mate_of : (n m : Name) (t : Bool) → n.0 < size mesh → level mesh n < 24 → owns across n ≡ true → partner across n.0 n.1 ≡ Some (m, t) → s.mate (name_code n) ≡ name_code m
+  pub mate_of : (n m : Name) (t : Bool) → n.0 < size mesh → level mesh n < 24 → owns across n ≡ true → partner across n.0 n.1 ≡ Some (m, t) → s.mate (name_code n) ≡ name_code m
   mate_of n m t root low own e = let back = code_back n (omega arith) in
       ap (λ (b : Bool). cond b (partner_code across (name_code n)) 0) (both_true _ _ (coded n root low) (ap (owns across) back ∙ own))
       ∙ ap (λ (i : Name). name_word (option_map (λ (j : Name × Bool). j.0) (partner across i.0 i.1))) back ∙ ap (λ (o : Option (Name × Bool)). name_word (option_map (λ (j : Name × Bool). j.0) o)) e

@@ -1,8 +1,10 @@
 -- The lists of a round as sets of names: the target is the least forest.
-use Rattle.std.specs.Prelude.{◌≡◌, ℕ, List, ◌+◌, ◌≤◌}
+use Rattle.std.specs.Prelude.{◌≡◌, ℕ, true, List, ◌+◌, ◌≤◌}
 use Rattle.mesh_names.specs.Names.{Name, depth}
 use Rattle.mesh_names.specs.Triangles.{Shape}
 use Rattle.mesh_names.specs.Forests.{Names, Has, IsForest, Conforms}
+use Rattle.mesh_names.specs.Coarsening.{MarkedForest, after_steps}
+use Rattle.mesh_names.specs.Patches.{owns}
 use Rattle.mesh_names.specs.LeastForest.{IsLeast}
 use Rattle.mesh_names.specs.Partners.{Across, Tells}
 use Rattle.mesh_words.specs.declared.layout.Layout.{Layout}
@@ -13,7 +15,7 @@ use Rattle.mesh_words.specs.Views.{Plan, Views}
 use Rattle.mesh_words.specs.Words.{Words}
 use Rattle.mesh_state.specs.Ghosts.{Ghost}
 use Rattle.mesh_state.specs.Bisections.{MayRead}
-use Rattle.mesh_state.specs.Lists.{Holds, IsTarget}
+use Rattle.mesh_state.specs.Lists.{Holds, IsTarget, IsListed}
 use Rattle.mesh_state.specs.Rule.{Rule}
 
 -- the numbers are the codes of the names of the set, each of at most 24 letters
@@ -40,3 +42,10 @@ abbrev pub LeastWhenNeeded : Type 0
 LeastWhenNeeded = (mesh : Shape) (across : Across) (l : Layout) (passes : ℕ) → Tells mesh across → (w : Words) (n : ℕ) (v : Views) (g : Ghost) → Rule (setup_of mesh across l passes) w n v g → v.ruling.phase ≡ 1
     → ((k : ℕ) → HasEntry v.ruling.plan.needs k → Holds (g.who (w.round + 1)) k)
     → (old needs new : Names) → AreCodes old (Holds (g.who w.round)) → AreCodes needs (HasEntry v.ruling.plan.needs) → AreCodes new (Holds (g.who (w.round + 1))) → IsLeast mesh old needs new
+
+-- the law that the names which the history gets are those of the target after coarsening steps, where the retire list has the codes of the patches that the steps take away
+abbrev pub HistoryCoarsens : Type 0
+HistoryCoarsens = (mesh : Shape) (across : Across) (l : Layout) (passes : ℕ) → Tells mesh across → (m : MarkedForest) (steps : List Name) (p : Plan) → IsForest mesh m.forest → ((q : Name) → HasEntry steps q → Has m.forest q × (owns across q ≡ true))
+    → AreCodes m.forest (HasEntry p.target) → ((q : Name) → HasEntry steps q → HasEntry p.retire (name_code q)) → ((k : ℕ) → HasEntry p.retire k → (q : Name) × HasEntry steps q × (k ≡ name_code q))
+    → (forest : List ℕ) → ((i : ℕ) → HasEntry forest i → HasEntry p.target i × (IsListed (setup_of mesh across l passes) p.retire i → ⊥)) → ((i : ℕ) → HasEntry p.target i → (IsListed (setup_of mesh across l passes) p.retire i → ⊥) → HasEntry forest i)
+    → AreCodes (after_steps across steps m).forest (HasEntry forest)

@@ -1,7 +1,7 @@
 //! Laws over the definitions alone.
 ghost use Rattle.mesh_state.specs.Fresh.{FreshIsLawful};
 ghost use Rattle.mesh_state.specs.SquareRun.{SquareRuns};
-ghost use Rattle.mesh_state.specs.RoundForests.{LeastIsTarget, LeastWhenNeeded, ReadsForests};
+ghost use Rattle.mesh_state.specs.RoundForests.{HistoryCoarsens, LeastIsTarget, LeastWhenNeeded, ReadsForests};
 ghost use Rattle.mesh_state.specs.RoundLaws.{BetweenForests, BisectedClosed, ChainsStand, ClaimsAimed, ClaimsDrawn, DiffersByPatches, DrawsApart, HistoryRight, ListsKnown, NotesInHistory, QuietRound, RoundsLeft, StandingKept, ToldPrefix, WalksBegin, WorkerAlone};
 ghost use Rattle.mesh_state.specs.SeatLaws.{BeginsEqual, FilledStays, FindingsRight, HistoryWords, LinkWords, LivingBlocks, LivingClaimed, LoadedStays, OneHalf, OwnerSure, PinsCounted, RetiredNoted, WorkersWent};
 ghost use Rattle.mesh_state.specs.Laws.{ClearRounds, DrawsBounded, FreeRows, MembersTogether, NoEarlyReuse, NotesAgree, OneClaim, OneHolder, ParentsBisected, PinsBounded, PlacesAgree, WalksAgree, WalksEnd};
@@ -53,6 +53,7 @@ pub fn laws()
     ensures retired { RetiredNoted }
     ensures target { LeastIsTarget }
     ensures forests { ReadsForests }
+    ensures coarsened { HistoryCoarsens }
     ensures least { LeastWhenNeeded }
     ensures fresh { FreshIsLawful }
     ensures square { SquareRuns }
