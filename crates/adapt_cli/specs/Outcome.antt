@@ -14,6 +14,7 @@ use Rattle.macro_file.specs.declared.refusal.MacroRefusal.{MacroRefusal}
 use Rattle.compat_check.specs.Meshes.{Mesh, shape_of, across_in}
 use Rattle.compat_check.specs.Checks.{IsMeshOf, IsCheckRefusal}
 use Rattle.compat_check.specs.declared.refusal.CheckRefusal.{CheckRefusal}
+use Rattle.compat_check.specs.declared.refusal.CheckRefusal.TheVariants.{Memory as no_memory}
 use Rattle.mark_file.specs.Meaning.{Round, marks_meaning}
 use Rattle.mark_file.specs.declared.refusal.MarkRefusal.{MarkRefusal}
 use Rattle.mesh_writer.specs.MeshText.{mesh_text}
@@ -31,11 +32,12 @@ marks_limit = 67108864
 abbrev pub pool : ℕ
 pool = 65536
 
--- the bytes are a macro file of this mesh
+-- the bytes are a macro file of this mesh, which the check refuses for nothing
 pub record AcceptsMacro (bytes : List ℕ) (mesh : Mesh) : Type 0 where
   pub short : length bytes ≤ macro_limit
   pub text : MacroText
   pub read : meaning bytes ≡ Ok (macro_of text)
+  pub faultless : (refusal : CheckRefusal) → IsCheckRefusal text refusal → refusal ≡ no_memory
   pub checked : IsMeshOf text mesh
 
 -- where the shelf tells its files, the macro file is there and is accepted
