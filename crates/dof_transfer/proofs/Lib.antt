@@ -4,3 +4,5 @@ pub mod Soundness
 pub mod Ledgers
 pub mod FirstNames
 pub mod Exchanging
+pub mod Runs
+pub mod Sizes

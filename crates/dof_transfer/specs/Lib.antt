@@ -3,3 +3,4 @@ pub mod Held
 pub mod Exchanges
 pub mod Ledgers
 pub mod Macros
+pub mod ByName

@@ -2,6 +2,7 @@
 #![tactic(auto)]
 
 mod bisecting;
+mod coarsening;
 mod elements;
 mod entries;
 mod ledger;
