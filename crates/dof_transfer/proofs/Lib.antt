@@ -6,3 +6,5 @@ pub mod FirstNames
 pub mod Exchanging
 pub mod Runs
 pub mod Sizes
+pub mod NamedElements
+pub mod MemberLists

@@ -25,7 +25,11 @@ pub data HasValue (old : Held) : Name → ℤ → Type 0 where
   split : (n : Name) (v : ℤ) → IsSplit old n v → HasValue old n v
   sum : (n : Name) (a b : ℤ) → HasValue old (child false n) a → HasValue old (child true n) b → HasValue old n (a +ℤ b)
 
+-- the leaves of the forest have such values, and no other name has one
+pub record LeavesHave (mesh : Shape) (members : Names) (held : Held) (is : Name → ℤ → Type 0) : Type 0 where
+  pub leaves : (n : Name) → IsLeaf mesh members n → (v : ℤ) × (value_of held n ≡ Some v) × is n v
+  pub none : (n : Name) → (IsLeaf mesh members n → ⊥) → value_of held n ≡ None
+
 -- the leaves of the forest have their values by name, and no other name has one
-pub record AreElementValues (mesh : Shape) (forest : Names) (old new : Held) : Type 0 where
-  pub leaves : (n : Name) → IsLeaf mesh forest n → (v : ℤ) × (value_of new n ≡ Some v) × HasValue old n v
-  pub none : (n : Name) → (IsLeaf mesh forest n → ⊥) → value_of new n ≡ None
+abbrev pub AreElementValues : Shape → Names → Held → Held → Type 0
+AreElementValues mesh members old new = LeavesHave mesh members new (HasValue old)

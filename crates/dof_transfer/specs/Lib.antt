@@ -3,4 +3,5 @@ pub mod Held
 pub mod Exchanges
 pub mod Ledgers
 pub mod Macros
+pub mod Changes
 pub mod ByName

@@ -3,14 +3,20 @@ ghost use Rattle.std.specs.Prelude.{◌≡◌, ◌+◌, ◌^◌, ◌≤◌, nat_
 ghost use Rattle.dof_admin.specs.Administration.{used_count};
 ghost use Rattle.mesh_names.specs.Triangles.{size};
 ghost use Rattle.compat_check.specs.Meshes.{shape_of};
+ghost use Rattle.mesh_names.specs.Forests.{Names};
+ghost use Rattle.dof_transfer.specs.ByName.{AreElementValues};
+ghost use Rattle.dof_transfer.specs.Changes.{AreOfForest, CanChange, IsChange};
+ghost use Rattle.dof_transfer.specs.Exchanges.{element_change};
 ghost use Rattle.dof_transfer.specs.Held.{SetsValue, index_of, value_of};
 ghost use Rattle.dof_transfer.specs.Ledgers.{held_of};
 ghost use Rattle.dof_transfer.specs.Macros.{AreMacroElements, HoldsFirst};
 
 use crate::ledger::Ledger;
+use crate::preparing::member_list;
 use crate::refusal::TransferRefusal;
 use compat_check::mesh::MacroMesh;
 use mesh_names::name::ElemName;
+use mesh_names::patch::RoundDelta;
 use std::alloc::Global;
 use std::marker::Model;
 
@@ -70,6 +76,32 @@ impl ElementValues {
         ensures { result + used_count self.now.flags ≡ length self.now.flags }
     {
         self.ledger.admin.holes()
+    }
+
+    /// The values after a round (Mitchell's bisection). The children of a bisected element take the
+    /// parts of its value: child 0 half of it, rounded down, and child 1 the rest. A coarsened element
+    /// takes the sum of its children's values. After a refusal nothing has changed.
+    ///
+    /// Born patches are taken in order: the members of each give their indices back, and then their
+    /// children take others. Died patches are taken level by level: the children of all members of a
+    /// level give theirs back, and then the members take others. Each takes the least unused index.
+    ///
+    /// The values are those of a forest over this mesh, and the patches are those of a round on it.
+    pub fn apply(&mut self, mesh: &MacroMesh, delta: &RoundDelta) -> Result<(), TransferRefusal>
+        requires { CanChange (shape_of mesh.now) self.old delta.now.born.items delta.now.died.items }
+        ensures ok { OnOk result (self.new ≡ element_change (shape_of mesh.now) self.old delta.now.born.items delta.now.died.items) }
+        ensures values { OnOk result ((before after : Names) → AreOfForest (shape_of mesh.now) before self.old → IsChange (shape_of mesh.now) before delta.now.born.items delta.now.died.items after → AreElementValues (shape_of mesh.now) after self.old self.new) }
+        ensures err { OnErr result (self.new ≡ self.old) }
+    {
+        let born = member_list(self.alloc, &delta.born)?;
+        let died = member_list(self.alloc, &delta.died)?;
+        let mut sums = Vec::with_capacity(self.alloc, died.len())?;
+        self.ledger.prepare(delta.born.len(), &born, &died)?;
+        self.ledger.bisect_all(&delta.born);
+        self.ledger.coarsen_all(mesh, &died, &mut sums);
+        self.ledger.forget_all(&born);
+        self.ledger.forget_below(&died);
+        Ok(())
     }
 
     /// Sets the value of a leaf, and nothing else. Takes no memory.

@@ -6,6 +6,7 @@ mod coarsening;
 mod elements;
 mod entries;
 mod ledger;
+mod preparing;
 mod refusal;
 
 pub use elements::ElementValues;
