@@ -8,3 +8,4 @@ pub mod Runs
 pub mod Sizes
 pub mod NamedElements
 pub mod MemberLists
+pub mod Compressing

@@ -7,7 +7,7 @@ ghost use Rattle.mesh_names.specs.Forests.{Names};
 ghost use Rattle.dof_transfer.specs.ByName.{AreElementValues};
 ghost use Rattle.dof_transfer.specs.Changes.{AreOfForest, CanChange, IsChange};
 ghost use Rattle.dof_transfer.specs.Exchanges.{element_change};
-ghost use Rattle.dof_transfer.specs.Held.{SetsValue, index_of, value_of};
+ghost use Rattle.dof_transfer.specs.Held.{IsTidied, SetsValue, index_of, value_of};
 ghost use Rattle.dof_transfer.specs.Ledgers.{held_of};
 ghost use Rattle.dof_transfer.specs.Macros.{AreMacroElements, HoldsFirst};
 
@@ -102,6 +102,15 @@ impl ElementValues {
         self.ledger.forget_all(&born);
         self.ledger.forget_below(&died);
         Ok(())
+    }
+
+    /// Renumbers the indices without holes, in their order, exactly where holes outnumber the used
+    /// ones. All values stay. After a refusal nothing has changed.
+    pub fn tidy(&mut self) -> Result<(), TransferRefusal>
+        ensures ok { OnOk result (IsTidied self.old self.new) }
+        ensures err { OnErr result (self.new ≡ self.old) }
+    {
+        self.ledger.tidy()
     }
 
     /// Sets the value of a leaf, and nothing else. Takes no memory.
