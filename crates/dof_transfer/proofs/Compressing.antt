@@ -32,13 +32,13 @@ used-within flags i used = ⊎_elim (λ (h : i < length flags). h) (λ (h : leng
   either : (a b : ℕ) → (a < b) ⊎ (b ≤ a)
   either a b = grind arith
 
-rank-below : (flags : List Bool) (i : ℕ) → used_at flags i ≡ true → used_count (take i flags) < used_count flags
+pub rank-below : (flags : List Bool) (i : ℕ) → used_at flags i ≡ true → used_count (take i flags) < used_count flags
 rank-below flags i used = subst (λ (l : List Bool). used_count (take i flags) < used_count l) (whole flags) (rank-less flags i (length flags) (used-within flags i used) used) where
   whole : (l : List Bool) → take (length l) l ≡ l
   whole [] = refl
   whole (u ∷ l) = ap (λ (t : List Bool). u ∷ t) (whole l)
 
-all-used : (n k : ℕ) → k < n → used_at (replicate n true) k ≡ true
+pub all-used : (n k : ℕ) → k < n → used_at (replicate n true) k ≡ true
 all-used zero k h = absurd (omega arith)
 all-used (suc n) zero h = refl
 all-used (suc n) (suc k) h = all-used n k (omega arith)
@@ -67,7 +67,7 @@ module _ (old new : Ledger) (moved : List ℕ) (sound : IsSound (held_of old)) (
 
 module _ (old new : Held) (sound : IsSound old) (is : IsCompressed old new) where
   -- the old index of a name, and that it is used
-  came-from : (n : Name) (i : ℕ) → index_of new n ≡ Some i → (j : ℕ) × (index_of old n ≡ Some j) × (used_count (take j old.flags) ≡ i)
+  pub came-from : (n : Name) (i : ℕ) → index_of new n ≡ Some i → (j : ℕ) × (index_of old n ≡ Some j) × (used_count (take j old.flags) ≡ i)
   came-from n i h = by (index_of old n) refl (sym (is.indices n) ∙ h) where
     by : (o : Option ℕ) → index_of old n ≡ o → option_map (λ i. used_count (take i old.flags)) o ≡ Some i → (j : ℕ) × (o ≡ Some j) × (used_count (take j old.flags) ≡ i)
     by None e g = absurd (true≢false (sym (ap is_some g)))

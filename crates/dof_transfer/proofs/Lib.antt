@@ -9,3 +9,4 @@ pub mod Sizes
 pub mod NamedElements
 pub mod MemberLists
 pub mod Compressing
+pub mod VertexKept

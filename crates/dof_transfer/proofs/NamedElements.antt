@@ -21,13 +21,13 @@ use Rattle.dof_transfer.proofs.FirstNames.{untied}
 use Rattle.dof_transfer.proofs.Exchanging.{Misses, misses-children, other_child}
 
 -- the value of each name once one has given its index back, or taken one
-value-given : (held : Held) (n q : Name) → value_of (given_back held n) q ≡ cond (eq_by_cmp name_cmp q n) None (value_of held q)
+pub value-given : (held : Held) (n q : Name) → value_of (given_back held n) q ≡ cond (eq_by_cmp name_cmp q n) None (value_of held q)
 value-given held n q = ap (option_map (λ (e : Entry). e.value)) (get-remove name_cmp_total held.live n q) ∙ moved (eq_by_cmp name_cmp q n) (get held.live q) where
   moved : (b : Bool) (o : Option Entry) → option_map (λ (e : Entry). e.value) (cond b None o) ≡ cond b None (option_map (λ (e : Entry). e.value) o)
   moved true o = refl
   moved false o = refl
 
-value-took : (held : Held) (n q : Name) (v : ℤ) → value_of (taken held n v) q ≡ cond (eq_by_cmp name_cmp q n) (Some v) (value_of held q)
+pub value-took : (held : Held) (n q : Name) (v : ℤ) → value_of (taken held n v) q ≡ cond (eq_by_cmp name_cmp q n) (Some v) (value_of held q)
 value-took held n q v = ap (option_map (λ (e : Entry). e.value)) (get-insert name_cmp_total held.live n (record { index = least_unused held.flags; value = v }) q) ∙ moved (eq_by_cmp name_cmp q n) (get held.live q) where
   moved : (b : Bool) (o : Option Entry) → option_map (λ (e : Entry). e.value) (cond b (Some (record { index = least_unused held.flags; value = v })) o) ≡ cond b (Some v) (option_map (λ (e : Entry). e.value) o)
   moved true o = refl

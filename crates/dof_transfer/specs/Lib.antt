@@ -4,4 +4,6 @@ pub mod Exchanges
 pub mod Ledgers
 pub mod Macros
 pub mod Changes
+pub mod VertexValues
+pub mod VertexLedgers
 pub mod ByName

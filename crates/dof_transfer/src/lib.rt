@@ -8,6 +8,9 @@ mod entries;
 mod ledger;
 mod preparing;
 mod refusal;
+mod vertex_ledger;
+mod vertices;
 
 pub use elements::ElementValues;
 pub use refusal::TransferRefusal;
+pub use vertices::VertexValues;

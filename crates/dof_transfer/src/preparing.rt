@@ -1,5 +1,6 @@
 //! Room in a ledger for what a round's patches take, and its end.
-ghost use Rattle.std.specs.Prelude.{◌≡◌, ◌+◌, ◌*◌, ◌^◌, ◌<◌, ◌≤◌, [], ◌++◌, All, IfOk, OnOk, length, take};
+ghost use Rattle.std.specs.Prelude.{◌≡◌, ◌+◌, ◌*◌, ◌^◌, ◌<◌, ◌≤◌, [], true, ◌++◌, All, IfOk, OnOk, length, replicate, take};
+ghost use Rattle.std.specs.FinMap.{empty};
 ghost use Rattle.mesh_names.specs.Names.{depth};
 ghost use Rattle.dof_transfer.specs.Exchanges.{all_members, members_of};
 ghost use Rattle.dof_transfer.specs.Ledgers.{HasRoom, HasRoomBelow, held_of};
@@ -45,6 +46,19 @@ impl Ledger {
             return Err(TransferRefusal::Memory);
         }
         self.admin.reserve(more as u32)?;
+        Ok(())
+    }
+
+    /// Uses the first indices of an empty ledger.
+    pub(crate) fn use_first(&mut self, count: u32) -> Result<(), TransferRefusal>
+        requires { self.old ≡ record { entries = empty; admin = record { flags = []; spare = 0 } } }
+        ensures { OnOk result (held_of self.new ≡ record { live = empty; flags = replicate count true }) }
+    {
+        self.reserve(count as usize)?;
+        for index in 0..count {
+            let got = self.admin.get();
+            prove!(got == index);
+        }
         Ok(())
     }
 
