@@ -10,3 +10,4 @@ pub mod NamedElements
 pub mod MemberLists
 pub mod Compressing
 pub mod VertexKept
+pub mod NamedVertices

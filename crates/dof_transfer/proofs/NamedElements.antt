@@ -39,10 +39,10 @@ given-else held n q other = value-given held n q ∙ ap (λ (b : Bool). cond b N
 given-here : (held : Held) (n q : Name) → q ≡ n → value_of (given_back held n) q ≡ None
 given-here held n q e = value-given held n q ∙ ap (λ (b : Bool). cond b None (value_of held q)) (same-tied q n e)
 
-took-here : (held : Held) (n q : Name) (v : ℤ) → q ≡ n → value_of (taken held n v) q ≡ Some v
+pub took-here : (held : Held) (n q : Name) (v : ℤ) → q ≡ n → value_of (taken held n v) q ≡ Some v
 took-here held n q v e = value-took held n q v ∙ ap (λ (b : Bool). cond b (Some v) (value_of held q)) (same-tied q n e)
 
-took-else : (held : Held) (n q : Name) (v : ℤ) → q ≢ n → value_of (taken held n v) q ≡ value_of held q
+pub took-else : (held : Held) (n q : Name) (v : ℤ) → q ≢ n → value_of (taken held n v) q ≡ value_of held q
 took-else held n q v other = value-took held n q v ∙ ap (λ (b : Bool). cond b (Some v) (value_of held q)) (untied q n other)
 
 -- a name stands in a list or not
@@ -53,12 +53,12 @@ in-or-misses q (n ∷ ns) = ⊎_elim
     (λ (f : eq_by_cmp name_cmp q n ≡ false). ⊎_elim (λ (i : In q ns). inl (inr i)) (λ (m : Misses q ns). inr ((λ e. both_sides (eq_by_cmp name_cmp q n) (same-tied q n e) f), m)) (in-or-misses q ns))
     (is_or_not (eq_by_cmp name_cmp q n))
 
-not-in : (q : Name) (ns : List Name) → Misses q ns → In q ns → ⊥
+pub not-in : (q : Name) (ns : List Name) → Misses q ns → In q ns → ⊥
 not-in q [] m i = i
 not-in q (n ∷ ns) m i = ⊎_elim (λ (e : q ≡ n). m.0 e) (λ (j : In q ns). not-in q ns m.1 j) i
 
 -- what many give back and take
-given-miss : (held : Held) (ns : List Name) (q : Name) → Misses q ns → value_of (all_given_back held ns) q ≡ value_of held q
+pub given-miss : (held : Held) (ns : List Name) (q : Name) → Misses q ns → value_of (all_given_back held ns) q ≡ value_of held q
 given-miss held [] q m = refl
 given-miss held (n ∷ ns) q m = given-miss (given_back held n) ns q m.1 ∙ given-else held n q m.0
 
@@ -69,7 +69,7 @@ given-none held (n ∷ ns) q e = given-none (given_back held n) ns q (value-give
   both true = refl
   both false = refl
 
-given-hit : (held : Held) (ns : List Name) (q : Name) → In q ns → value_of (all_given_back held ns) q ≡ None
+pub given-hit : (held : Held) (ns : List Name) (q : Name) → In q ns → value_of (all_given_back held ns) q ≡ None
 given-hit held [] q i = absurd i
 given-hit held (n ∷ ns) q i = ⊎_elim (λ (e : q ≡ n). given-none (given_back held n) ns q (given-here held n q e)) (λ (j : In q ns). given-hit (given_back held n) ns q j) i
 
@@ -146,7 +146,7 @@ pub record Grown (mesh : Shape) (members : Names) : Type 0 where
   pub closed : (root : ℕ) (b : Bool) (w : List Bool) → Has members (root, b ∷ w) → Has members (root, w)
 
 -- one more list of leaves is bisected: with its names the forest has their children as leaves
-with-either : (members : Names) (ns : List Name) (q : Name) → Has (union members (from_list ns)) q → Has members q ⊎ In q ns
+pub with-either : (members : Names) (ns : List Name) (q : Name) → Has (union members (from_list ns)) q → Has members q ⊎ In q ns
 with-either members ns q h = ⊎_elim (λ (a : Has members q). inl a) (λ (b : Has (from_list ns) q). inr (has-in q ns b)) (union-either members (from_list ns) q h)
 
 -- what is in neither is not in both together
@@ -262,7 +262,7 @@ module _ (mesh : Shape) (members : Names) (ns : List Name) (grown : Grown mesh m
         )
 
 -- a list of members is taken away: without its names the forest has these as leaves
-less-member : (members : Names) (ns : List Name) (q : Name) → Has (difference members (from_list ns)) q → Has members q × Misses q ns
+pub less-member : (members : Names) (ns : List Name) (q : Name) → Has (difference members (from_list ns)) q → Has members q × Misses q ns
 less-member members ns q h = ⊎_elim
     (λ (i : In q ns). absurd (both_sides (contains members q && not (contains (from_list ns) q)) (sym (contains-difference name_cmp_total members (from_list ns) q) ∙ h) (gone (contains members q) (contains (from_list ns) q) (in-has q ns i))))
     (λ (m : Misses q ns). (kept (contains members q) (contains (from_list ns) q) (sym (contains-difference name_cmp_total members (from_list ns) q) ∙ h), m))
@@ -275,7 +275,7 @@ less-member members ns q h = ⊎_elim
       kept true b e = refl
       kept false b e = e
 
-less-has : (members : Names) (ns : List Name) (q : Name) → Has members q → Misses q ns → Has (difference members (from_list ns)) q
+pub less-has : (members : Names) (ns : List Name) (q : Name) → Has members q → Misses q ns → Has (difference members (from_list ns)) q
 less-has members ns q h m = contains-difference name_cmp_total members (from_list ns) q ∙ (λ i. h i && not (out i)) where
   out : contains (from_list {R = name_cmp} ns) q ≡ false
   out = ⊎_elim (λ (t : Has (from_list ns) q). absurd (not-in q ns m (has-in q ns t))) (λ (f : contains (from_list {R = name_cmp} ns) q ≡ false). f) (is_or_not (contains (from_list {R = name_cmp} ns) q))

@@ -7,3 +7,4 @@ pub mod Changes
 pub mod VertexValues
 pub mod VertexLedgers
 pub mod ByName
+pub mod VertexNames

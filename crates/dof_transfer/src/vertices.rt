@@ -1,6 +1,8 @@
 //! Values of vertices.
 ghost use Rattle.std.specs.Prelude.{◌≡◌, ◌+◌, ◌^◌, ◌<◌, ◌≤◌, nat_abs, All, IfOk, IsSome, OnErr, OnOk, length};
 ghost use Rattle.dof_admin.specs.Administration.{used_count};
+ghost use Rattle.mesh_names.specs.Forests.{IsForest, Names};
+ghost use Rattle.dof_transfer.specs.VertexNames.{AreOfVertices, AreVertexValues, IsTransition};
 ghost use Rattle.mesh_names.specs.Triangles.{level, size};
 ghost use Rattle.mesh_names.specs.declared.patch.PatchName.{PatchName};
 ghost use Rattle.compat_check.specs.Meshes.{shape_of};
@@ -10,6 +12,7 @@ ghost use Rattle.dof_transfer.specs.VertexValues.{AreMacroVertices, IsVertexChan
 use crate::refusal::TransferRefusal;
 use crate::vertex_ledger::VertexLedger;
 use compat_check::mesh::MacroMesh;
+use mesh_names::laws;
 use mesh_names::patch::{RoundDelta, VertexKey};
 use std::alloc::Global;
 use std::marker::Model;
@@ -78,8 +81,12 @@ impl VertexValues {
         requires rooted { All (λ (p : PatchName). p.first.0 < size (shape_of mesh.now)) delta.now.born.items }
         requires low { All (λ (p : PatchName). level (shape_of mesh.now) p.first ≤ 24) delta.now.born.items }
         ensures ok { OnOk result (IsVertexChange mesh.now self.old delta.now.born.items delta.now.died.items self.new) }
+        ensures values { OnOk result ((before after : Names) → IsForest (shape_of mesh.now) before → AreOfVertices mesh.now before self.old → IsTransition mesh.now before delta.now.born.items delta.now.died.items after → AreVertexValues mesh.now after self.old self.new) }
         ensures err { OnErr result (self.new ≡ self.old) }
     {
+        laws::partner_is_only();
+        laws::partners_pair();
+        let _checked = mesh.element_count();
         self.inside.prepare(&delta.born)?;
         self.inside.make_all(mesh, &delta.born);
         self.inside.remove_all(&delta.died);
