@@ -15,7 +15,7 @@ use Rattle.mesh_names.proofs.Sets.{In, both_sides, has-in, in-has, is_or_not, sa
 use Rattle.dof_transfer.specs.declared.entries.Entry.{Entry}
 use Rattle.dof_transfer.specs.Held.{Held, value_of, given_back, taken, all_given_back, all_taken, least_unused}
 use Rattle.dof_transfer.specs.Exchanges.{IsPair, value_in, bisected, all_bisected, coarsened, all_coarsened, by_level, joined, all_members, members_of, child, children, element_change, halves, listed, part, sum_in, with_values}
-use Rattle.dof_transfer.specs.Changes.{AreBisections, AreCoarsenings, AreOfForest, IsBottom, IsChange}
+use Rattle.dof_transfer.specs.Changes.{AreBisections, AreCoarsenings, AreOfForest, AreParents, IsBottom, IsChange}
 use Rattle.dof_transfer.specs.ByName.{AreElementValues, HasValue, split, sum, IsSplit, LeavesHave}
 use Rattle.dof_transfer.proofs.FirstNames.{untied}
 use Rattle.dof_transfer.proofs.Exchanging.{Misses, misses-children, other_child}
@@ -456,12 +456,12 @@ own-values mesh members held of = record {
   none n (Some v) e never = absurd (never ((of.live n).1 (subst IsSome (sym e) refl)))
 
 -- the values after a round are those of the names
-pub element-values : (mesh : Shape) (held : Held) (born died : List PatchName) (before after : Names) → AreOfForest mesh before held → IsChange mesh before born died after → AreElementValues mesh after held (element_change mesh held born died)
-element-values mesh held born died before after of change =
+pub element-values : (mesh : Shape) (held : Held) (born died : List PatchName) (before after : Names) → AreParents mesh (all_members died) → AreOfForest mesh before held → IsChange mesh before born died after → AreElementValues mesh after held (element_change mesh held born died)
+element-values mesh held born died before after parents of change =
     let grown : Grown mesh before = record { rooted = of.forest.rooted; closed = of.forest.closed } in
     let refined = all-bisected-values mesh held born before held change.refined grown (own-values mesh before held of) change.bisections in
     all-coarsened-values mesh held (by_level mesh (all_members died)) change.refined (all_bisected held born) after
-    (subst Apart (sym (flat-by_level mesh (all_members died))) (pairs-apart (all_members died) change.parents.apart))
+    (subst Apart (sym (flat-by_level mesh (all_members died))) (pairs-apart (all_members died) parents.apart))
     refined.0
     (record { leaves = λ n l. let r = refined.1.leaves n l in (r.0, r.1, split n r.0 r.2); none = refined.1.none })
     change.coarsenings

@@ -1,6 +1,7 @@
 -- What stays true of vertices while midpoints take indices and give them back.
-use Rattle.std.proofs.Common.{◌≡◌, ℕ, zero, suc, ◌+◌, ◌*◌, ◌^◌, ◌<◌, ◌≤◌, ℤ, pos, Bool, true, false, cond, List, [], ◌∷◌, ◌++◌, take, length, get_or, replicate, refl, ap, sym, ◌∙◌, subst, arith, Option, Some, None, option_map, unwrap_or, is_some, true≢false, ◌⊎◌, ⊎_elim}
-use Rattle.std.specs.Prelude.{nat_abs, ◌+ℤ◌, slice_get}
+use Rattle.std.proofs.Common.{◌≡◌, ℕ, zero, suc, ◌+◌, ◌*◌, ◌^◌, ◌<◌, ◌≤◌, ℤ, pos, Bool, true, false, cond, ltb, List, [], ◌∷◌, ◌++◌, take, length, get_or, replicate, refl, ap, sym, ◌∙◌, subst, arith, Option, Some, None, option_map, unwrap_or, is_some, true≢false, ◌⊎◌, ⊎_elim}
+use Rattle.std.specs.Prelude.{IfSome, nat_abs, ◌+ℤ◌, slice_get}
+use Rattle.std.proofs.lemmas.Bool.{ltb-true}
 use Rattle.std.specs.List.{All}
 use Rattle.std.proofs.lemmas.Option.{get_or_from_slice_get}
 use Rattle.std.proofs.lemmas.List.Sums.{sum_by-cons}
@@ -233,3 +234,30 @@ sound-first values patches count is same = record {
 } where
   none : (n : Name) (i : ℕ) → index_of patches n ≡ Some i → ⊥
   none n i h = true≢false (sym (ap is_some h) ∙ ap (λ (o : Option Entry). is_some (option_map (λ (e : Entry). e.index) o)) (ap (λ (p : Held). get p.live n) is ∙ get-empty name_cmp n))
+
+macro-below : (held : VertexHeld) (a i : ℕ) → index_at held (Macro a) ≡ Some i → (a ≡ i) × (a < length held.macros)
+macro-below held a i h = by (ltb a (length held.macros)) refl h where
+  by : (b : Bool) → ltb a (length held.macros) ≡ b → cond b (Some a) None ≡ Some i → (a ≡ i) × (a < length held.macros)
+  by true e g = (ap (λ (o : Option ℕ). unwrap_or o i) g, ltb-true a (length held.macros) e)
+  by false e g = absurd (true≢false (sym (ap is_some g)))
+
+macro-index : (held : VertexHeld) (a i : ℕ) → index_at held (Macro a) ≡ Some i → a ≡ i
+macro-index held a i h = (macro-below held a i h).0
+
+no-both : (held : VertexHeld) → IsVertexSound held → (a : ℕ) (n : Name) (i : ℕ) → index_at held (Macro a) ≡ Some i → index_of held.patches n ≡ Some i → ⊥
+no-both held sound a n i h g = let m = macro-below held a i h in let b = sound.above n i g in omega (arith, m.0, m.1, b)
+
+-- indices of two live vertices differ
+pub keys-apart : (held : VertexHeld) → IsVertexSound held → (j k : VertexKey) (i : ℕ) → index_at held j ≡ Some i → index_at held k ≡ Some i → j ≡ k
+keys-apart held sound (Macro a) (Macro b) i h g = ap Macro (macro-index held a i h ∙ sym (macro-index held b i g))
+keys-apart held sound (Macro a) (Patch n) i h g = absurd (no-both held sound a n i h g)
+keys-apart held sound (Patch n) (Macro b) i h g = absurd (no-both held sound b n i g h)
+keys-apart held sound (Patch m) (Patch n) i h g = ap Patch (sound.patches.apart m n i h g)
+
+pub index-apart : (held : VertexHeld) → IsVertexSound held → (key : VertexKey) (o : Option ℕ) → o ≡ index_at held key → IfSome o (λ i. (k : VertexKey) → index_at held k ≡ Some i → k ≡ key)
+index-apart held sound key None e = tt
+index-apart held sound key (Some i) e = λ k h. keys-apart held sound k key i h (sym e)
+
+pub value-small : (held : VertexHeld) → AreSmall held → (key : VertexKey) (o : Option ℤ) → o ≡ value_at held key → IfSome o (λ v. nat_abs v ≤ 2 ^ 31)
+value-small held small key None e = tt
+value-small held small key (Some v) e = subst (λ (z : ℤ). nat_abs z ≤ 2 ^ 31) (ap (λ (o : Option ℤ). unwrap_or o (pos 0)) (sym e)) (worth-small held key small)

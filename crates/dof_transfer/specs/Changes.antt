@@ -39,17 +39,9 @@ pub record AreParents (mesh : Shape) (names : List Name) : Type 0 where
 pub record IsChange (mesh : Shape) (before : Names) (born died : List PatchName) (after : Names) : Type 0 where
   pub refined : Names
   pub bisections : AreBisections mesh before born refined
-  pub parents : AreParents mesh (all_members died)
   pub coarsenings : AreCoarsenings refined (by_level mesh (all_members died)) after
 
 -- exactly the leaves of the forest have values
 pub record AreOfForest (mesh : Shape) (members : Names) (held : Held) : Type 0 where
   pub forest : IsForest mesh members
   pub live : (n : Name) → (IsLeaf mesh members n ↔ IsSome (value_of held n))
-
--- the values are those of a forest, and these patches change it
-pub record CanChange (mesh : Shape) (held : Held) (born died : List PatchName) : Type 0 where
-  pub before : Names
-  pub after : Names
-  pub of_forest : AreOfForest mesh before held
-  pub change : IsChange mesh before born died after

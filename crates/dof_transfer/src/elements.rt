@@ -1,13 +1,14 @@
 //! Values of elements.
-ghost use Rattle.std.specs.Prelude.{◌≡◌, ◌+◌, ◌^◌, ◌≤◌, nat_abs, IfOk, IsSome, OnErr, OnOk, length};
+ghost use Rattle.std.specs.Prelude.{◌≡◌, ◌+◌, ◌^◌, ◌≤◌, nat_abs, All, Some, IfOk, IfSome, IsSome, OnErr, OnOk, length};
 ghost use Rattle.dof_admin.specs.Administration.{used_count};
 ghost use Rattle.mesh_names.specs.Triangles.{size};
 ghost use Rattle.compat_check.specs.Meshes.{shape_of};
 ghost use Rattle.mesh_names.specs.Forests.{Names};
+ghost use Rattle.mesh_names.specs.Names.{Name, depth};
 ghost use Rattle.dof_transfer.specs.ByName.{AreElementValues};
-ghost use Rattle.dof_transfer.specs.Changes.{AreOfForest, CanChange, IsChange};
-ghost use Rattle.dof_transfer.specs.Exchanges.{element_change};
-ghost use Rattle.dof_transfer.specs.Held.{IsTidied, SetsValue, index_of, value_of};
+ghost use Rattle.dof_transfer.specs.Changes.{AreOfForest, AreParents, IsChange};
+ghost use Rattle.dof_transfer.specs.Exchanges.{IsPair, all_members, element_change};
+ghost use Rattle.dof_transfer.specs.Held.{IsSized, IsTidied, SetsValue, index_of, value_of};
 ghost use Rattle.dof_transfer.specs.Ledgers.{held_of};
 ghost use Rattle.dof_transfer.specs.Macros.{AreMacroElements, HoldsFirst};
 
@@ -50,9 +51,11 @@ impl ElementValues {
         Ok(ElementValues { alloc, ledger })
     }
 
-    /// The value of a leaf; `None` exactly where the name is no leaf. Takes no memory.
+    /// The value of a leaf; `None` exactly where the name is no leaf. Of a name with w letters it is at
+    /// most 2^31 · 2^(24-w) in size. Takes no memory.
     pub fn value(&self, name: ElemName) -> Option<i64>
-        ensures { result ≡ value_of self.now name }
+        ensures value { result ≡ value_of self.now name }
+        ensures small { IfSome result (IsSized (depth name)) }
     {
         match self.ledger.get(name) {
             Some(entry) => Some(entry.value),
@@ -63,7 +66,8 @@ impl ElementValues {
     /// The index of a leaf; `None` exactly where the name is no leaf. Indices of two leaves differ.
     /// Takes no memory.
     pub fn index(&self, name: ElemName) -> Option<u32>
-        ensures { result ≡ index_of self.now name }
+        ensures index { result ≡ index_of self.now name }
+        ensures apart { IfSome result (λ i. (m : Name) → index_of self.now m ≡ Some i → m ≡ name) }
     {
         match self.ledger.get(name) {
             Some(entry) => Some(entry.index),
@@ -85,10 +89,9 @@ impl ElementValues {
     /// Born patches are taken in order: the members of each give their indices back, and then their
     /// children take others. Died patches are taken level by level: the children of all members of a
     /// level give theirs back, and then the members take others. Each takes the least unused index.
-    ///
-    /// The values are those of a forest over this mesh, and the patches are those of a round on it.
     pub fn apply(&mut self, mesh: &MacroMesh, delta: &RoundDelta) -> Result<(), TransferRefusal>
-        requires { CanChange (shape_of mesh.now) self.old delta.now.born.items delta.now.died.items }
+        requires born { All IsPair delta.now.born.items }
+        requires died { AreParents (shape_of mesh.now) (all_members delta.now.died.items) }
         ensures ok { OnOk result (self.new ≡ element_change (shape_of mesh.now) self.old delta.now.born.items delta.now.died.items) }
         ensures values { OnOk result ((before after : Names) → AreOfForest (shape_of mesh.now) before self.old → IsChange (shape_of mesh.now) before delta.now.born.items delta.now.died.items after → AreElementValues (shape_of mesh.now) after self.old self.new) }
         ensures err { OnErr result (self.new ≡ self.old) }

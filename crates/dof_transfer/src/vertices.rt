@@ -1,10 +1,11 @@
 //! Values of vertices.
-ghost use Rattle.std.specs.Prelude.{◌≡◌, ◌+◌, ◌^◌, ◌<◌, ◌≤◌, nat_abs, All, IfOk, IsSome, OnErr, OnOk, length};
+ghost use Rattle.std.specs.Prelude.{◌≡◌, ◌+◌, ◌^◌, ◌<◌, ◌≤◌, nat_abs, All, Some, IfOk, IfSome, IsSome, OnErr, OnOk, length};
 ghost use Rattle.dof_admin.specs.Administration.{used_count};
 ghost use Rattle.mesh_names.specs.Forests.{IsForest, Names};
 ghost use Rattle.dof_transfer.specs.VertexNames.{AreOfVertices, AreVertexValues, IsTransition};
 ghost use Rattle.mesh_names.specs.Triangles.{level, size};
 ghost use Rattle.mesh_names.specs.declared.patch.PatchName.{PatchName};
+ghost use Rattle.mesh_names.specs.declared.patch.VertexKey.{VertexKey};
 ghost use Rattle.compat_check.specs.Meshes.{shape_of};
 ghost use Rattle.dof_transfer.specs.VertexLedgers.{vertices_of};
 ghost use Rattle.dof_transfer.specs.VertexValues.{AreMacroVertices, IsVertexChange, IsVertexTidied, SetsVertex, index_at, value_at};
@@ -47,9 +48,11 @@ impl VertexValues {
         Ok(VertexValues { alloc, inside })
     }
 
-    /// The value of a vertex; `None` exactly where the mesh has no such vertex. Takes no memory.
+    /// The value of a vertex; `None` exactly where the mesh has no such vertex. It is at most
+    /// 2^31 in size. Takes no memory.
     pub fn value(&self, key: VertexKey) -> Option<i64>
-        ensures { result ≡ value_at self.now key }
+        ensures value { result ≡ value_at self.now key }
+        ensures small { IfSome result (λ v. nat_abs v ≤ 2 ^ 31) }
     {
         self.inside.value(key)
     }
@@ -57,7 +60,8 @@ impl VertexValues {
     /// The index of a vertex; `None` exactly where the mesh has no such vertex. Indices of two
     /// vertices differ. Takes no memory.
     pub fn index(&self, key: VertexKey) -> Option<u32>
-        ensures { result ≡ index_at self.now key }
+        ensures index { result ≡ index_at self.now key }
+        ensures apart { IfSome result (λ i. (k : VertexKey) → index_at self.now k ≡ Some i → k ≡ key) }
     {
         self.inside.index(key)
     }
