@@ -4,3 +4,10 @@ pub mod Soundness
 pub mod Ledgers
 pub mod FirstNames
 pub mod Exchanging
+pub mod Runs
+pub mod Sizes
+pub mod NamedElements
+pub mod MemberLists
+pub mod Compressing
+pub mod VertexKept
+pub mod NamedVertices

@@ -1,5 +1,5 @@
 -- Slots that are kept in a search tree, as a finite map.
-use Rattle.std.proofs.Common.{◌≡◌, Bool, true, false, cond, List, [], ◌∷◌, refl, ap, sym, ◌∙◌, Option, Some, None, Result, Ok, Err, OnErr, IsOk, is_some, not, true≢false}
+use Rattle.std.proofs.Common.{◌≡◌, Bool, true, false, cond, List, [], ◌∷◌, refl, ap, sym, ◌∙◌, Option, Some, None, option_map, unwrap_or, map, Result, Ok, Err, OnErr, IsOk, is_some, not, true≢false}
 use Rattle.std.proofs.lemmas.Cmp.{eq_by_cmp_equiv}
 use Rattle.std.specs.Ordering.{is_eq, eq_by_cmp}
 use Rattle.std.specs.Map.{lookup}
@@ -54,3 +54,19 @@ readied-old s k old = ap (λ (b : Bool). cond b s (insert s k None)) (sym old)
 
 pub forgotten-empty : (s : Slots) (k : Name) → is_some (live_at s k) ≡ false → remove s k ≡ forgotten s k
 forgotten-empty s k empty = ap (λ (b : Bool). cond (not b) (remove s k) s) (sym empty)
+
+find-mapped : (g : Slot → Slot) (es : Stored) (q : Name) → find name_cmp q (map (λ e. (e.0, g e.1)) es) ≡ option_map g (find name_cmp q es)
+find-mapped g [] q = refl
+find-mapped g (e ∷ es) q = ap (cond (eq_by_cmp name_cmp q e.0) (Some (g e.1))) (find-mapped g es q) ∙ either (eq_by_cmp name_cmp q e.0) (find name_cmp q es) where
+  either : (b : Bool) (o : Option Slot) → cond b (Some (g e.1)) (option_map g o) ≡ option_map g (cond b (Some e.1) o)
+  either true o = refl
+  either false o = refl
+
+-- another value in each slot
+pub live-mapped : (old new : Stored) (s : Slots) (g : Slot → Slot) → g None ≡ None → from_entries old ≡ s → new ≡ map (λ e. (e.0, g e.1)) old → (n : Name) → live_at (from_entries new) n ≡ g (live_at s n)
+live-mapped old new s g none is mapped n =
+    ap (λ (o : Option Slot). unwrap_or o None) (get-from_entries name_cmp_total new n ∙ ap (find name_cmp n) mapped ∙ find-mapped g old n ∙ ap (option_map g) (sym (get-from_entries name_cmp_total old n) ∙ ap (λ (m : Slots). get m n) is))
+    ∙ inner (get s n) where
+      inner : (o : Option Slot) → unwrap_or (option_map g o) None ≡ g (unwrap_or o None)
+      inner None = sym none
+      inner (Some v) = refl

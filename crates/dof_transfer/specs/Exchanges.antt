@@ -1,5 +1,5 @@
 -- Refinement and coarsening of elements: which names give their indices back, and which take one, in which order and with which values.
-use Rattle.std.specs.Prelude.{◌<◌, ◌≢◌, IfSome, ℤ, pos, negsuc, ◌/◌, ◌+ℤ◌, ◌-ℤ◌, Bool, true, false, cond, eqb, List, [], ◌∷◌, ◌++◌, Option, Some, None, unwrap_or}
+use Rattle.std.specs.Prelude.{◌≡◌, ◌≢◌, ℕ, ◌<◌, ◌≤◌, ◌/◌, ℤ, pos, negsuc, ◌+ℤ◌, ◌-ℤ◌, Bool, true, false, cond, eqb, List, [], ◌∷◌, ◌++◌, length, map, slice_index_or, Option, Some, None, IfSome, unwrap_or}
 use Rattle.mesh_names.specs.Names.{Name, depth}
 use Rattle.mesh_names.specs.Triangles.{Shape, level}
 use Rattle.mesh_names.specs.declared.patch.PatchName.{PatchName}
@@ -50,10 +50,15 @@ abbrev pub halves : Held → List Name → List (Name × ℤ)
 halves held [] = []
 halves held (n ∷ ns) = (child false n, part false (value_in held n)) ∷ (child true n, part true (value_in held n)) ∷ halves held ns
 
--- each name, with the sum of its children's values
-abbrev pub sums : Held → List Name → List (Name × ℤ)
-sums held [] = []
-sums held (n ∷ ns) = (n, value_in held (child false n) +ℤ value_in held (child true n)) ∷ sums held ns
+-- the sum of a name's children's values
+abbrev pub sum_in : Held → Name → ℤ
+sum_in held n = value_in held (child false n) +ℤ value_in held (child true n)
+
+-- names with values, one by one
+abbrev pub with_values : List Name → List ℤ → List (Name × ℤ)
+with_values [] vs = []
+with_values (n ∷ ns) [] = []
+with_values (n ∷ ns) (v ∷ vs) = (n, v) ∷ with_values ns vs
 
 -- the members of a patch give theirs back, and then their children take one each
 abbrev pub bisected : Held → PatchName → Held
@@ -61,7 +66,7 @@ bisected held p = all_taken (all_given_back held (members_of p)) (halves held (m
 
 -- the children of all members give theirs back, and then the members take one each
 abbrev pub coarsened : Held → List Name → Held
-coarsened held ns = all_taken (all_given_back held (children ns)) (sums held ns)
+coarsened held ns = all_taken (all_given_back held (children ns)) (with_values ns (map (sum_in held) ns))
 
 -- born patches in order
 abbrev pub all_bisected : Held → List PatchName → Held
@@ -78,6 +83,13 @@ joined mesh n ((m ∷ run) ∷ runs) = cond (eqb (level mesh n) (level mesh m)) 
 abbrev pub by_level : Shape → List Name → List (List Name)
 by_level mesh [] = []
 by_level mesh (n ∷ ns) = joined mesh n (by_level mesh ns)
+
+-- the names from one place to another are of one level, and the next one, if there is any, is of another
+pub record IsRun (mesh : Shape) (names : List Name) (at end : ℕ) : Type 0 where
+  pub some : at < end
+  pub within : end ≤ length names
+  pub same : (k : ℕ) → at ≤ k → k < end → level mesh (slice_index_or names k (0, [])) ≡ level mesh (slice_index_or names at (0, []))
+  pub other : end < length names → level mesh (slice_index_or names end (0, [])) ≢ level mesh (slice_index_or names at (0, []))
 
 -- died patches level by level
 abbrev pub all_coarsened : Held → List (List Name) → Held

@@ -1,9 +1,9 @@
 -- What is held of live names: their indices and values, and which indices are used.
-use Rattle.std.specs.Prelude.{◌≡◌, ◌≢◌, ℕ, ◌*◌, ◌^◌, ◌-◌, ◌≤◌, refl, nat_abs, ℤ, Bool, true, false, not, List, [], ◌∷◌, slice_set, Option, Some, None, option_map}
+use Rattle.std.specs.Prelude.{length, take, replicate, ◌<◌, ◌≡◌, ◌≢◌, ℕ, ◌*◌, ◌^◌, ◌-◌, ◌≤◌, refl, nat_abs, ℤ, Bool, true, false, not, List, [], ◌∷◌, slice_set, Option, Some, None, option_map}
 use Rattle.std.specs.List.{position_or_len}
 use Rattle.std.specs.Coded.{Coded, code_by, coded×, coded_ℕ, coded_list, coded_bool}
 use Rattle.std.specs.FinMap.{FinMap, code, get, insert, remove}
-use Rattle.dof_admin.specs.Administration.{used_at, with_used}
+use Rattle.dof_admin.specs.Administration.{used_at, used_count, with_used}
 use Rattle.mesh_names.specs.Names.{Name, name_cmp, depth}
 use Rattle.dof_transfer.specs.declared.entries.Entry.{Entry}
 use Rattle.dof_transfer.specs.Slots.{entry_code}
@@ -71,3 +71,14 @@ all_given_back held (n ∷ ns) = all_given_back (given_back held n) ns
 abbrev pub all_taken : Held → List (Name × ℤ) → Held
 all_taken held [] = held
 all_taken held (p ∷ ps) = all_taken (taken held p.0 p.1) ps
+
+-- compression: each live name has the number of used indices below its own, and all indices are used
+pub record IsCompressed (old new : Held) : Type 0 where
+  pub indices : (n : Name) → index_of new n ≡ option_map (λ i. used_count (take i old.flags)) (index_of old n)
+  pub values : (n : Name) → value_of new n ≡ value_of old n
+  pub flags : new.flags ≡ replicate (used_count old.flags) true
+
+-- a compression exactly where the unused indices outnumber the used ones
+pub record IsTidied (old new : Held) : Type 0 where
+  pub compressed : 2 * used_count old.flags < length old.flags → IsCompressed old new
+  pub kept : length old.flags ≤ 2 * used_count old.flags → new ≡ old

@@ -19,3 +19,7 @@ KeepsReady old new = (n : Name) → contains_key old.entries n ≡ true → cont
 pub record HasRoomBelow (ledger : Ledger) (n : Name) : Type 0 where
   pub zero : contains_key ledger.entries (child false n) ≡ true
   pub one : contains_key ledger.entries (child true n) ≡ true
+
+-- the name has a slot
+abbrev pub HasRoom : Ledger → Name → Type 0
+HasRoom ledger n = contains_key ledger.entries n ≡ true

@@ -3,3 +3,8 @@ pub mod Held
 pub mod Exchanges
 pub mod Ledgers
 pub mod Macros
+pub mod Changes
+pub mod VertexValues
+pub mod VertexLedgers
+pub mod ByName
+pub mod VertexNames

@@ -1,5 +1,5 @@
 -- Slots by name, and what stands in them.
-use Rattle.std.specs.Prelude.{ℕ, ℤ, cond, is_none, unwrap_or, Option, Some, None, List, [], ◌∷◌, refl}
+use Rattle.std.specs.Prelude.{option_map, slice_index_or, ℕ, ℤ, cond, is_none, unwrap_or, Option, Some, None, List, [], ◌∷◌, refl}
 use Rattle.std.specs.Coded.{Coded, code_by, coded×, coded_ℕ, coded_ℤ, coded_option, coded_list, coded_bool}
 use Rattle.std.specs.FinMap.{FinMap, code, contains_key, entries, from_entries, get, insert, remove}
 use Rattle.mesh_names.specs.Names.{Name, name_cmp}
@@ -39,3 +39,10 @@ live_list ((n, Some e) ∷ slots) = (n, e) ∷ live_list slots
 
 unfoldable pub live_of : Slots → FinMap name_cmp Entry
 live_of slots = from_entries (live_list (entries slots))
+
+-- an entry with the new index that stands at the place of the old one
+abbrev pub moved_entry : List ℕ → Entry → Entry
+moved_entry moved e = record { index = slice_index_or moved e.index e.index; value = e.value }
+
+abbrev pub moved_slot : List ℕ → Slot → Slot
+moved_slot moved slot = option_map (moved_entry moved) slot

@@ -11,7 +11,7 @@ use mesh_names::patch::PatchName;
 use std::alloc::AllocError;
 
 // Half, rounded down.
-fn floor_half(value: i64) -> i64
+pub(crate) fn floor_half(value: i64) -> i64
     ensures { result ≡ floor_half value }
 {
     value.div_euclid(2)

@@ -1,7 +1,8 @@
 //! Indices and values by name, in slots that can be made ready beforehand.
 ghost use Rattle.std.specs.Prelude.{◌≡◌, true, Some, None, OnErr, OnOk};
 ghost use Rattle.std.specs.FinMap as map;
-ghost use Rattle.dof_transfer.specs.Slots.{forgotten, live_at, readied};
+ghost use Rattle.mesh_names.specs.Names.{Name};
+ghost use Rattle.dof_transfer.specs.Slots.{forgotten, live_at, moved_slot, readied};
 
 use mesh_names::name::ElemName;
 use std::alloc::{AllocError, Global};
@@ -90,4 +91,29 @@ impl Entries {
             self.slots.remove(&name);
         }
     }
+
+    /// Gives each entry the index that stands at the place of its old one. Takes no memory.
+    pub(crate) fn renumber(&mut self, moved: &[u32])
+        ensures live { (n : Name) → live_at self.new n ≡ moved_slot moved.now (live_at self.old n) }
+    {
+        self.slots.retain(|_, slot| {
+            *slot = renumbered(*slot, moved);
+            true
+        });
+    }
+}
+
+// An entry with the index that stands at the place of its old one.
+fn renumbered(slot: Option<Entry>, moved: &[u32]) -> Option<Entry>
+    ensures { result ≡ moved_slot moved.now slot }
+{
+    let entry = slot?;
+    let index = match moved.get(entry.index as usize) {
+        Some(index) => *index,
+        None => entry.index,
+    };
+    Some(Entry {
+        index,
+        value: entry.value,
+    })
 }

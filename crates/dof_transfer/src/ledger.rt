@@ -2,11 +2,13 @@
 ghost use Rattle.std.specs.Prelude.{◌≡◌, ◌+◌, ◌<◌, ◌≤◌, ◌^◌, true, [], IsSome, OnErr, OnOk, length};
 ghost use Rattle.std.specs.FinMap.{contains_key, empty, get};
 ghost use Rattle.dof_admin.specs.Administration.{used_count};
-ghost use Rattle.dof_transfer.specs.Held.{IsSound, SetsValue, given_back, taken, value_of};
+ghost use Rattle.mesh_names.specs.Names.{Name};
+ghost use Rattle.dof_transfer.specs.Held.{IsCompressed, IsSound, IsTidied, SetsValue, given_back, taken, value_of};
 ghost use Rattle.dof_transfer.specs.Exchanges.{value_in};
 ghost use Rattle.dof_transfer.specs.Ledgers.{KeepsReady, held_of};
 
 use crate::entries::{Entries, Entry};
+use crate::refusal::TransferRefusal;
 use dof_admin::DofAdmin;
 use mesh_names::name::ElemName;
 use std::alloc::{AllocError, Global};
@@ -97,5 +99,32 @@ impl Ledger {
         ensures admin { self.new.admin ≡ self.old.admin }
     {
         self.entries.forget(name);
+    }
+
+    /// Renumbers the indices without holes, in their order, exactly where holes outnumber the used
+    /// ones.
+    pub(crate) fn tidy(&mut self) -> Result<(), TransferRefusal>
+        requires { IsSound (held_of self.old) }
+        ensures ok { OnOk result (IsTidied (held_of self.old) (held_of self.new)) }
+        ensures err { OnErr result (held_of self.new ≡ held_of self.old) }
+        ensures values { (n : Name) → value_of (held_of self.new) n ≡ value_of (held_of self.old) n }
+        ensures sound { IsSound (held_of self.new) }
+    {
+        if self.admin.holes() > self.admin.used() {
+            self.compress()?;
+        }
+        Ok(())
+    }
+
+    // Renumbers the indices without holes, in their order.
+    fn compress(&mut self) -> Result<(), TransferRefusal>
+        requires { IsSound (held_of self.old) }
+        ensures ok { OnOk result (IsCompressed (held_of self.old) (held_of self.new)) }
+        ensures err { OnErr result (self.new ≡ self.old) }
+        ensures sound { IsSound (held_of self.new) }
+    {
+        let moved = self.admin.compress()?;
+        self.entries.renumber(&moved);
+        Ok(())
     }
 }

@@ -2,10 +2,15 @@
 #![tactic(auto)]
 
 mod bisecting;
+mod coarsening;
 mod elements;
 mod entries;
 mod ledger;
+mod preparing;
 mod refusal;
+mod vertex_ledger;
+mod vertices;
 
 pub use elements::ElementValues;
 pub use refusal::TransferRefusal;
+pub use vertices::VertexValues;
