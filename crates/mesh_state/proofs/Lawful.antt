@@ -1,5 +1,5 @@
 -- The laws that hold between any two steps.
-use Rattle.std.proofs.Common.{◌≡◌, ℕ, ◌+◌, ◌<◌, ◌≤◌, Bool, true, false, List, inl, inr, [], ◌∷◌, sym, ap, ◌∙◌, subst, ⊎_elim, arith}
+use Rattle.std.proofs.Common.{◌≡◌, ℕ, ◌+◌, ◌*◌, ◌<◌, ◌≤◌, Bool, true, false, List, inl, inr, [], ◌∷◌, length, sym, ap, ◌∙◌, subst, ⊎_elim, arith}
 use Rattle.mesh_words.specs.Words.{Node}
 use Rattle.mesh_words.specs.Places.{member_of}
 use Rattle.mesh_words.specs.Claims.{Progress, Claimed, Failed, Drawn, Half, Whole, Living}
@@ -10,7 +10,7 @@ use Rattle.mesh_state.specs.Chains.{Finds, Reaches}
 use Rattle.mesh_state.specs.Claims.{draws_of}
 use Rattle.mesh_state.specs.Bisections.{IsPlaceOf}
 use Rattle.mesh_state.specs.Claims.{block_of}
-use Rattle.mesh_state.specs.Laws.{PinsBounded, OneHolder, OneClaim, DrawsBounded, FreeRows, WalksAgree, WalksEnd, ParentsBisected, MembersTogether, PlacesAgree, NotesAgree, NoEarlyReuse, ClearRounds}
+use Rattle.mesh_state.specs.Laws.{BlocksPlaced, RetiredBorn, LeadOn, WalksShort, PinsBounded, OneHolder, OneClaim, DrawsBounded, FreeRows, WalksAgree, WalksEnd, ParentsBisected, MembersTogether, PlacesAgree, NotesAgree, NoEarlyReuse, ClearRounds}
 use Rattle.mesh_state.proofs.FoundAgain.{one_more, placed, found_covers, standing, placed_chained}
 use Rattle.mesh_state.proofs.HeldClaims.{held_one, uses, one_user}
 use Rattle.mesh_state.proofs.Across.{place_one, name_one, no_pin}
@@ -106,3 +106,31 @@ no_early_reuse s w n v g r j q b p h = (r.goes j).went q b p h
 
 pub clear_rounds : ClearRounds
 clear_rounds s w n v g r q j h = ((r.rules.clear q h).0, λ e. no_pin s w n v g r q h j e)
+
+pub blocks_placed : BlocksPlaced
+blocks_placed s w n v g r q may k b e = let f = (r.names.fits q may).found k b e in (f.0, f.1, f.2, f.3, f.4)
+
+pub retired_born : RetiredBorn
+retired_born s w n v g r = r.chains.dieds
+
+pub walks_short : WalksShort
+walks_short s w n v g r x [] h = omega arith
+walks_short s w n v g r x (a ∷ ts) h = rest ts h.2
+  where
+    -- behind a block that was retired at d there are at most (d - 2) / 2
+    behind : (ts : List (ℕ × Bool)) (c : ℕ) (t u : Bool) → stands (g.life c) t ≡ x + 1 → chained (g.life c) u ≡ x + 1 → 0 < w.died c → LeadOn w.hist g.life x (w.hist (member_of c t)) ts → 2 * length ts + 2 ≤ w.died c
+    behind [] c t u st ch z f = let p = placed (g.life c) u x ch in let b = r.chains.dieds c p.0 p.1 p.2 z in let k = b.0 in let l = b.1 in omega arith
+    behind (d ∷ ts) c t u st ch z f = ⊎_elim
+        (λ o. let y : 0 ≡ d.0 + 1 = sym (ap (λ (l : Node). l.block) o) ∙ f.0 in absurd (omega arith))
+        (λ o. let same : o.0 ≡ d.0 = one_more o.0 d.0 (sym (ap (λ (l : Node). l.block) o.2) ∙ f.0) in
+            let p = placed (g.life c) u x ch in let b = r.chains.dieds c p.0 p.1 p.2 z in let k = b.0 in let l = b.1 in let e = o.5 k in let de = ap w.died same in
+            let m = behind ts d.0 d.1 o.1 f.1 (ap (λ (i : ℕ). chained (g.life i) o.1) (sym same) ∙ o.3) (subst (λ (i : ℕ). 0 < w.died i) same o.4) f.2 in omega arith)
+        (r.chains.hists c t x st)
+
+    rest : (ts : List (ℕ × Bool)) → LeadOn w.hist g.life x (w.hist (member_of a.0 a.1)) ts → 2 * length (a ∷ ts) ≤ w.round + 2
+    rest [] f = omega arith
+    rest (d ∷ ts) f = ⊎_elim
+        (λ o. let y : 0 ≡ d.0 + 1 = sym (ap (λ (l : Node). l.block) o) ∙ f.0 in absurd (omega arith))
+        (λ o. let same : o.0 ≡ d.0 = one_more o.0 d.0 (sym (ap (λ (l : Node). l.block) o.2) ∙ f.0) in let de = ap w.died same in let k = o.6 in
+            let m = behind ts d.0 d.1 o.1 f.1 (ap (λ (i : ℕ). chained (g.life i) o.1) (sym same) ∙ o.3) (subst (λ (i : ℕ). 0 < w.died i) same o.4) f.2 in omega arith)
+        (r.chains.hists a.0 a.1 x h.1)

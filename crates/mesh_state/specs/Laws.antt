@@ -1,14 +1,14 @@
 -- What the rule says of any lawful state, and so of the table between any two steps.
-use Rattle.std.specs.Prelude.{◌≡◌, ℕ, ◌+◌, ◌*◌, ◌≤◌, ◌<◌, Bool, true, false, ◌⊎◌, ◌↔◌}
+use Rattle.std.specs.Prelude.{◌≡◌, ℕ, ◌+◌, ◌*◌, ◌≤◌, ◌<◌, Bool, true, false, List, [], ◌∷◌, length, ◌⊎◌, ◌↔◌}
 use Rattle.mesh_words.specs.Setup.{Setup}
-use Rattle.mesh_words.specs.Words.{Words}
+use Rattle.mesh_words.specs.Words.{Node, Words}
 use Rattle.mesh_words.specs.Views.{Views}
 use Rattle.mesh_words.specs.Claims.{Progress, claim}
 use Rattle.mesh_state.specs.Claims.{block_of}
 use Rattle.mesh_words.specs.Places.{member_of}
 use Rattle.mesh_words.specs.Entries.{HasEntry}
 use Rattle.mesh_words.specs.Sums.{sum_below, one_where}
-use Rattle.mesh_state.specs.Ghosts.{stands, Free, Ghost}
+use Rattle.mesh_state.specs.Ghosts.{Life, Placed, chained, stands, Free, Ghost}
 use Rattle.mesh_state.specs.Chains.{Reaches}
 use Rattle.mesh_state.specs.Bisections.{IsPlaceOf, MayRead}
 use Rattle.mesh_state.specs.Rule.{Rule}
@@ -44,6 +44,23 @@ WalksAgree = AtRounds (λ s w g q who. (x k b : ℕ) → IsPlaceOf s w.name who 
 -- walks end: the block that a HISTORY word names was retired in a finished round, before the block that has the word was published
 abbrev pub WalksEnd : Type 0
 WalksEnd = Always (λ s w n v g. (b c x : ℕ) (t : Bool) → stands (g.life b) t ≡ x + 1 → (w.hist (member_of b t)).block ≡ c + 1 → (0 < w.died c) × (w.died c ≤ w.round) × (0 < w.born b → w.died c < w.born b))
+
+-- the block that bisects a name at a round is in the chain of a place of the name, with the name as that member's
+abbrev pub BlocksPlaced : Type 0
+BlocksPlaced = AtRounds (λ s w g q who. (k b : ℕ) → who k ≡ b + 1 → (t : Bool) × (x : ℕ) × (w.name (member_of b t) ≡ k) × (chained (g.life b) t ≡ x + 1) × IsPlaceOf s w.name who x k)
+
+-- a retired block was born before; so retired rounds fall along each walk
+abbrev pub RetiredBorn : Type 0
+RetiredBorn = Always (λ s w n v g. (b x m : ℕ) → g.life b ≡ Placed x m → 0 < w.died b → (0 < w.born b) × (w.born b < w.died b) × (w.died b ≤ w.round + 1))
+
+-- the members, each a block and its side, stand at the place x and lead on from the word l, each by its HISTORY word
+abbrev pub LeadOn : (ℕ → Node) → (ℕ → Life) → ℕ → Node → List (ℕ × Bool) → Type 0
+LeadOn hist life x l [] = Unit {0}
+LeadOn hist life x l (t ∷ ts) = (l.block ≡ t.0 + 1) × (stands (life t.0) t.1 ≡ x + 1) × LeadOn hist life x (hist (member_of t.0 t.1)) ts
+
+-- a walk goes to at most half as many blocks as rounds are finished, and one more
+abbrev pub WalksShort : Type 0
+WalksShort = Always (λ s w n v g. (x : ℕ) (ts : List (ℕ × Bool)) → LeadOn w.hist g.life x (w.head x) ts → 2 * length ts ≤ w.round + 2)
 
 -- a name that is bisected at a round is a macro element's, or its parent is bisected at the round
 abbrev pub ParentsBisected : Type 0

@@ -4,7 +4,7 @@ ghost use Rattle.mesh_state.specs.SquareRun.{SquareRuns};
 ghost use Rattle.mesh_state.specs.RoundForests.{HistoryCoarsens, LeastIsTarget, LeastWhenNeeded, ReadsForests};
 ghost use Rattle.mesh_state.specs.RoundLaws.{BetweenForests, BisectedClosed, ChainsStand, ClaimsAimed, ClaimsDrawn, DiffersByPatches, DrawsApart, HistoryRight, ListsKnown, NotesInHistory, QuietRound, RoundsLeft, StandingKept, ToldPrefix, WalksBegin, WorkerAlone};
 ghost use Rattle.mesh_state.specs.SeatLaws.{BeginsEqual, FilledStays, FindingsRight, HistoryWords, LinkWords, LivingBlocks, LivingClaimed, LoadedStays, OneHalf, OwnerSure, PinsCounted, RetiredNoted, WorkersWent};
-ghost use Rattle.mesh_state.specs.Laws.{ClearRounds, DrawsBounded, FreeRows, MembersTogether, NoEarlyReuse, NotesAgree, OneClaim, OneHolder, ParentsBisected, PinsBounded, PlacesAgree, WalksAgree, WalksEnd};
+ghost use Rattle.mesh_state.specs.Laws.{BlocksPlaced, ClearRounds, DrawsBounded, FreeRows, MembersTogether, NoEarlyReuse, NotesAgree, OneClaim, OneHolder, ParentsBisected, PinsBounded, PlacesAgree, RetiredBorn, WalksAgree, WalksEnd, WalksShort};
 
 /// What holds in each lawful state, and so between any two steps; that the fresh table is lawful,
 /// and that a run on the square is, from the claim of its patch to the second draw of its block.
@@ -15,7 +15,10 @@ pub fn laws()
     ensures draws { DrawsBounded }
     ensures rows { FreeRows }
     ensures walks { WalksAgree }
+    ensures placed { BlocksPlaced }
     ensures ends { WalksEnd }
+    ensures born { RetiredBorn }
+    ensures short { WalksShort }
     ensures parents { ParentsBisected }
     ensures together { MembersTogether }
     ensures places { PlacesAgree }

@@ -1,5 +1,5 @@
 use Rattle.mesh_state.proofs.Fresh.{fresh_is_lawful}
-use Rattle.mesh_state.proofs.Lawful.{bounded, one_holder, one_claim, draws_bounded, free_rows, walks_agree, walks_end, parents_bisected, members_together, places_agree, notes_agree, no_early_reuse, clear_rounds}
+use Rattle.mesh_state.proofs.Lawful.{blocks_placed, retired_born, walks_short, bounded, one_holder, one_claim, draws_bounded, free_rows, walks_agree, walks_end, parents_bisected, members_together, places_agree, notes_agree, no_early_reuse, clear_rounds}
 use Rattle.mesh_state.proofs.RoundLaws.{between, differs, closed, aimed, lists_known, history_right, told_prefix, notes_told, draws_apart, quiet_round, walks_begin, chains_stand, standing_kept, rounds_left, worker_alone, claims_drawn}
 use Rattle.mesh_state.proofs.SeatLaws.{begins_equal, living_claimed, living_blocks, findings_right, workers_went, one_half, filled_stays, loaded_stays, owner_sure, pins_counted, link_words, history_words, retired_noted}
 use Rattle.mesh_state.proofs.RoundCoarsens.{history_coarsens}
@@ -150,3 +150,12 @@ returns-clause-retired c = retired_noted
 
 pub returns-clause-coarsened : goal.returns-clause-coarsened
 returns-clause-coarsened c = history_coarsens
+
+pub returns-clause-placed : goal.returns-clause-placed
+returns-clause-placed c = blocks_placed
+
+pub returns-clause-born : goal.returns-clause-born
+returns-clause-born c = retired_born
+
+pub returns-clause-short : goal.returns-clause-short
+returns-clause-short c = walks_short
