@@ -19,7 +19,7 @@ pub bounded : PinsBounded
 bounded s w n v g r = let b = r.pins.bound in (omega arith, sym r.pins.now ∙ r.pins.count w.round)
 
 pub one_holder : OneHolder
-one_holder s w n v g r i j x m k p q a b = (held_one i j m k p q (sym (r.claims.held i x m p a) ∙ r.claims.held j x k q b)).0
+one_holder s w n v g r i j x m k p q a b = held_one i j m k p q (sym (r.claims.held i x m p a) ∙ r.claims.held j x k q b)
 
 pub uses_block : (p : Progress) (b : ℕ) → block_of p ≡ b + 1 → uses p ≡ b + 1
 uses_block Claimed b e = e

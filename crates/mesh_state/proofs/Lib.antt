@@ -26,6 +26,7 @@ pub mod Sweeping
 pub mod TakingBack
 pub mod Fresh
 pub mod RoundLaws
+pub mod ClaimLaws
 pub mod RoundForests
 pub mod RoundCoarsens
 pub mod SeatLaws

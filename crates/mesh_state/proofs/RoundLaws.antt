@@ -1,7 +1,8 @@
 -- The laws of the lists of a round, of the history, and of blocks that may not be used again.
-use Rattle.std.proofs.Common.{◌≡◌, ℕ, ◌+◌, ◌<◌, Bool, refl, sym, ap, ◌∙◌, ⊎_elim, arith}
+use Rattle.std.proofs.Common.{◌≡◌, ℕ, ◌+◌, ◌<◌, ◌≤◌, Bool, true, false, refl, sym, ap, ◌∙◌, ⊎_elim, arith}
 use native.Mathlib.Decide.{dec_lt}
 use Rattle.mesh_words.specs.Claims.{Drawn}
+use Rattle.mesh_words.specs.Entries.{HasEntry}
 use Rattle.mesh_words.specs.Places.{member_of}
 use Rattle.mesh_state.specs.Ghosts.{Life, Free, chained, stands}
 use Rattle.mesh_state.specs.Claims.{bit_of}
@@ -37,10 +38,14 @@ pub told_prefix : ToldPrefix
 told_prefix s w n v g r j = let a = r.history.seen j in (r.history.told j, a.0, a.1, (r.history.made j).1)
 
 pub notes_told : NotesInHistory
-notes_told s w n v g r j k q names e = (
+notes_told s w n v g r j k q = (finished, λ names e. (
   (λ h. (r.history.forests q names e k).1 ((r.goes j).yes_notes k q h).1),
   λ h m. let z = ((r.goes j).no_notes k q h).1 in let y = (r.history.forests q names e k).0 m in let x = y.1 in omega arith,
-)
+))
+  where
+    finished : (b : Bool) → HasEntry (v.read j).notes record { round = q; name = k; bisected = b } → q ≤ w.round
+    finished true h = ((r.goes j).yes_notes k q h).0
+    finished false h = ((r.goes j).no_notes k q h).0
 
 pub draws_apart : DrawsApart
 draws_apart s w n v g r i j k b c h l = let t = r.drawn.drawn i k b h in let u = r.drawn.drawn j k c l in

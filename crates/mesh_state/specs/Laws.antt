@@ -21,9 +21,9 @@ Always P = (s : Setup) (w : Words) (n : ℕ) (v : Views) (g : Ghost) → Rule s 
 abbrev pub AtRounds : (Setup → Words → Ghost → ℕ → (ℕ → ℕ) → Type 0) → Type 0
 AtRounds P = Always (λ s w n v g. (q : ℕ) → MayRead w.round v.ruling.phase v.read q → P s w g q (g.who q))
 
--- the claim of a place stands in one view
+-- a place has one claim, in one view
 abbrev pub OneHolder : Type 0
-OneHolder = Always (λ s w n v g. (i j x m k : ℕ) (p q : Progress) → HasEntry (v.claims i) (claim x m p) → HasEntry (v.claims j) (claim x k q) → i ≡ j)
+OneHolder = Always (λ s w n v g. (i j x m k : ℕ) (p q : Progress) → HasEntry (v.claims i) (claim x m p) → HasEntry (v.claims j) (claim x k q) → (i ≡ j) × (m ≡ k) × (p ≡ q))
 
 -- a block is of one claim
 abbrev pub OneClaim : Type 0

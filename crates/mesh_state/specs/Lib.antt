@@ -12,6 +12,7 @@ pub mod Rule
 pub mod Fresh
 pub mod Laws
 pub mod RoundLaws
+pub mod ClaimLaws
 pub mod RoundForests
 pub mod SeatLaws
 pub mod SquareRun

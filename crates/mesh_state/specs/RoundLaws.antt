@@ -38,9 +38,9 @@ HistoryRight = Always (λ s w n v g. ((q : ℕ) → q ≤ w.round → (names : L
 abbrev pub ToldPrefix : Type 0
 ToldPrefix = Always (λ s w n v g. (j : ℕ) → ((rest : List (List ℕ)) × (v.ruling.history ≡ (v.read j).told ++ rest)) × ((v.read j).seen ≤ w.round) × (length (v.read j).told ≤ (v.read j).seen + 1) × ((q : ℕ) → (v.read j).pin ≡ q + 1 → (v.read j).made ≤ q))
 
--- what a pass noted of a round agrees with the history
+-- what a pass noted is of a finished round, and agrees with the history
 abbrev pub NotesInHistory : Type 0
-NotesInHistory = Always (λ s w n v g. (j k q : ℕ) (names : List ℕ) → EntryAt v.ruling.history q names → (HasEntry (v.read j).notes record { round = q; name = k; bisected = true } → HasEntry names k) × (HasEntry (v.read j).notes record { round = q; name = k; bisected = false } → HasEntry names k → ⊥))
+NotesInHistory = Always (λ s w n v g. (j k q : ℕ) → ((b : Bool) → HasEntry (v.read j).notes record { round = q; name = k; bisected = b } → q ≤ w.round) × ((names : List ℕ) → EntryAt v.ruling.history q names → (HasEntry (v.read j).notes record { round = q; name = k; bisected = true } → HasEntry names k) × (HasEntry (v.read j).notes record { round = q; name = k; bisected = false } → HasEntry names k → ⊥)))
 
 -- a draw is in one view, and its number is below CURSOR; below FREE its block is that of the row
 abbrev pub DrawsApart : Type 0

@@ -1,4 +1,5 @@
 //! Laws over the definitions alone.
+ghost use Rattle.mesh_state.specs.ClaimLaws.{BitsClaimed, DrawsCounted, SecondPlaces, StagesViewed, TargetLeast, UnbornBlocks, UnbornClaimed};
 ghost use Rattle.mesh_state.specs.Fresh.{FreshIsLawful};
 ghost use Rattle.mesh_state.specs.SquareRun.{SquareRuns};
 ghost use Rattle.mesh_state.specs.RoundForests.{HistoryCoarsens, LeastIsTarget, LeastWhenNeeded, ReadsForests};
@@ -12,6 +13,13 @@ pub fn laws()
     ensures bounded { PinsBounded }
     ensures holder { OneHolder }
     ensures claim { OneClaim }
+    ensures bits { BitsClaimed }
+    ensures seconds { SecondPlaces }
+    ensures stages { StagesViewed }
+    ensures counted { DrawsCounted }
+    ensures unborn { UnbornBlocks }
+    ensures halves { UnbornClaimed }
+    ensures aim { TargetLeast }
     ensures draws { DrawsBounded }
     ensures rows { FreeRows }
     ensures walks { WalksAgree }

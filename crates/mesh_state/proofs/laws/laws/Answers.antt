@@ -1,5 +1,6 @@
 use Rattle.mesh_state.proofs.Fresh.{fresh_is_lawful}
 use Rattle.mesh_state.proofs.Lawful.{blocks_placed, retired_born, walks_short, bounded, one_holder, one_claim, draws_bounded, free_rows, walks_agree, walks_end, parents_bisected, members_together, places_agree, notes_agree, no_early_reuse, clear_rounds}
+use Rattle.mesh_state.proofs.ClaimLaws.{bits_claimed, second_places, stages_viewed, draws_counted, unborn_blocks, unborn_claimed, target_least}
 use Rattle.mesh_state.proofs.RoundLaws.{between, differs, closed, aimed, lists_known, history_right, told_prefix, notes_told, draws_apart, quiet_round, walks_begin, chains_stand, standing_kept, rounds_left, worker_alone, claims_drawn}
 use Rattle.mesh_state.proofs.SeatLaws.{begins_equal, living_claimed, living_blocks, findings_right, workers_went, one_half, filled_stays, loaded_stays, owner_sure, pins_counted, link_words, history_words, retired_noted}
 use Rattle.mesh_state.proofs.RoundCoarsens.{history_coarsens}
@@ -159,3 +160,24 @@ returns-clause-born c = retired_born
 
 pub returns-clause-short : goal.returns-clause-short
 returns-clause-short c = walks_short
+
+pub returns-clause-bits : goal.returns-clause-bits
+returns-clause-bits c = bits_claimed
+
+pub returns-clause-seconds : goal.returns-clause-seconds
+returns-clause-seconds c = second_places
+
+pub returns-clause-stages : goal.returns-clause-stages
+returns-clause-stages c = stages_viewed
+
+pub returns-clause-counted : goal.returns-clause-counted
+returns-clause-counted c = draws_counted
+
+pub returns-clause-unborn : goal.returns-clause-unborn
+returns-clause-unborn c = unborn_blocks
+
+pub returns-clause-halves : goal.returns-clause-halves
+returns-clause-halves c = unborn_claimed
+
+pub returns-clause-aim : goal.returns-clause-aim
+returns-clause-aim c = target_least
