@@ -1,8 +1,9 @@
 -- A name and its word give each other.
-use Rattle.std.proofs.Common.{◌≡◌, ◌≢◌, ℕ, suc, ◌+◌, ◌-◌, ◌*◌, ◌/◌, ◌%◌, ◌^◌, ◌<◌, ◌≤◌, Bool, true, false, cond, eqb, List, [], ◌∷◌, length, Option, Some, None, refl, sym, ap, ◌∙◌, subst, arith, eq-eqb, ne_eqb}
+use Rattle.std.proofs.Common.{◌≡◌, ◌≢◌, ℕ, suc, ◌+◌, ◌-◌, ◌*◌, ◌/◌, ◌%◌, ◌^◌, ◌<◌, ◌≤◌, Bool, true, false, cond, eqb, List, [], ◌∷◌, length, Option, Some, None, inl, inr, ◌⊎◌, refl, sym, ap, ◌∙◌, subst, arith, eq-eqb, ne_eqb}
 use Rattle.std.proofs.Math.Pow.{pow_mono}
 use Rattle.mesh_names.specs.Names.{Name, digit, letters, bits_of, depth}
-use Rattle.mesh_words.specs.NameWords.{IsRooted, name_code, name_word, IsNameWord, name_in, name_of, NamesRead, NamesSpell}
+use Rattle.mesh_names.specs.Letters.{length-letters, bits-letters}
+use Rattle.mesh_words.specs.NameWords.{spelled_word, AreParts, IsRooted, name_code, name_word, IsNameWord, name_in, name_of, NamesRead, NamesSpell}
 
 digit_small : (b : Bool) → digit b < 2
 digit_small true = omega arith
@@ -54,7 +55,20 @@ names_read None h = refl
 names_read (Some n) h = some_name (name_code n) (λ (e : name_code n ≡ 0). omega arith) ∙ ap Some (code_back n h.1)
 
 pub names_spell : NamesSpell
-names_spell k t = ap name_word (ap name_of t.2 ∙ names_read t.0 t.1) ∙ sym t.2
+names_spell = (spells, parts)
+  where
+    code : (root level bits : ℕ) → bits < 2 ^ level → name_code (root, letters level bits) ≡ spelled_word root level bits
+    code root level bits h = λ i. 1 + root * 536870912 + length-letters level bits i * 16777216 + bits-letters level bits h i
+
+    rooted : (root level bits : ℕ) → AreParts root level bits → IsRooted (root, letters level bits)
+    rooted root level bits h = (h.0, subst (λ (d : ℕ). d ≤ 24) (sym (length-letters level bits)) h.1)
+
+    spells : (root level bits : ℕ) → AreParts root level bits → (name_of (spelled_word root level bits) ≡ Some (root, letters level bits)) × (name_word (Some (root, letters level bits)) ≡ spelled_word root level bits) × IsNameWord (spelled_word root level bits)
+    spells root level bits h = let c = code root level bits h.2 in let t = rooted root level bits h in (ap name_of (sym c) ∙ names_read (Some (root, letters level bits)) t, c, (Some (root, letters level bits), t, sym c))
+
+    parts : (k : ℕ) → IsNameWord k → (k ≡ 0) ⊎ ((root level bits : ℕ) × AreParts root level bits × (k ≡ spelled_word root level bits))
+    parts k (None, h, e) = inl e
+    parts k (Some n, h, e) = inr (n.0, depth n, bits_of n.1, (h.0, h.1, bits_below n.1), e)
 
 -- what a word that is not 0 spells
 pub named : (k : ℕ) → k ≢ 0 → IsNameWord k → (n : Name) × IsRooted n × (k ≡ name_code n)

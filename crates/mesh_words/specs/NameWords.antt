@@ -1,5 +1,5 @@
 -- NAME words as numbers.
-use Rattle.std.specs.Prelude.{◌≡◌, ℕ, ◌+◌, ◌-◌, ◌*◌, ◌/◌, ◌%◌, ◌<◌, ◌≤◌, cond, eqb, Option, Some, None, IfSome}
+use Rattle.std.specs.Prelude.{◌≡◌, ℕ, ◌+◌, ◌-◌, ◌*◌, ◌/◌, ◌%◌, ◌^◌, ◌<◌, ◌≤◌, ◌⊎◌, cond, eqb, Option, Some, None, IfSome}
 use Rattle.mesh_names.specs.Names.{Name, letters, bits_of, depth}
 
 -- a name that can be spelled: of one of at most 65535 macro elements, with at most 24 letters
@@ -31,6 +31,15 @@ name_of k = cond (eqb k 0) None (Some (name_in (k - 1)))
 abbrev pub NamesRead : Type 0
 NamesRead = (name : Option Name) → IfSome name IsRooted → name_of (name_word name) ≡ name
 
--- the law that a name's word is that of what it spells
+-- the word that spells a root, a number of letters and bits
+abbrev pub spelled_word : ℕ → ℕ → ℕ → ℕ
+spelled_word root level bits = 1 + root * 536870912 + level * 16777216 + bits
+
+-- a name has a root below 65535, at most 24 letters, and one bit for each letter
+abbrev pub AreParts : ℕ → ℕ → ℕ → Type 0
+AreParts root level bits = (root < 65535) × (level ≤ 24) × (bits < 2 ^ level)
+
+-- the law that such a root, number of letters and bits are read from their word, which is the word of their name; and that each word of a name but 0 is spelled so
 abbrev pub NamesSpell : Type 0
-NamesSpell = (k : ℕ) → IsNameWord k → name_word (name_of k) ≡ k
+NamesSpell = ((root level bits : ℕ) → AreParts root level bits → (name_of (spelled_word root level bits) ≡ Some (root, letters level bits)) × (name_word (Some (root, letters level bits)) ≡ spelled_word root level bits) × IsNameWord (spelled_word root level bits))
+    × ((k : ℕ) → IsNameWord k → (k ≡ 0) ⊎ ((root level bits : ℕ) × AreParts root level bits × (k ≡ spelled_word root level bits)))
