@@ -1,8 +1,7 @@
 -- The laws of claims.
-use Rattle.std.proofs.Common.{◌≡◌, ℕ, ◌+◌, ◌<◌, ◌≤◌, inl, inr, refl, sym, ap, ◌∙◌, ⊎_elim, arith}
+use Rattle.std.proofs.Common.{◌≡◌, ℕ, ◌+◌, ◌≤◌, inl, inr, refl, sym, ap, ◌∙◌, ⊎_elim, arith}
 use native.Mathlib.Decide.{dec_lt}
-use Rattle.mesh_words.specs.Claims.{Progress, Drawn, Half, Whole, claim}
-use Rattle.mesh_words.specs.Entries.{HasEntry}
+use Rattle.mesh_words.specs.Claims.{Progress, Drawn, Half, Whole}
 use Rattle.mesh_words.specs.Setup.{places}
 use Rattle.mesh_state.specs.Ghosts.{Stage, Open, Held}
 use Rattle.mesh_state.specs.Claims.{bit_of}

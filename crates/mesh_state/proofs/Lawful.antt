@@ -123,8 +123,8 @@ walks_short s w n v g r x (a ∷ ts) h = rest ts h.2
     behind (d ∷ ts) c t u st ch z f = ⊎_elim
         (λ o. let y : 0 ≡ d.0 + 1 = sym (ap (λ (l : Node). l.block) o) ∙ f.0 in absurd (omega arith))
         (λ o. let same : o.0 ≡ d.0 = one_more o.0 d.0 (sym (ap (λ (l : Node). l.block) o.2) ∙ f.0) in
-            let p = placed (g.life c) u x ch in let b = r.chains.dieds c p.0 p.1 p.2 z in let k = b.0 in let l = b.1 in let e = o.5 k in let de = ap w.died same in
-            let m = behind ts d.0 d.1 o.1 f.1 (ap (λ (i : ℕ). chained (g.life i) o.1) (sym same) ∙ o.3) (subst (λ (i : ℕ). 0 < w.died i) same o.4) f.2 in omega arith)
+        let p = placed (g.life c) u x ch in let b = r.chains.dieds c p.0 p.1 p.2 z in let k = b.0 in let l = b.1 in let e = o.5 k in let de = ap w.died same in
+        let m = behind ts d.0 d.1 o.1 f.1 (ap (λ (i : ℕ). chained (g.life i) o.1) (sym same) ∙ o.3) (subst (λ (i : ℕ). 0 < w.died i) same o.4) f.2 in omega arith)
         (r.chains.hists c t x st)
 
     rest : (ts : List (ℕ × Bool)) → LeadOn w.hist g.life x (w.hist (member_of a.0 a.1)) ts → 2 * length (a ∷ ts) ≤ w.round + 2
@@ -132,5 +132,5 @@ walks_short s w n v g r x (a ∷ ts) h = rest ts h.2
     rest (d ∷ ts) f = ⊎_elim
         (λ o. let y : 0 ≡ d.0 + 1 = sym (ap (λ (l : Node). l.block) o) ∙ f.0 in absurd (omega arith))
         (λ o. let same : o.0 ≡ d.0 = one_more o.0 d.0 (sym (ap (λ (l : Node). l.block) o.2) ∙ f.0) in let de = ap w.died same in let k = o.6 in
-            let m = behind ts d.0 d.1 o.1 f.1 (ap (λ (i : ℕ). chained (g.life i) o.1) (sym same) ∙ o.3) (subst (λ (i : ℕ). 0 < w.died i) same o.4) f.2 in omega arith)
+        let m = behind ts d.0 d.1 o.1 f.1 (ap (λ (i : ℕ). chained (g.life i) o.1) (sym same) ∙ o.3) (subst (λ (i : ℕ). 0 < w.died i) same o.4) f.2 in omega arith)
         (r.chains.hists a.0 a.1 x h.1)

@@ -38,10 +38,13 @@ pub told_prefix : ToldPrefix
 told_prefix s w n v g r j = let a = r.history.seen j in (r.history.told j, a.0, a.1, (r.history.made j).1)
 
 pub notes_told : NotesInHistory
-notes_told s w n v g r j k q = (finished, λ names e. (
-  (λ h. (r.history.forests q names e k).1 ((r.goes j).yes_notes k q h).1),
-  λ h m. let z = ((r.goes j).no_notes k q h).1 in let y = (r.history.forests q names e k).0 m in let x = y.1 in omega arith,
-))
+notes_told s w n v g r j k q = (
+  finished,
+  λ names e. (
+    (λ h. (r.history.forests q names e k).1 ((r.goes j).yes_notes k q h).1),
+    λ h m. let z = ((r.goes j).no_notes k q h).1 in let y = (r.history.forests q names e k).0 m in let x = y.1 in omega arith,
+  ),
+)
   where
     finished : (b : Bool) → HasEntry (v.read j).notes record { round = q; name = k; bisected = b } → q ≤ w.round
     finished true h = ((r.goes j).yes_notes k q h).0

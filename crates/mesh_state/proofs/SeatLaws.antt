@@ -6,7 +6,7 @@ use Rattle.mesh_words.specs.Places.{member_of}
 use Rattle.mesh_state.specs.Ghosts.{Life, Placed, chained, stands}
 use Rattle.mesh_state.specs.Chains.{Finds}
 use Rattle.mesh_state.specs.Claims.{bit_of}
-use Rattle.mesh_state.specs.SeatLaws.{BeginsEqual, LivingClaimed, LivingBlocks, FindingsRight, WorkersWent, OneHalf, FilledStays, LoadedStays, OwnerSure, PinsCounted, LinkWords, HistoryWords, RetiredNoted}
+use Rattle.mesh_state.specs.SeatLaws.{BeginsEqual, LivingClaimed, LivingBlocks, FindingsRight, FinishedFindings, WorkersWent, OneHalf, FilledStays, LoadedStays, OwnerSure, PinsCounted, LinkWords, HistoryWords, RetiredNoted}
 use Rattle.mesh_state.proofs.FoundAgain.{one_more, placed}
 use Rattle.mesh_state.proofs.Across.{half_of, place_one}
 use Rattle.mesh_state.proofs.Lawful.{walks_end}
@@ -45,6 +45,9 @@ living_blocks s w n v g r b x m u p z l = (
 
 pub findings_right : FindingsRight
 findings_right s w n v g r j k = let u = r.works j in ((λ x h. u.found x k h), (λ h. u.known k h), (λ h. u.open_ k h), λ b h. let t = u.given b k h in (t.1, t.2.3, t.2.4, t.2.5))
+
+pub finished_findings : FinishedFindings
+finished_findings s w n v g r j k = let u = r.walks j in ((λ h. u.absent k h), (λ x h. u.stood x k h), λ b h. u.had b k h)
 
 pub workers_went : WorkersWent
 workers_went s w n v g r j b h = let t = ((r.walks j).went b h).0 in (t, λ e. let z : 0 ≡ t.1 + 1 = sym (ap (λ (l : Life). stands l t.0) e) ∙ t.2 in omega arith)

@@ -31,6 +31,10 @@ abbrev pub FindingsRight : Type 0
 FindingsRight = Always (λ s w n v g. (j k : ℕ) → ((x : ℕ) → HasEntry (v.work j).found (x, k) → (v.ruling.phase ≡ 1) × IsPlaceOf s w.name (g.who (w.round + 1)) x k) × (HasEntry (v.work j).known k → (v.ruling.phase ≡ 1) × Holds (g.who (w.round + 1)) k) × (HasEntry (v.work j).open_ k → (v.ruling.phase ≡ 2) × (g.who (w.round + 1) k ≡ 0))
     × ((b : ℕ) → HasEntry (v.work j).given (b, k) → (w.name (member_of b false) ≡ k) × (0 < w.born b) × (w.born b ≤ w.round) × ((w.died b ≡ 0) ⊎ (w.died b ≡ w.round + 1))))
 
+-- what a pass at work found of the last finished round is so: names that are not bisected, places, and blocks of names
+abbrev pub FinishedFindings : Type 0
+FinishedFindings = Always (λ s w n v g. (j k : ℕ) → (HasEntry (v.work j).absent k → g.who w.round k ≡ 0) × ((x : ℕ) → HasEntry (v.work j).stood (x, k) → IsPlaceOf s w.name (g.who w.round) x k) × ((b : ℕ) → HasEntry (v.work j).had (b, k) → g.who w.round k ≡ b + 1))
+
 -- a block to which a worker's pass has gone stands, so that it is not free
 abbrev pub WorkersWent : Type 0
 WorkersWent = Always (λ s w n v g. (j b : ℕ) → HasEntry (v.work j).went b → ((t : Bool) × (x : ℕ) × (stands (g.life b) t ≡ x + 1)) × (g.life b ≡ Free → ⊥))

@@ -4,7 +4,7 @@ ghost use Rattle.mesh_state.specs.Fresh.{FreshIsLawful};
 ghost use Rattle.mesh_state.specs.SquareRun.{SquareRuns};
 ghost use Rattle.mesh_state.specs.RoundForests.{HistoryCoarsens, LeastIsTarget, LeastWhenNeeded, ReadsForests};
 ghost use Rattle.mesh_state.specs.RoundLaws.{BetweenForests, BisectedClosed, ChainsStand, ClaimsAimed, ClaimsDrawn, DiffersByPatches, DrawsApart, HistoryRight, ListsKnown, NotesInHistory, QuietRound, RoundsLeft, StandingKept, ToldPrefix, WalksBegin, WorkerAlone};
-ghost use Rattle.mesh_state.specs.SeatLaws.{BeginsEqual, FilledStays, FindingsRight, HistoryWords, LinkWords, LivingBlocks, LivingClaimed, LoadedStays, OneHalf, OwnerSure, PinsCounted, RetiredNoted, WorkersWent};
+ghost use Rattle.mesh_state.specs.SeatLaws.{BeginsEqual, FilledStays, FindingsRight, FinishedFindings, HistoryWords, LinkWords, LivingBlocks, LivingClaimed, LoadedStays, OneHalf, OwnerSure, PinsCounted, RetiredNoted, WorkersWent};
 ghost use Rattle.mesh_state.specs.Laws.{BlocksPlaced, ClearRounds, DrawsBounded, FreeRows, MembersTogether, NoEarlyReuse, NotesAgree, OneClaim, OneHolder, ParentsBisected, PinsBounded, PlacesAgree, RetiredBorn, WalksAgree, WalksEnd, WalksShort};
 
 /// What holds in each lawful state, and so between any two steps; that the fresh table is lawful,
@@ -53,6 +53,7 @@ pub fn laws()
     ensures claimed { LivingClaimed }
     ensures living { LivingBlocks }
     ensures findings { FindingsRight }
+    ensures finished { FinishedFindings }
     ensures went { WorkersWent }
     ensures half { OneHalf }
     ensures filled { FilledStays }

@@ -2,7 +2,7 @@ use Rattle.mesh_state.proofs.Fresh.{fresh_is_lawful}
 use Rattle.mesh_state.proofs.Lawful.{blocks_placed, retired_born, walks_short, bounded, one_holder, one_claim, draws_bounded, free_rows, walks_agree, walks_end, parents_bisected, members_together, places_agree, notes_agree, no_early_reuse, clear_rounds}
 use Rattle.mesh_state.proofs.ClaimLaws.{bits_claimed, second_places, stages_viewed, draws_counted, unborn_blocks, unborn_claimed, target_least}
 use Rattle.mesh_state.proofs.RoundLaws.{between, differs, closed, aimed, lists_known, history_right, told_prefix, notes_told, draws_apart, quiet_round, walks_begin, chains_stand, standing_kept, rounds_left, worker_alone, claims_drawn}
-use Rattle.mesh_state.proofs.SeatLaws.{begins_equal, living_claimed, living_blocks, findings_right, workers_went, one_half, filled_stays, loaded_stays, owner_sure, pins_counted, link_words, history_words, retired_noted}
+use Rattle.mesh_state.proofs.SeatLaws.{begins_equal, living_claimed, living_blocks, findings_right, finished_findings, workers_went, one_half, filled_stays, loaded_stays, owner_sure, pins_counted, link_words, history_words, retired_noted}
 use Rattle.mesh_state.proofs.RoundCoarsens.{history_coarsens}
 use Rattle.mesh_state.proofs.RoundForests.{least_is_target, reads_forests, least_when_needed}
 use Rattle.mesh_state.proofs.SquareRound3.{square_runs}
@@ -181,3 +181,6 @@ returns-clause-halves c = unborn_claimed
 
 pub returns-clause-aim : goal.returns-clause-aim
 returns-clause-aim c = target_least
+
+pub returns-clause-finished : goal.returns-clause-finished
+returns-clause-finished c = finished_findings
