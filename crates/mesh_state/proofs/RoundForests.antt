@@ -27,7 +27,7 @@ use Rattle.mesh_words.proofs.NameCodes.{code_back}
 use Rattle.mesh_state.specs.Ghosts.{Life, Placed, chained, Ghost}
 use Rattle.mesh_state.specs.Bisections.{MayRead}
 use Rattle.mesh_state.specs.Lists.{Holds, IsClosed, IsTarget}
-use Rattle.mesh_state.specs.RoundForests.{AreCodes, LeastIsTarget, ReadsForests, LeastWhenNeeded}
+use Rattle.mesh_state.specs.RoundForests.{AreCodes, BisectedCoded, LeastIsTarget, ReadsForests, LeastWhenNeeded}
 use Rattle.mesh_state.specs.Rule.{Rule}
 use Rattle.mesh_state.proofs.FoundAgain.{placed}
 use Rattle.mesh_state.proofs.Lists.{bisected_closed}
@@ -220,6 +220,9 @@ module _ (mesh : Shape) (across : Across) (l : Layout) (passes : ℕ) (tells : T
 
 pub least_is_target : LeastIsTarget
 least_is_target mesh across l passes tells = is_target mesh across l passes tells
+
+pub bisected_coded : BisectedCoded
+bisected_coded mesh across l passes tells w n v g r q may k h = let o = of_code mesh k (bisected_code mesh across l passes tells w n v g r q may k h) in let low = o.1 in (name_in (k - 1), o.2, o.1, omega arith, sym o.0)
 
 pub reads_forests : ReadsForests
 reads_forests mesh across l passes tells w n v g r q may = reads mesh across l passes tells w n v g r q may

@@ -1,7 +1,7 @@
 -- The lists of a round as sets of names: the target is the least forest.
-use Rattle.std.specs.Prelude.{◌≡◌, ℕ, true, List, ◌+◌, ◌≤◌}
+use Rattle.std.specs.Prelude.{◌≡◌, ℕ, true, List, ◌+◌, ◌<◌, ◌≤◌}
 use Rattle.mesh_names.specs.Names.{Name, depth}
-use Rattle.mesh_names.specs.Triangles.{Shape}
+use Rattle.mesh_names.specs.Triangles.{Shape, size, level}
 use Rattle.mesh_names.specs.Forests.{Names, Has, IsForest, Conforms}
 use Rattle.mesh_names.specs.Coarsening.{MarkedForest, after_steps}
 use Rattle.mesh_names.specs.Patches.{owns}
@@ -32,6 +32,10 @@ LeastIsTarget = (mesh : Shape) (across : Across) (l : Layout) (passes : ℕ) →
 -- so it is of each round that may be read of a table over a mesh
 abbrev pub OverMeshes : (Shape → (ℕ → ℕ) → Type 0) → Type 0
 OverMeshes P = (mesh : Shape) (across : Across) (l : Layout) (passes : ℕ) → Tells mesh across → (w : Words) (n : ℕ) (v : Views) (g : Ghost) → Rule (setup_of mesh across l passes) w n v g → (q : ℕ) → MayRead w.round v.ruling.phase v.read q → P mesh (g.who q)
+
+-- the law that each bisected name is the code of a name of the mesh, of a level below 24
+abbrev pub BisectedCoded : Type 0
+BisectedCoded = OverMeshes (λ mesh who. (k : ℕ) → Holds who k → (n : Name) × (n.0 < size mesh) × (level mesh n < 24) × (depth n ≤ 24) × (k ≡ name_code n))
 
 -- the law that the bisected names are a conforming forest
 abbrev pub ReadsForests : Type 0
