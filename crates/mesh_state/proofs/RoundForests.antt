@@ -1,6 +1,6 @@
 -- Lists of names and forests: what is closed over codes is a conforming forest over names, and back.
-use Rattle.std.proofs.Common.{◌≡◌, ℕ, ◌+◌, ◌-◌, ◌*◌, ◌<◌, ◌≤◌, Bool, true, false, cond, eqb, ltb, ◌&&◌, List, ◌∷◌, Option, Some, option_map, ◌⊎◌, refl, sym, ap, ◌∙◌, subst, inl, inr, ⊎_elim, arith, eq-eqb, lt-ltb, ltb-true, eqb-true}
-use Rattle.std.specs.FinSet.{contains, retain}
+use Rattle.std.proofs.Common.{◌≡◌, ℕ, ◌+◌, ◌-◌, ◌*◌, ◌<◌, ◌≤◌, Bool, true, false, cond, eqb, ltb, ◌&&◌, List, [], ◌∷◌, Option, Some, option_map, ◌⊎◌, refl, sym, ap, ◌∙◌, subst, inl, inr, ⊎_elim, arith, eq-eqb, lt-ltb, ltb-true, eqb-true}
+use Rattle.std.specs.FinSet.{contains, retain, insert, empty, contains-empty}
 use Rattle.std.specs.Ordering.{is_lt, ordering_reverse}
 use Rattle.std.specs.declared.cmp.Ordering.{Ordering}
 use Rattle.std.specs.declared.cmp.Ordering.TheVariants.{Less, Equal, Greater}
@@ -12,11 +12,12 @@ use Rattle.mesh_names.specs.Conformity.{HoldsPartners}
 use Rattle.mesh_names.specs.LeastForest.{IsLeast}
 use Rattle.mesh_names.specs.Partners.{Across, Tells, partner}
 use Rattle.mesh_names.specs.Patches.{is_first, owns}
+use Rattle.mesh_names.proofs.Inserting.{has-insert, new-insert, insert-either}
 use Rattle.mesh_names.proofs.Booleans.{retained}
 use Rattle.mesh_names.proofs.Conforming.{conforms_by_partners}
 use Rattle.mesh_names.proofs.Pairs.{partners_pair}
 use Rattle.mesh_words.specs.declared.layout.Layout.{Layout}
-use Rattle.mesh_words.specs.Entries.{HasEntry}
+use Rattle.mesh_words.specs.Entries.{HasEntry, EntryAt}
 use Rattle.mesh_words.specs.NameWords.{name_code, name_word, name_in}
 use Rattle.mesh_words.specs.Places.{member_of}
 use Rattle.mesh_words.specs.Setup.{Setup, is_code, child_code, owner_code, partner_code, setup_of}
@@ -27,10 +28,10 @@ use Rattle.mesh_words.proofs.NameCodes.{code_back}
 use Rattle.mesh_state.specs.Ghosts.{Life, Placed, chained, Ghost}
 use Rattle.mesh_state.specs.Bisections.{MayRead}
 use Rattle.mesh_state.specs.Lists.{Holds, IsClosed, IsTarget}
-use Rattle.mesh_state.specs.RoundForests.{AreCodes, BisectedCoded, LeastIsTarget, ReadsForests, LeastWhenNeeded}
+use Rattle.mesh_state.specs.RoundForests.{AreCodes, BisectedCoded, KeptForests, LeastIsTarget, ReadsForests, LeastWhenNeeded}
 use Rattle.mesh_state.specs.Rule.{Rule}
 use Rattle.mesh_state.proofs.FoundAgain.{placed}
-use Rattle.mesh_state.proofs.Lists.{bisected_closed}
+use Rattle.mesh_state.proofs.Lists.{bisected_closed, entry_at}
 
 module _ (mesh : Shape) (across : Across) (l : Layout) (passes : ℕ) (tells : Tells mesh across) where
   abbrev s : Setup
@@ -226,6 +227,51 @@ bisected_coded mesh across l passes tells w n v g r q may k h = let o = of_code 
 
 pub reads_forests : ReadsForests
 reads_forests mesh across l passes tells w n v g r q may = reads mesh across l passes tells w n v g r q may
+
+-- numbers that are codes of names are the codes of a set of names
+coded_set : (list : List ℕ) → ((k : ℕ) → HasEntry list k → (n : Name) × (depth n ≤ 24) × (k ≡ name_code n)) → (members : Names) × AreCodes members (HasEntry list)
+coded_set [] f = (
+  empty,
+  record {
+    low = λ n h. absurd (none n h);
+    codes = λ n h. absurd (none n h);
+    names_of = λ k h. absurd h;
+  },
+)
+  where
+    no : false ≡ true → ⊥
+    no e = cc
+
+    none : (n : Name) → Has (empty {R = name_cmp}) n → ⊥
+    none n h = no (sym (contains-empty name_cmp n) ∙ h)
+coded_set (k ∷ ks) f =
+    let rest = coded_set ks (λ i h. f i (inr h)) in let t = f k (inl refl) in (
+      insert rest.0 t.0,
+      record {
+        low = λ n h. ⊎_elim (λ e. subst (λ (m : Name). depth m ≤ 24) (sym e) t.1) (λ o. rest.1.low n o) (insert-either rest.0 t.0 n h);
+        codes = λ n h. ⊎_elim (λ e. inl (ap name_code e ∙ sym t.2)) (λ o. inr (rest.1.codes n o)) (insert-either rest.0 t.0 n h);
+        names_of = λ i h. ⊎_elim (λ e. (t.0, new-insert rest.0 t.0, e ∙ t.2)) (λ o. let u = rest.1.names_of i o in (u.0, has-insert rest.0 t.0 u.0 u.1, u.2)) h;
+      },
+    )
+
+pub kept_forests : KeptForests
+kept_forests mesh across l passes tells w n v g r q kept = let f = reads mesh across l passes tells w n v g r q (inl kept) set.0 all in (set.0, all, f.0, f.1)
+  where
+    past : q ≤ w.round
+    past = ⊎_elim (λ e. omega arith) (λ t. r.pins.past t.0 q t.1) kept
+
+    told : (names : List ℕ) × EntryAt v.ruling.history q names
+    told = entry_at v.ruling.history q (let k = r.history.rounds in let p = past in omega arith)
+
+    set : (members : Names) × AreCodes members (HasEntry told.0)
+    set = coded_set told.0 (λ k h. let t = bisected_coded mesh across l passes tells w n v g r q (inl kept) k ((r.history.forests q told.0 told.1 k).0 h) in (t.0, t.3, t.4))
+
+    all : AreCodes set.0 (Holds (g.who q))
+    all = record {
+      low = set.1.low;
+      codes = λ m h. (r.history.forests q told.0 told.1 (name_code m)).0 (set.1.codes m h);
+      names_of = λ k h. set.1.names_of k ((r.history.forests q told.0 told.1 k).1 h);
+    }
 
 pub least_when_needed : LeastWhenNeeded
 least_when_needed mesh across l passes tells w n v g r = needed mesh across l passes tells w n v g r

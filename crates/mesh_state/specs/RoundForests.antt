@@ -14,7 +14,7 @@ use Rattle.mesh_words.specs.Setup.{setup_of}
 use Rattle.mesh_words.specs.Views.{Plan, Views}
 use Rattle.mesh_words.specs.Words.{Words}
 use Rattle.mesh_state.specs.Ghosts.{Ghost}
-use Rattle.mesh_state.specs.Bisections.{MayRead}
+use Rattle.mesh_state.specs.Bisections.{IsKept, MayRead}
 use Rattle.mesh_state.specs.Lists.{Holds, IsTarget, IsListed}
 use Rattle.mesh_state.specs.Rule.{Rule}
 
@@ -40,6 +40,10 @@ BisectedCoded = OverMeshes (λ mesh who. (k : ℕ) → Holds who k → (n : Name
 -- the law that the bisected names are a conforming forest
 abbrev pub ReadsForests : Type 0
 ReadsForests = OverMeshes (λ mesh who. (members : Names) → AreCodes members (Holds who) → IsForest mesh members × Conforms mesh members)
+
+-- the law that the names that are bisected at a kept round, the last finished one or one of which a pin is out, are the codes of a conforming forest
+abbrev pub KeptForests : Type 0
+KeptForests = (mesh : Shape) (across : Across) (l : Layout) (passes : ℕ) → Tells mesh across → (w : Words) (n : ℕ) (v : Views) (g : Ghost) → Rule (setup_of mesh across l passes) w n v g → (q : ℕ) → IsKept w.round v.read q → (members : Names) × AreCodes members (Holds (g.who q)) × IsForest mesh members × Conforms mesh members
 
 -- the law that in the first half, once the names that the round needs are bisected, the bisected names are the least forest that holds these and the last finished round's
 abbrev pub LeastWhenNeeded : Type 0

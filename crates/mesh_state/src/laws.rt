@@ -2,7 +2,7 @@
 ghost use Rattle.mesh_state.specs.ClaimLaws.{BitsClaimed, DrawsCounted, SecondPlaces, StagesViewed, TargetLeast, UnbornBlocks, UnbornClaimed};
 ghost use Rattle.mesh_state.specs.Fresh.{FreshIsLawful};
 ghost use Rattle.mesh_state.specs.SquareRun.{SquareRuns};
-ghost use Rattle.mesh_state.specs.RoundForests.{BisectedCoded, HistoryCoarsens, LeastIsTarget, LeastWhenNeeded, ReadsForests};
+ghost use Rattle.mesh_state.specs.RoundForests.{BisectedCoded, HistoryCoarsens, KeptForests, LeastIsTarget, LeastWhenNeeded, ReadsForests};
 ghost use Rattle.mesh_state.specs.RoundLaws.{BetweenForests, BisectedClosed, ChainsStand, ClaimsAimed, ClaimsDrawn, DiffersByPatches, DrawsApart, HistoryRight, ListsKnown, NotesInHistory, QuietRound, RoundsLeft, StandingKept, ToldPrefix, WalksBegin, WorkerAlone};
 ghost use Rattle.mesh_state.specs.SeatLaws.{BeginsEqual, FilledStays, FindingsRight, FinishedFindings, HistoryWords, LinkWords, LivingBlocks, LivingClaimed, LoadedStays, OneHalf, OwnerSure, PinsCounted, RetiredNoted, WorkersWent};
 ghost use Rattle.mesh_state.specs.Laws.{BlocksPlaced, ClearRounds, DrawsBounded, FreeRows, MembersTogether, NoEarlyReuse, NotesAgree, OneClaim, OneHolder, ParentsBisected, PinsBounded, PlacesAgree, RetiredBorn, WalksAgree, WalksEnd, WalksShort};
@@ -66,6 +66,7 @@ pub fn laws()
     ensures target { LeastIsTarget }
     ensures coded { BisectedCoded }
     ensures forests { ReadsForests }
+    ensures kept { KeptForests }
     ensures coarsened { HistoryCoarsens }
     ensures least { LeastWhenNeeded }
     ensures fresh { FreshIsLawful }

@@ -4,7 +4,7 @@ use Rattle.mesh_state.proofs.ClaimLaws.{bits_claimed, second_places, stages_view
 use Rattle.mesh_state.proofs.RoundLaws.{between, differs, closed, aimed, lists_known, history_right, told_prefix, notes_told, draws_apart, quiet_round, walks_begin, chains_stand, standing_kept, rounds_left, worker_alone, claims_drawn}
 use Rattle.mesh_state.proofs.SeatLaws.{begins_equal, living_claimed, living_blocks, findings_right, finished_findings, workers_went, one_half, filled_stays, loaded_stays, owner_sure, pins_counted, link_words, history_words, retired_noted}
 use Rattle.mesh_state.proofs.RoundCoarsens.{history_coarsens}
-use Rattle.mesh_state.proofs.RoundForests.{bisected_coded, least_is_target, reads_forests, least_when_needed}
+use Rattle.mesh_state.proofs.RoundForests.{bisected_coded, kept_forests, least_is_target, reads_forests, least_when_needed}
 use Rattle.mesh_state.proofs.SquareRound3.{square_runs}
 use Rattle.mesh_state.proofs.laws.laws.Goals as goal
 
@@ -187,3 +187,6 @@ returns-clause-finished c = finished_findings
 
 pub returns-clause-coded : goal.returns-clause-coded
 returns-clause-coded c = bisected_coded
+
+pub returns-clause-kept : goal.returns-clause-kept
+returns-clause-kept c = kept_forests
