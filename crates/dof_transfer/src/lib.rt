@@ -8,6 +8,8 @@ mod entries;
 mod ledger;
 mod preparing;
 mod refusal;
+#[cfg(test)]
+mod tests;
 mod vertex_ledger;
 mod vertices;
 
