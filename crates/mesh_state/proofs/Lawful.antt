@@ -10,7 +10,7 @@ use Rattle.mesh_state.specs.Chains.{Finds, Reaches}
 use Rattle.mesh_state.specs.Claims.{draws_of}
 use Rattle.mesh_state.specs.Bisections.{IsPlaceOf}
 use Rattle.mesh_state.specs.Claims.{block_of}
-use Rattle.mesh_state.specs.Laws.{BlocksPlaced, RetiredBorn, LeadOn, WalksShort, PinsBounded, OneHolder, OneClaim, DrawsBounded, FreeRows, WalksAgree, WalksEnd, ParentsBisected, MembersTogether, PlacesAgree, NotesAgree, NoEarlyReuse, ClearRounds}
+use Rattle.mesh_state.specs.Laws.{BlocksPlaced, RetiredBorn, LeadOn, WalksShort, PinsBounded, OneHolder, OneClaim, DrawsBounded, FreeRows, WalksAgree, WalksEnd, ParentsBisected, MembersTogether, PlacesAgree, NotesAgree, ReachedKept, ClearRounds}
 use Rattle.mesh_state.proofs.FoundAgain.{one_more, placed, found_covers, standing, placed_chained}
 use Rattle.mesh_state.proofs.HeldClaims.{held_one, uses, one_user}
 use Rattle.mesh_state.proofs.Across.{place_one, name_one, no_pin}
@@ -101,8 +101,8 @@ walks_agree s w n v g r q k x i b seen = (
       let u = r.names.sound q k b t.0 x ch c in ap (g.who q) (sym (name_one s w n v g r q x (w.name (member_of b t.0)) i u.1 seen)) ∙ u.0,
 )
 
-pub no_early_reuse : NoEarlyReuse
-no_early_reuse s w n v g r j q b p h = (r.goes j).went q b p h
+pub reached_kept : ReachedKept
+reached_kept s w n v g r j q b p h = (r.goes j).went q b p h
 
 pub clear_rounds : ClearRounds
 clear_rounds s w n v g r q j h = ((r.rules.clear q h).0, λ e. no_pin s w n v g r q h j e)

@@ -83,8 +83,8 @@ abbrev pub PinsBounded : Type 0
 PinsBounded = Always (λ s w n v g. (w.taken ≤ s.limit + s.passes + 1) × (w.taken ≡ w.released w.round + sum_below n (λ j. one_where (v.read j).pin (w.round + 1))))
 
 -- a block to which a reader has gone since its pin stands in a chain or was taken back, and its last round is above the pin
-abbrev pub NoEarlyReuse : Type 0
-NoEarlyReuse = Always (λ s w n v g. (j q b : ℕ) → (v.read j).pin ≡ q + 1 → HasEntry (v.read j).went b → ((t : Bool) × (x : ℕ) × (stands (g.life b) t ≡ x + 1)) × ((w.died b ≡ 0) ⊎ (q < w.died b)))
+abbrev pub ReachedKept : Type 0
+ReachedKept = Always (λ s w n v g. (j q b : ℕ) → (v.read j).pin ≡ q + 1 → HasEntry (v.read j).went b → ((t : Bool) × (x : ℕ) × (stands (g.life b) t ≡ x + 1)) × ((w.died b ≡ 0) ⊎ (q < w.died b)))
 
 -- a round that the owner knows as clear was left, and no view has a pin of it
 abbrev pub ClearRounds : Type 0

@@ -5,7 +5,7 @@ ghost use Rattle.mesh_state.specs.SquareRun.{SquareRuns};
 ghost use Rattle.mesh_state.specs.RoundForests.{BisectedCoded, HistoryCoarsens, KeptForests, LeastIsTarget, LeastWhenNeeded, ReadsForests};
 ghost use Rattle.mesh_state.specs.RoundLaws.{BetweenForests, BisectedClosed, ChainsStand, ClaimsAimed, ClaimsDrawn, DiffersByPatches, DrawsApart, HistoryRight, ListsKnown, NotesInHistory, QuietRound, RoundsLeft, StandingKept, ToldPrefix, WalksBegin, WorkerAlone};
 ghost use Rattle.mesh_state.specs.SeatLaws.{BeginsEqual, FilledStays, FindingsRight, FinishedFindings, HistoryWords, LinkWords, LivingBlocks, LivingClaimed, LoadedStays, OneHalf, OwnerSure, PinsCounted, RetiredNoted, WorkersWent};
-ghost use Rattle.mesh_state.specs.Laws.{BlocksPlaced, ClearRounds, DrawsBounded, FreeRows, MembersTogether, NoEarlyReuse, NotesAgree, OneClaim, OneHolder, ParentsBisected, PinsBounded, PlacesAgree, RetiredBorn, WalksAgree, WalksEnd, WalksShort};
+ghost use Rattle.mesh_state.specs.Laws.{BlocksPlaced, ClearRounds, DrawsBounded, FreeRows, MembersTogether, ReachedKept, NotesAgree, OneClaim, OneHolder, ParentsBisected, PinsBounded, PlacesAgree, RetiredBorn, WalksAgree, WalksEnd, WalksShort};
 
 /// What holds in each lawful state, and so between any two steps; that the fresh table is lawful,
 /// and that a run on the square is, from the claim of its patch to the second draw of its block.
@@ -31,7 +31,7 @@ pub fn laws()
     ensures together { MembersTogether }
     ensures places { PlacesAgree }
     ensures notes { NotesAgree }
-    ensures reuse { NoEarlyReuse }
+    ensures reuse { ReachedKept }
     ensures clear { ClearRounds }
     ensures between { BetweenForests }
     ensures differs { DiffersByPatches }

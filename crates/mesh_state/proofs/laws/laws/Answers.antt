@@ -1,5 +1,5 @@
 use Rattle.mesh_state.proofs.Fresh.{fresh_is_lawful}
-use Rattle.mesh_state.proofs.Lawful.{blocks_placed, retired_born, walks_short, bounded, one_holder, one_claim, draws_bounded, free_rows, walks_agree, walks_end, parents_bisected, members_together, places_agree, notes_agree, no_early_reuse, clear_rounds}
+use Rattle.mesh_state.proofs.Lawful.{blocks_placed, retired_born, walks_short, bounded, one_holder, one_claim, draws_bounded, free_rows, walks_agree, walks_end, parents_bisected, members_together, places_agree, notes_agree, reached_kept, clear_rounds}
 use Rattle.mesh_state.proofs.ClaimLaws.{bits_claimed, second_places, stages_viewed, draws_counted, unborn_blocks, unborn_claimed, target_least}
 use Rattle.mesh_state.proofs.RoundLaws.{between, differs, closed, aimed, lists_known, history_right, told_prefix, notes_told, draws_apart, quiet_round, walks_begin, chains_stand, standing_kept, rounds_left, worker_alone, claims_drawn}
 use Rattle.mesh_state.proofs.SeatLaws.{begins_equal, living_claimed, living_blocks, findings_right, finished_findings, workers_went, one_half, filled_stays, loaded_stays, owner_sure, pins_counted, link_words, history_words, retired_noted}
@@ -42,7 +42,7 @@ pub returns-clause-notes : goal.returns-clause-notes
 returns-clause-notes c = notes_agree
 
 pub returns-clause-reuse : goal.returns-clause-reuse
-returns-clause-reuse c = no_early_reuse
+returns-clause-reuse c = reached_kept
 
 pub returns-clause-clear : goal.returns-clause-clear
 returns-clause-clear c = clear_rounds
