@@ -12,7 +12,10 @@ use Rattle.std.proofs.lemmas.Fmt.{IsAscii-from_digits}
 use Rattle.std.proofs.lemmas.Int.Digits.{digits_value_more}
 use Rattle.std.proofs.lemmas.Str.{digit_value_digit, IsUtf8-from_ascii}
 use Rattle.std.proofs.lemmas.Str.Parse.{IsNumeralModel, numerals_by_value, tells_all_ascii_digits}
-use Rattle.mark_file.specs.Fields.{Field, is_blank, trimmed, without_end, is_round, round_in, is_whole, is_mark_number, mark_in}
+use Rattle.mesh_names.specs.Marks.{largest_number}
+use Rattle.mesh_names.specs.declared.rows.What.{What}
+use Rattle.mesh_names.specs.declared.rows.What.TheVariants.{Mark, Elem as element_value, Vert as vertex_value}
+use Rattle.mark_file.specs.Fields.{Field, is_blank, trimmed, without_end, is_round, round_in, is_whole, is_number_of, number_in}
 use Rattle.csv.specs.Records.{field_at}
 use mir.Syntax.{w64}
 
@@ -74,7 +77,7 @@ digit_more ds i n more inside low high e digit =
     let value : digit_value (get_or ds i 0) + 48 ≡ get_or ds i 0 = digit_value_digit (get_or ds i 0) (low, high) in
     omega (arith, step, value, e, digit)
 
--- what a number of a mark is
+-- what a whole number is
 whole_facts : (field : Field) → is_whole field ≡ true → IsNumeral 10 (without_leading_sign field)
 whole_facts field e =
     let h = both _ _ e in
@@ -83,25 +86,37 @@ whole_facts field e =
 whole_are : (field : Field) → IsNumeral 10 (without_leading_sign field) → is_whole field ≡ true
 whole_are field h = λ i. le-leb 1 (length (without_leading_sign field)) h.0 i && own.from (without_leading_sign field) h.1 i
 
-mark_fits : (z : ℤ) → is_mark_number z ≡ true → FitsSigned w64 z
-mark_fits (pos n) e = let b : n ≤ 24 = leb-true n 24 e in omega (arith, b)
-mark_fits (negsuc n) e = let b : suc n ≤ 24 = leb-true (suc n) 24 e in omega (arith, b)
+-- no kind of row takes a number above 2^31 in size
+pub largest-small : (w : What) → largest_number w ≤ 2147483648
+largest-small Mark = omega arith
+largest-small element_value = omega arith
+largest-small vertex_value = omega arith
 
-pub mark_whole : (field : Field) (z : ℤ) → IsNumeral 10 (without_leading_sign field) → z ≡ signed_digits_value 10 field → mark_in field ≡ cond (is_mark_number z) (Some z) None
-unfolding mark_in
-mark_whole field z h e =
-    ap (λ b. option_and_then (λ n. cond (is_mark_number n) (Some n) None) (cond b (Some (signed_digits_value 10 field)) None)) (whole_are field h)
-    ∙ ap (λ v. cond (is_mark_number v) (Some v) None) (sym e)
+small_fits : (z : ℤ) → nat_abs z ≤ 2147483648 → FitsSigned w64 z
+small_fits (pos n) b = omega (arith, b)
+small_fits (negsuc n) b = omega (arith, b)
 
--- a field that is no whole number of 64 bits is no mark's number
-pub mark_none : (field : Field) → ¬ (IsNumeral 10 (without_leading_sign field) × FitsSigned w64 (signed_digits_value 10 field)) → mark_in field ≡ None
-unfolding mark_in
-mark_none field h = by (is_whole field) (is_mark_number (signed_digits_value 10 field)) refl refl where
-  by : (b m : Bool) → is_whole field ≡ b → is_mark_number (signed_digits_value 10 field) ≡ m
-      → option_and_then (λ n. cond (is_mark_number n) (Some n) None) (cond b (Some (signed_digits_value 10 field)) None) ≡ None
+number_fits : (w : What) (z : ℤ) → is_number_of w z ≡ true → FitsSigned w64 z
+number_fits w z e =
+    let low = leb-true (nat_abs z) (largest_number w) e in
+    let most = largest-small w in
+    small_fits z (omega (arith, low, most))
+
+number_whole : (w : What) (field : Field) (z : ℤ) → IsNumeral 10 (without_leading_sign field) → z ≡ signed_digits_value 10 field → number_in w field ≡ cond (is_number_of w z) (Some z) None
+unfolding number_in
+number_whole w field z h e =
+    ap (λ b. option_and_then (λ n. cond (is_number_of w n) (Some n) None) (cond b (Some (signed_digits_value 10 field)) None)) (whole_are field h)
+    ∙ ap (λ v. cond (is_number_of w v) (Some v) None) (sym e)
+
+-- a field that is no whole number of 64 bits is no number of a row
+pub number_none : (w : What) (field : Field) → ¬ (IsNumeral 10 (without_leading_sign field) × FitsSigned w64 (signed_digits_value 10 field)) → number_in w field ≡ None
+unfolding number_in
+number_none w field h = by (is_whole field) (is_number_of w (signed_digits_value 10 field)) refl refl where
+  by : (b m : Bool) → is_whole field ≡ b → is_number_of w (signed_digits_value 10 field) ≡ m
+      → option_and_then (λ n. cond (is_number_of w n) (Some n) None) (cond b (Some (signed_digits_value 10 field)) None) ≡ None
   by false m e f = refl
   by true false e f = ap (λ b. cond b (Some (signed_digits_value 10 field)) None) f
-  by true true e f = absurd (h (whole_facts field e, mark_fits (signed_digits_value 10 field) f))
+  by true true e f = absurd (h (whole_facts field e, number_fits w (signed_digits_value 10 field) f))
 
 front_ascii : (c : ℕ) (cs : List ℕ) → c < 128 → IsAscii cs → IsAscii (c ∷ cs)
 front_ascii c cs low rest zero = low
@@ -119,19 +134,19 @@ numeral_text : (field : Field) → IsNumeral 10 (without_leading_sign field) →
 numeral_text [] h = IsUtf8-from_ascii [] (λ i. omega arith)
 numeral_text (c ∷ cs) h = IsUtf8-from_ascii (c ∷ cs) (signed_ascii c cs h.1)
 
-pub mark_no_text : (field : Field) → ¬ (IsUtf8 field) → mark_in field ≡ None
-mark_no_text field h = mark_none field (λ f. h (numeral_text field f.0))
+pub number_no_text : (w : What) (field : Field) → ¬ (IsUtf8 field) → number_in w field ≡ None
+number_no_text w field h = number_none w field (λ f. h (numeral_text field f.0))
 
 -- a field, cut at its blanks
 pub trimmed-cut : (field rest : Field) (front end : ℕ) → front ≡ prefix_len is_blank field → rest ≡ drop front field → end ≡ suffix_len is_blank rest → take (length rest - end) rest ≡ trimmed field
 unfolding trimmed
 trimmed-cut field rest front end f r e = (λ i. take (length rest - e i) rest) ∙ ap without_end (r ∙ ap (λ k. drop k field) f)
 
-pub mark_outside : (field : Field) (z : ℤ) → OkIff {E = ℕ} (Ok z) (IsNumeral 10 (without_leading_sign field) × FitsSigned w64 (signed_digits_value 10 field)) (signed_digits_value 10 field) → 24 < nat_abs z → mark_in field ≡ None
-mark_outside field z h large = mark_whole field z h.0.0 h.1 ∙ ap (λ b. cond b (Some z) None) (gt-leb (nat_abs z) 24 large)
+pub number_outside : (w : What) (field : Field) (z : ℤ) → OkIff {E = ℕ} (Ok z) (IsNumeral 10 (without_leading_sign field) × FitsSigned w64 (signed_digits_value 10 field)) (signed_digits_value 10 field) → largest_number w < nat_abs z → number_in w field ≡ None
+number_outside w field z h large = number_whole w field z h.0.0 h.1 ∙ ap (λ b. cond b (Some z) None) (gt-leb (nat_abs z) (largest_number w) large)
 
-pub mark_inside : (field : Field) (z : ℤ) → OkIff {E = ℕ} (Ok z) (IsNumeral 10 (without_leading_sign field) × FitsSigned w64 (signed_digits_value 10 field)) (signed_digits_value 10 field) → nat_abs z ≤ 24 → mark_in field ≡ Some z
-mark_inside field z h small = mark_whole field z h.0.0 h.1 ∙ ap (λ b. cond b (Some z) None) (le-leb (nat_abs z) 24 small)
+pub number_inside : (w : What) (field : Field) (z : ℤ) → OkIff {E = ℕ} (Ok z) (IsNumeral 10 (without_leading_sign field) × FitsSigned w64 (signed_digits_value 10 field)) (signed_digits_value 10 field) → nat_abs z ≤ largest_number w → number_in w field ≡ Some z
+number_inside w field z h small = number_whole w field z h.0.0 h.1 ∙ ap (λ b. cond b (Some z) None) (le-leb (nat_abs z) (largest_number w) small)
 
 -- a field that a record has
 pub field_there : (fields : List (List ℕ)) (k : ℕ) (f : List ℕ) → Some f ≡ field_at fields k → get_or fields k [] ≡ f

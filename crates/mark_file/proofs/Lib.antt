@@ -3,3 +3,4 @@ pub mod UnreadLemmas
 pub mod AcceptedLemmas
 pub mod RoundLemmas
 pub mod ReadLemmas
+pub mod CornerLemmas

@@ -4,11 +4,12 @@ use Rattle.std.specs.List.{prefix_len, suffix_len}
 use Rattle.std.specs.Option.{option_map, option_and_then}
 use Rattle.std.specs.Str.{all_ascii_digits}
 use Rattle.std.specs.Str.Parse.{digits_value, signed_digits_value, without_leading_sign}
+use Rattle.mesh_names.specs.Marks.{largest_number}
 use Rattle.mesh_names.specs.Spelling.{name_spelled}
 use Rattle.mesh_names.specs.declared.rows.What.{What}
-use Rattle.mesh_names.specs.declared.rows.What.TheVariants.{Mark}
+use Rattle.mesh_names.specs.declared.rows.What.TheVariants.{Mark, Elem as element_value, Vert as vertex_value}
 use Rattle.mesh_names.specs.declared.rows.Place.{Place}
-use Rattle.mesh_names.specs.declared.rows.Place.TheVariants.{EveryLeaf, Elem}
+use Rattle.mesh_names.specs.declared.rows.Place.TheVariants.{EveryLeaf, Elem, Corner}
 
 -- the bytes of a field
 abbrev pub Field : Type 0
@@ -40,11 +41,37 @@ round_in field = if is_round field then Some (digits_value 10 field) else None
 
 -- what a field says that the row sets
 unfoldable pub what_in : Field → Option What
-what_in field = if bytes_eq field (codes "mark") then Some Mark else None
+what_in field =
+    if bytes_eq field (codes "mark") then Some Mark else
+    if bytes_eq field (codes "elem") then Some element_value else
+    if bytes_eq field (codes "vert") then Some vertex_value else None
 
--- the place that a field gives: every leaf, or the element whose spelling it is
-unfoldable pub place_in : Field → Option Place
-place_in field = if bytes_eq field (codes "*") then Some EveryLeaf else option_map Elem (name_spelled field)
+-- the element whose spelling the field is
+abbrev pub element_in : Field → Option Place
+element_in field = option_map Elem (name_spelled field)
+
+-- the corner that two bytes give: a `/` and 0, 1 or 2
+unfoldable pub corner_number : Field → Option ℕ
+corner_number ending =
+    if bytes_eq ending (codes "/0") then Some 0 else
+    if bytes_eq ending (codes "/1") then Some 1 else
+    if bytes_eq ending (codes "/2") then Some 2 else None
+
+-- the corner whose spelling the field is: that of its element, and then two bytes
+unfoldable pub corner_in : Field → Option Place
+corner_in field =
+    let front = length field - 2 in
+    option_and_then (λ k. option_map (λ n. Corner n k) (name_spelled (take front field))) (corner_number (drop front field))
+
+-- what a row of this kind names beside `*`: an element, or for a vertex's value a corner
+abbrev pub spelled_in : What → Field → Option Place
+spelled_in Mark = element_in
+spelled_in element_value = element_in
+spelled_in vertex_value = corner_in
+
+-- the place that a field gives in a row of this kind
+unfoldable pub place_in : What → Field → Option Place
+place_in what field = if bytes_eq field (codes "*") then Some EveryLeaf else spelled_in what field
 
 -- an optional sign and one or more digits
 abbrev pub is_whole : Field → Bool
@@ -54,10 +81,10 @@ is_whole field = nat_le 1 (length (without_leading_sign field)) && all_ascii_dig
 abbrev pub whole_in : Field → Option ℤ
 whole_in field = if is_whole field then Some (signed_digits_value 10 field) else None
 
--- the numbers of a mark go from -24 to 24
-abbrev pub is_mark_number : ℤ → Bool
-is_mark_number n = nat_le (nat_abs n) 24
+-- the number is none too large for a row of this kind
+abbrev pub is_number_of : What → ℤ → Bool
+is_number_of what n = nat_le (nat_abs n) (largest_number what)
 
--- the number of a mark that a field gives
-unfoldable pub mark_in : Field → Option ℤ
-mark_in field = option_and_then (λ n. if is_mark_number n then Some n else None) (whole_in field)
+-- the number that a field gives in a row of this kind
+unfoldable pub number_in : What → Field → Option ℤ
+number_in what field = option_and_then (λ n. if is_number_of what n then Some n else None) (whole_in field)

@@ -2,3 +2,4 @@ pub mod Fields
 pub mod Rows
 pub mod Meaning
 pub mod Unread
+pub mod Corners

@@ -1,6 +1,6 @@
 -- What the rows of a marks file say, each by itself.
 use Rattle.std.specs.Prelude.{ℕ, ◌==◌, ◌&&◌, Bool, List, [], length, nat_lt, not, if◌then◌else◌, slice_index_or, unwrap_or, Option, Some, None, Result, Ok, Err, codes, bytes_eq}
-use Rattle.mark_file.specs.Fields.{Field, trimmed, round_in, what_in, place_in, mark_in}
+use Rattle.mark_file.specs.Fields.{Field, trimmed, round_in, what_in, place_in, number_in}
 use Rattle.mark_file.specs.declared.row.RoundRow.{RoundRow}
 use Rattle.mark_file.specs.declared.refusal.MarkRefusal.{MarkRefusal}
 use Rattle.mark_file.specs.declared.refusal.MarkRefusal.TheVariants.{BadFields, BadRound, BadWhat, BadWhere, BadNumber, RoundsFall, TooMany}
@@ -42,6 +42,6 @@ row_meaning number before r =
     needs (round_in (field_of r 0)) (BadRound number) (λ round.
     if nat_lt round before then Err (RoundsFall number) else
     needs (what_in (field_of r 1)) (BadWhat number) (λ what.
-    needs (place_in (field_of r 2)) (BadWhere number) (λ place.
-    needs (mark_in (field_of r 3)) (BadNumber number) (λ mark.
-    Ok (record { round = round; row = number; what = what; place = place; number = mark })))))
+    needs (place_in what (field_of r 2)) (BadWhere number) (λ place.
+    needs (number_in what (field_of r 3)) (BadNumber number) (λ value.
+    Ok (record { round = round; row = number; what = what; place = place; number = value })))))

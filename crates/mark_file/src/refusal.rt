@@ -10,13 +10,14 @@ pub enum MarkRefusal {
     /// Field 1 is not one to five digits that give 1 to 65,535.
     #[error("row {row}: bad round")]
     BadRound { row: u32 },
-    /// Field 2 is not `mark`.
+    /// Field 2 is not `mark`, `elem` or `vert`.
     #[error("row {row}: bad what")]
     BadWhat { row: u32 },
-    /// Field 3 is neither `*` nor an element's spelling.
+    /// Field 3 is neither `*` nor an element's spelling or, for `vert`, a corner's.
     #[error("row {row}: bad where")]
     BadWhere { row: u32 },
-    /// Field 4 is no whole number from -24 to 24.
+    /// Field 4 is no whole number, or it is above 24 in size for `mark`, or above 2^31 for `elem`
+    /// and `vert`.
     #[error("row {row}: bad number")]
     BadNumber { row: u32 },
     /// Field 1 is below that of the row before.

@@ -3,7 +3,7 @@ ghost use Rattle.std.specs.Prelude.{◌≡◌};
 ghost use Rattle.csv.specs.Records.{fields_of};
 ghost use Rattle.mark_file.specs.Rows as spec;
 
-use crate::field::{mark_in, place_in, round_in, trimmed, what_in};
+use crate::field::{number_in, place_in, round_in, trimmed, what_in};
 use crate::refusal::MarkRefusal;
 use csv::ByteRecord;
 use mesh_names::rows::{Place, What};
@@ -72,10 +72,10 @@ pub(crate) fn read_row(number: u32, before: u32, row: &ByteRecord) -> Result<Rou
     let Some(what) = what_in(field_of(row, 1)) else {
         return Err(MarkRefusal::BadWhat { row: number });
     };
-    let Some(place) = place_in(field_of(row, 2)) else {
+    let Some(place) = place_in(what, field_of(row, 2)) else {
         return Err(MarkRefusal::BadWhere { row: number });
     };
-    let Some(mark) = mark_in(field_of(row, 3)) else {
+    let Some(value) = number_in(what, field_of(row, 3)) else {
         return Err(MarkRefusal::BadNumber { row: number });
     };
     Ok(RoundRow {
@@ -83,6 +83,6 @@ pub(crate) fn read_row(number: u32, before: u32, row: &ByteRecord) -> Result<Rou
         row: number,
         what,
         place,
-        number: mark,
+        number: value,
     })
 }

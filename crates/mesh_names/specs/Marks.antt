@@ -27,17 +27,34 @@ names_leaf (Corner m k) n = false
 abbrev pub marks_leaf : MarkRow → Name → Bool
 marks_leaf row n = is_mark row.what && names_leaf row.place n
 
--- a mark may name every leaf or one element
-abbrev pub takes_mark : Place → Bool
-takes_mark EveryLeaf = true
-takes_mark (Elem m) = true
-takes_mark (Corner m k) = false
+-- the place is `*` or an element
+abbrev pub NamesElement : Place → Type 0
+NamesElement EveryLeaf = Unit {0}
+NamesElement (Elem m) = Unit {0}
+NamesElement (Corner m k) = ⊥
 
--- a row that a round takes: a mark from -24 to 24
+-- the place is `*` or a corner, of which an element has three
+abbrev pub NamesCorner : Place → Type 0
+NamesCorner EveryLeaf = Unit {0}
+NamesCorner (Elem m) = ⊥
+NamesCorner (Corner m k) = k < 3
+
+-- a row of this kind may have this place: a mark and an element's value `*` or an element, a vertex's value `*` or a corner
+abbrev pub IsPlaceOf : What → Place → Type 0
+IsPlaceOf Mark = NamesElement
+IsPlaceOf element_value = NamesElement
+IsPlaceOf vertex_value = NamesCorner
+
+-- the greatest size of a number in a row of this kind: marks go from -24 to 24, values from -2^31 to 2^31
+abbrev pub largest_number : What → ℕ
+largest_number Mark = 24
+largest_number element_value = 2147483648
+largest_number vertex_value = 2147483648
+
+-- a row that a round takes: a place and a number of its kind
 pub record IsWellFormed (row : MarkRow) : Type 0 where
-  pub mark : is_mark row.what ≡ true
-  pub place : takes_mark row.place ≡ true
-  pub small : nat_abs row.number ≤ 24
+  pub place : IsPlaceOf row.what row.place
+  pub small : nat_abs row.number ≤ largest_number row.what
 
 -- the later of two, where there is one
 abbrev pub later : Option ℤ → Option ℤ → Option ℤ

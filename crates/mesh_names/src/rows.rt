@@ -1,4 +1,4 @@
-//! Rows of marks, as a round takes them.
+//! Rows of marks and values, as a round takes them.
 use crate::name::ElemName;
 
 /// What a row sets: a mark, an element's value or a vertex's value.
@@ -20,7 +20,8 @@ pub enum Place {
 /// A row of the marks file, with its number there; the header is row 1.
 ///
 /// A mark, of size 24 at most, asks for as many bisections of a leaf, or below 0 allows as many
-/// coarsenings.
+/// coarsenings. It names every leaf or an element, and so does the row of an element's value; that
+/// of a vertex's value names every leaf or a corner. A value is at most 2^31 in size.
 #[derive(Clone, Copy, Debug)]
 pub struct MarkRow {
     pub row: u32,

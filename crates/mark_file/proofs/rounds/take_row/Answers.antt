@@ -5,7 +5,7 @@ use Rattle.csv.specs.Records.{fields_of}
 use Rattle.mark_file.specs.Rows.{row_meaning}
 use Rattle.mark_file.specs.Meaning.{mark_row, rounds_read}
 use Rattle.mark_file.proofs.RoundLemmas.{length-filled, length-rounds_read, row_joins}
-use Rattle.mark_file.proofs.AcceptedLemmas.{row_meaning-accepts, small_whole}
+use Rattle.mark_file.proofs.AcceptedLemmas.{row_meaning-accepts, number_whole}
 use Rattle.mark_file.proofs.rounds.take_row.Goals as goal
 
 pub fill_rounds-requires-clause-low : goal.fill_rounds-requires-clause-low
@@ -36,7 +36,7 @@ returns-clause-ok c =
     let a = row_meaning-accepts c.args.number c.len.result (fields_of c.args.row.now) row means in
     let before : c.len.result ≡ length (rounds_read c.args.rounds.now.items) = omega (arith, c.len.ensures, length-rounds_read c.args.rounds.now.items) in
     let held = c.index_mut.result.now.rows.items in
-    let number : to_z w64 (of_z w64 row.number) ≡ row.number = small_whole row.number a.formed.small in (
+    let number : to_z w64 (of_z w64 row.number) ≡ row.number = number_whole row.what row.number a.formed.small in (
       row,
       subst (λ n. row_meaning c.args.number n (fields_of c.args.row.now) ≡ Ok row) before means,
       λ rows. row_joins c.args.rounds.now.items c.fill_rounds.new.rounds.items c.index_mut.result.now _ rows row c.in_ok-fill_rounds.ensures.ok (omega (arith, a.rises, c.len.ensures)) a.some c.index_mut.ensures.value refl
