@@ -12,3 +12,5 @@ pub mod Alike
 pub mod Turns
 pub mod Keeping
 pub mod Readiness
+pub mod Running
+pub mod OneAnswer

@@ -6,7 +6,7 @@ use Rattle.std.proofs.lemmas.List.{get_or_default}
 use Rattle.mesh_names.specs.Names.{Name}
 use Rattle.mesh_names.specs.Triangles.{Shape, level}
 use Rattle.mesh_names.specs.Forests.{Names, IsLeaf}
-use Rattle.mesh_names.specs.Marks.{names_leaf, takes_mark}
+use Rattle.mesh_names.specs.Marks.{NamesElement, names_leaf}
 use Rattle.mesh_names.proofs.Sets.{tied-same, same-tied}
 use Rattle.mesh_names.specs.declared.rows.MarkRow.{MarkRow}
 use Rattle.mesh_names.specs.declared.rows.Place.{Place}
@@ -53,17 +53,17 @@ all_taken P (x ∷ xs) (suc i) f t zero d l = t zero d (omega arith)
 all_taken P (x ∷ xs) (suc i) f t (suc k) d l = all_taken P xs i (omega (arith, f)) (λ j e m. t (suc j) e (omega (arith, m))) k d (omega (arith, l))
 
 -- ---- the leaf that a row names
-named_only : (p : Place) (name n : Name) → named p ≡ Some name → takes_mark p ≡ true → names_leaf p n ≡ true → n ≡ name
+named_only : (p : Place) (name n : Name) → named p ≡ Some name → NamesElement p → names_leaf p n ≡ true → n ≡ name
 named_only EveryLeaf name n e t h = absurd (cc)
 named_only (Elem m) name n e t h = let same : m ≡ name = cc in sym (tied-same m n h) ∙ same
-named_only (Corner m k) name n e t h = absurd (cc)
+named_only (Corner m k) name n e t h = absurd t
 
-names_itself : (p : Place) (name : Name) → named p ≡ Some name → takes_mark p ≡ true → names_leaf p name ≡ true
+names_itself : (p : Place) (name : Name) → named p ≡ Some name → NamesElement p → names_leaf p name ≡ true
 names_itself EveryLeaf name e t = absurd (cc)
 names_itself (Elem m) name e t = let same : m ≡ name = cc in same-tied m name same
-names_itself (Corner m k) name e t = absurd (cc)
+names_itself (Corner m k) name e t = absurd t
 
-pub deepest_named : (mesh : Shape) (old : Names) (row : MarkRow) (name : Name) → named row.place ≡ Some name → takes_mark row.place ≡ true → (o : Option ℕ) → IfSome o (λ g. IsLeaf mesh old name × (g ≡ level mesh name)) → IfSome o (IsDeepest mesh old row)
+pub deepest_named : (mesh : Shape) (old : Names) (row : MarkRow) (name : Name) → named row.place ≡ Some name → NamesElement row.place → (o : Option ℕ) → IfSome o (λ g. IsLeaf mesh old name × (g ≡ level mesh name)) → IfSome o (IsDeepest mesh old row)
 deepest_named mesh old row name e t None h = tt
 deepest_named mesh old row name e t (Some g) h = record {
   leaf = name;

@@ -1,9 +1,10 @@
 -- A plain forest, as contracts see it.
-use Rattle.std.specs.Prelude.{ℕ}
+use Rattle.std.specs.Prelude.{ℕ, false, None}
 use Rattle.mesh_names.specs.Forests.{Names}
 use Rattle.mesh_names.specs.Triangles.{Shape}
 use Rattle.mesh_names.specs.Partners.{Across}
 use Rattle.compat_check.specs.Meshes.{shape_of, across_in}
+use Rattle.forest_plain.specs.AnyForest.{Seen}
 use Rattle.forest_plain.specs.declared.forest.PlainForest.{PlainForest}
 
 -- the bisected elements
@@ -21,3 +22,7 @@ mesh_of forest = shape_of forest.mesh.now
 -- what lies across its edges
 abbrev pub sides_of : PlainForest → Across
 sides_of forest = across_in forest.mesh.now
+
+-- the same, as of any forest: its rounds are not limited, and none is open between calls
+abbrev pub seen_of : PlainForest → Seen
+seen_of forest = record { members = members_of forest; pool = pool_of forest; left = None; made_for = 0; is_open = false; mesh = mesh_of forest; sides = sides_of forest }

@@ -8,3 +8,5 @@ pub mod LeafMarks
 pub mod Coarsening
 pub mod Tried
 pub mod Refined
+pub mod AnyForest
+pub mod Runs

@@ -16,13 +16,13 @@ use Rattle.mesh_names.specs.declared.rows.Place.TheVariants.{EveryLeaf, Elem, Co
 use Rattle.mesh_names.specs.Coarsening.{IsCoarsened, marked_by}
 use Rattle.forest_plain.specs.Deltas.{AreBorn, AreDied}
 use Rattle.forest_plain.specs.declared.refusal.RoundRefusal.{RoundRefusal}
-use Rattle.forest_plain.specs.declared.refusal.RoundRefusal.TheVariants.{NotALeaf, LevelTooDeep, PoolFull, Memory}
+use Rattle.forest_plain.specs.declared.refusal.RoundRefusal.TheVariants.{RoundsUsedUp, NotALeaf, LevelTooDeep, PoolFull, Memory}
 
 -- the set has the names of the list that are no members
 abbrev pub IsUnsplit : List Name → Names → Names → Type 0
 IsUnsplit list members names = names ≡ difference (from_list list) members
 
--- the element that a row names, where it names one
+-- the element that a row names, or a corner of it
 abbrev pub named : Place → Option Name
 named EveryLeaf = None
 named (Elem n) = Some n
@@ -70,6 +70,7 @@ pub record IsFine (mesh : Shape) (old : Names) (row : MarkRow) : Type 0 where
 
 -- what one row is refused for: its element is no leaf, or else it goes too deep
 abbrev pub IsRowFault : Shape → Names → MarkRow → RoundRefusal → Type 0
+IsRowFault mesh old row (RoundsUsedUp rounds) = ⊥
 IsRowFault mesh old row (NotALeaf r) = (r ≡ row.row) × (NamesLeaf mesh old row → ⊥)
 IsRowFault mesh old row (LevelTooDeep r deep) = (r ≡ row.row) × NamesLeaf mesh old row × IsTooDeep mesh old row deep
 IsRowFault mesh old row (PoolFull needed kept pool) = ⊥
@@ -86,6 +87,7 @@ pub record IsFirstFault (mesh : Shape) (old : Names) (rows : List MarkRow) (refu
 
 -- the first row that cannot be done has this refusal, or memory was wanting
 abbrev pub IsRowsRefusal : Shape → Names → List MarkRow → RoundRefusal → Type 0
+IsRowsRefusal mesh old rows (RoundsUsedUp rounds) = ⊥
 IsRowsRefusal mesh old rows (NotALeaf row) = IsFirstFault mesh old rows (NotALeaf row)
 IsRowsRefusal mesh old rows (LevelTooDeep row deep) = IsFirstFault mesh old rows (LevelTooDeep row deep)
 IsRowsRefusal mesh old rows (PoolFull needed kept pool) = ⊥
@@ -105,16 +107,25 @@ pub record Stands (mesh : Shape) (across : Across) (pool : ℕ) (members : Names
   pub some : 1 ≤ pool
   pub most : pool ≤ 1048576
 
+-- how many patches a forest may hold, and how many it keeps back of these
+pub record Room : Type 0 where
+  pub pool : ℕ
+  pub kept : ℕ
+
+-- a refined forest of so many patches needs as much of the pool
+abbrev pub needs_room : Room → ℕ → ℕ
+needs_room room patches = patches + room.kept
+
 -- a round that was done: the rows refine the old forest, within the pool, and the refined forest is coarsened to the new one
-pub record IsRound (mesh : Shape) (across : Across) (room : ℕ) (old : Names) (rows : List MarkRow) (new : Names) : Type 0 where
+pub record IsRound (mesh : Shape) (across : Across) (room : Room) (old : Names) (rows : List MarkRow) (new : Names) : Type 0 where
   pub fine : All (IsFine mesh old) rows
   pub refined : Names
   pub is_refined : IsRefined mesh old rows refined
-  pub fits : patch_count across refined ≤ room
+  pub fits : needs_room room (patch_count across refined) ≤ room.pool
   pub coarsened : IsCoarsened across (marked_by mesh old rows refined) new
 
 -- a round that was done, and what it changed: the patches that it bisected, and those that it took away
-pub record IsRoundBy (mesh : Shape) (across : Across) (room : ℕ) (old : Names) (rows : List MarkRow) (new : Names) (delta : RoundDelta) : Type 0 where
+pub record IsRoundBy (mesh : Shape) (across : Across) (room : Room) (old : Names) (rows : List MarkRow) (new : Names) (delta : RoundDelta) : Type 0 where
   pub round : IsRound mesh across room old rows new
   pub born : AreBorn mesh across old round.refined delta.born.items
   pub died : AreDied mesh across round.refined new delta.died.items
@@ -126,10 +137,11 @@ pub record NeedsPatches (mesh : Shape) (across : Across) (old : Names) (rows : L
   pub is_refined : IsRefined mesh old rows refined
   pub count : patches ≡ patch_count across refined
 
--- when each refusal comes: the rows in order, and then the pool; want of memory may come at any place
-abbrev pub IsRoundRefusal : Shape → Across → ℕ → Names → List MarkRow → RoundRefusal → Type 0
+-- when each refusal comes, where a round is left: the rows in order, and then the pool; want of memory may come at any place
+abbrev pub IsRoundRefusal : Shape → Across → Room → Names → List MarkRow → RoundRefusal → Type 0
+IsRoundRefusal mesh across room old rows (RoundsUsedUp rounds) = ⊥
 IsRoundRefusal mesh across room old rows (NotALeaf row) = IsFirstFault mesh old rows (NotALeaf row)
 IsRoundRefusal mesh across room old rows (LevelTooDeep row deep) = IsFirstFault mesh old rows (LevelTooDeep row deep)
 IsRoundRefusal mesh across room old rows (PoolFull needed kept pool) =
-    (patches : ℕ) × NeedsPatches mesh across old rows patches × (room < patches) × (needed ≡ min patches 4294967295) × (kept ≡ 0) × (pool ≡ room)
+    (patches : ℕ) × NeedsPatches mesh across old rows patches × (room.pool < needs_room room patches) × (needed ≡ min patches 4294967295) × (kept ≡ room.kept) × (pool ≡ room.pool)
 IsRoundRefusal mesh across room old rows Memory = Unit {0}

@@ -1,17 +1,17 @@
 //! The plain forest.
-ghost use Rattle.std.specs.Prelude.{◌≡◌, ◌<◌, ◌≤◌, ◌↔◌, All, IfErr, IfOk, IsTrue, OnErr, OnOk};
+ghost use Rattle.std.specs.Prelude.{◌≡◌, ◌≤◌, All, IfErr, IfOk, OnOk};
 ghost use Rattle.std.specs.FinSet.{empty};
-ghost use Rattle.mesh_names.specs.Forests.{IsInMesh, IsLeaf, IsListOf};
+ghost use Rattle.mesh_names.specs.Forests.{IsListOf};
 ghost use Rattle.mesh_names.specs.Leaves.{leaves};
 ghost use Rattle.mesh_names.specs.Marks.{IsWellFormed};
-ghost use Rattle.mesh_names.specs.Patches.{patch_count};
 ghost use Rattle.compat_check.specs.Meshes.{across_in, shape_of};
 ghost use Rattle.mesh_names.specs.Coarsening.{IsCoarsened, MarkedForest};
 ghost use Rattle.forest_plain.specs.LeafMarks.{marked_so};
 ghost use Rattle.forest_plain.specs.Coarsening.{IsReached, IsUnderway};
 ghost use Rattle.forest_plain.specs.Refined.{IsReady};
-ghost use Rattle.forest_plain.specs.Rounds.{IsFine, IsFirstFault, IsRoundBy, IsRoundRefusal, IsRowsRefusal, Stands};
+ghost use Rattle.forest_plain.specs.Rounds.{IsFine, IsFirstFault, IsRowsRefusal, Stands};
 
+use crate::any_forest::Forest;
 use crate::closing::close;
 use crate::coarsening::coarsen;
 use crate::delta::{born_patches, count_patches, died_patches};
@@ -56,62 +56,6 @@ impl<'m> PlainForest<'m> {
             pool,
             members: NameSet::new(alloc),
         }
-    }
-
-    /// Whether the name is a leaf; no name with a root out of range is one. Takes no memory.
-    pub fn is_leaf(&self, name: ElemName) -> bool
-        ensures { IsTrue result ↔ IsLeaf (mesh_of self.now) (members_of self.now) name }
-    {
-        is_leaf(self.mesh, &self.members, name)
-    }
-
-    /// The leaves in the order of names.
-    pub fn leaves(&self) -> Result<Vec<ElemName>, RoundRefusal>
-        ensures ok { IfOk result (λ v. IsListOf (leaves (mesh_of self.now) (members_of self.now)) v.items) }
-        ensures mesh { IfOk result (λ v. All (IsInMesh (mesh_of self.now)) v.items) }
-        ensures memory { IfErr result (λ r. r ≡ RoundRefusal.Memory) }
-    {
-        let _checked = self.mesh.element_count();
-        let found = leaf_list(self.alloc, self.mesh, &self.members)?;
-        Ok(found)
-    }
-
-    /// The number of patches. Takes no memory.
-    pub fn patches(&self) -> u32
-        ensures { result ≡ patch_count (sides_of self.now) (members_of self.now) }
-    {
-        count_patches(self.mesh, &self.members) as u32
-    }
-
-    /// Bisects each leaf with a mark above 0 as often as its mark says, and all that a conforming
-    /// forest needs with it (Mitchell): the refined forest is the least one. Then takes away each
-    /// patch whose members' children are all leaves with marks below 0, and goes on so, where a
-    /// member that becomes a leaf has the greater of its children's marks, plus one. A leaf's mark
-    /// is the number of the last row that names it or every leaf; a leaf that this round made has
-    /// none. After a refusal the forest is as it was.
-    pub fn round(&mut self, marks: &RoundMarks) -> Result<RoundDelta, RoundRefusal>
-        requires { All IsWellFormed marks.now.rows.items }
-        ensures ok { IfOk result (IsRoundBy (mesh_of self.old) (sides_of self.old) (pool_of self.old) (members_of self.old) marks.now.rows.items (members_of self.new)) }
-        ensures refused { IfErr result (IsRoundRefusal (mesh_of self.old) (sides_of self.old) (pool_of self.old) (members_of self.old) marks.now.rows.items) }
-        ensures unchanged { OnErr result (members_of self.new ≡ members_of self.old) }
-        ensures same { (mesh_of self.new ≡ mesh_of self.old) × (sides_of self.new ≡ sides_of self.old) × (pool_of self.new ≡ pool_of self.old) }
-    {
-        let _checked = self.mesh.element_count();
-        let refined = self.refined(&marks.rows)?;
-        let needed = count_patches(self.mesh, &refined.members);
-        if needed > self.pool as usize {
-            return Err(RoundRefusal::PoolFull {
-                needed: needed.min(4_294_967_295) as u32,
-                kept: 0,
-                pool: self.pool,
-            });
-        }
-        let names = refined.members.to_vec(self.alloc)?;
-        let born = born_patches(self.alloc, self.mesh, &self.members, &names)?;
-        let coarsened = self.coarsened(refined)?;
-        let died = died_patches(self.alloc, self.mesh, &coarsened, &names)?;
-        self.members = coarsened;
-        Ok(RoundDelta { born, died })
     }
 
     // The refined forest, where all rows can be done.
@@ -170,5 +114,46 @@ impl<'m> PlainForest<'m> {
             members,
             marks: leaf_marks,
         })
+    }
+}
+
+impl Forest for PlainForest<'_> {
+    ghost use Rattle.forest_plain.specs.Forests.{seen_of};
+
+    ghost seen = { seen_of };
+
+    ghost kept = { λ _. 0 };
+
+    fn round(&mut self, marks: &RoundMarks) -> Result<RoundDelta, RoundRefusal> {
+        let _checked = self.mesh.element_count();
+        let refined = self.refined(&marks.rows)?;
+        let needed = count_patches(self.mesh, &refined.members);
+        if needed > self.pool as usize {
+            return Err(RoundRefusal::PoolFull {
+                needed: needed.min(4_294_967_295) as u32,
+                kept: 0,
+                pool: self.pool,
+            });
+        }
+        let names = refined.members.to_vec(self.alloc)?;
+        let born = born_patches(self.alloc, self.mesh, &self.members, &names)?;
+        let coarsened = self.coarsened(refined)?;
+        let died = died_patches(self.alloc, self.mesh, &coarsened, &names)?;
+        self.members = coarsened;
+        Ok(RoundDelta { born, died })
+    }
+
+    fn is_leaf(&mut self, name: ElemName) -> bool {
+        is_leaf(self.mesh, &self.members, name)
+    }
+
+    fn leaves(&mut self) -> Result<Vec<ElemName>, RoundRefusal> {
+        let _checked = self.mesh.element_count();
+        let found = leaf_list(self.alloc, self.mesh, &self.members)?;
+        Ok(found)
+    }
+
+    fn patches(&self) -> u32 {
+        count_patches(self.mesh, &self.members) as u32
     }
 }

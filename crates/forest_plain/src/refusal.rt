@@ -6,7 +6,9 @@ use std::alloc::AllocError;
 /// Why a round left the forest as it was.
 #[derive(Clone, Copy, Debug, Drop)]
 pub enum RoundRefusal {
-    /// The row names an element that is no leaf.
+    /// The forest was made for `rounds` rounds, and none is left.
+    RoundsUsedUp { rounds: u32 },
+    /// The row names an element that is no leaf, or a corner of one.
     NotALeaf { row: u32 },
     /// The row asks for bisections down to this level, above 24.
     LevelTooDeep { row: u32, level: u32 },
@@ -25,4 +27,13 @@ impl From<AllocError> for RoundRefusal {
     fn from(_error: AllocError) -> RoundRefusal {
         RoundRefusal::Memory
     }
+}
+
+/// Why a run of rounds ended early.
+#[derive(Clone, Copy, Debug, Drop)]
+pub enum RunRefusal {
+    /// The round at this place of the list, counted from 0, is the first that was refused.
+    AtRound { index: u32, refusal: RoundRefusal },
+    /// Want of memory before the first round.
+    Memory,
 }

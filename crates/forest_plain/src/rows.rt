@@ -1,8 +1,8 @@
 //! The rows of a round, tried in order.
-ghost use Rattle.std.specs.Prelude.{◌≡◌, ◌<◌, ◌≤◌, All, length, IfErr, IfNone, IfSome, OnOk};
+ghost use Rattle.std.specs.Prelude.{◌≡◌, ◌<◌, ◌≤◌, All, cond, length, IfErr, IfNone, IfSome, OnOk};
 ghost use Rattle.mesh_names.specs.Triangles.{level, size};
 ghost use Rattle.mesh_names.specs.Forests.{IsLeaf};
-ghost use Rattle.mesh_names.specs.Marks.{IsWellFormed, bisections};
+ghost use Rattle.mesh_names.specs.Marks.{IsWellFormed, NamesElement, bisections, is_mark};
 ghost use Rattle.compat_check.specs.Meshes.{shape_of};
 ghost use Rattle.forest_plain.specs.Rounds.{IsDeepest, IsDeepestLeaf, IsFine, IsFirstFault, IsGreatestIn, IsRowFault, NamesLeaf, named};
 
@@ -11,7 +11,7 @@ use crate::name_set::NameSet;
 use crate::refusal::RoundRefusal;
 use compat_check::mesh::MacroMesh;
 use mesh_names::name::ElemName;
-use mesh_names::rows::{MarkRow, Place};
+use mesh_names::rows::{MarkRow, Place, What};
 
 /// Tries each row, where `deepest` is the greatest level of all leaves.
 pub fn try_rows(
@@ -60,25 +60,25 @@ fn try_row(
     Ok(())
 }
 
-// How many bisections a row asks for.
+// How many bisections a row asks for: a value asks for none.
 fn times(row: &MarkRow) -> u32
     requires { IsWellFormed row.now }
-    ensures times { result ≡ bisections row.now.number }
+    ensures times { result ≡ cond (is_mark row.now.what) (bisections row.now.number) 0 }
     ensures small { result ≤ 24 }
 {
-    if row.number <= 0 {
+    if row.what != What::Mark || row.number <= 0 {
         return 0;
     }
     row.number as u32
 }
 
-// The greatest level of the leaves that a row names; `None` where its element is no leaf.
+// The greatest level of the leaves that a row names; `None` where its element is no leaf. Where it
+// names a corner, it is that of the corner's element.
 fn reached(mesh: &MacroMesh, members: &NameSet, deepest: u32, row: &MarkRow) -> Option<u32>
     requires deepest { IsDeepestLeaf (shape_of mesh.now) members.now deepest }
     requires small { deepest < 512 }
-    requires formed { IsWellFormed row.now }
     ensures named { IfSome result (λ _. NamesLeaf (shape_of mesh.now) members.now row.now) }
-    ensures deepest { IfSome result (IsDeepest (shape_of mesh.now) members.now row.now) }
+    ensures deepest { NamesElement row.now.place → IfSome result (IsDeepest (shape_of mesh.now) members.now row.now) }
     ensures small { IfSome result (λ g. g < 512) }
     ensures none { IfNone result (NamesLeaf (shape_of mesh.now) members.now row.now → ⊥) }
 {
