@@ -8,6 +8,7 @@ mod Links
 mod Meetings
 mod Areas
 mod Sorted3
+mod Stepping
 mod TwinKeys
 mod Lists
 mod Pairings

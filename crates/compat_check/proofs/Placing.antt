@@ -8,7 +8,7 @@ use Rattle.mesh_names.specs.Triangles.{Vertex, Corner, Mid, before, middle, midp
 use Rattle.compat_check.specs.Faults.{point_of}
 use Rattle.compat_check.specs.Meshes.{Mesh, shape_of}
 use Rattle.compat_check.specs.Points.{Point, half, between, point, points, labels}
-use Rattle.compat_check.specs.Within.{IsWithin, child_points, corner}
+use Rattle.compat_check.specs.Within.{IsWithin, child_points, corner, labels_by}
 use Rattle.compat_check.proofs.Halving.{between_within}
 
 plus_turned : (x y : ℤ) → x +ℤ y ≡ y +ℤ x
@@ -42,13 +42,6 @@ points_of_child mesh n parent b ps e named =
     computed : (c : Bool) → between (point mesh.vertices (triangle (shape_of mesh) parent).0) (point mesh.vertices (triangle (shape_of mesh) parent).1) ≡ point mesh.vertices (middle (triangle (shape_of mesh) parent).0 (triangle (shape_of mesh) parent).1) → child_points (points mesh parent) c ≡ points mesh (parent.0, c ∷ parent.1)
     computed false h = λ i. point mesh.vertices (triangle (shape_of mesh) parent).2 ∷ point mesh.vertices (triangle (shape_of mesh) parent).0 ∷ h i ∷ []
     computed true h = λ i. point mesh.vertices (triangle (shape_of mesh) parent).1 ∷ point mesh.vertices (triangle (shape_of mesh) parent).2 ∷ h i ∷ []
-
-abbrev label_at : List ℤ → ℕ → ℤ
-label_at ls k = slice_index_or ls k (pos 0)
-
-abbrev labels_by : List ℤ → Bool → List ℤ
-labels_by ls false = label_at ls 2 ∷ pos 0 ∷ label_at ls 1 ∷ []
-labels_by ls true = pos 0 ∷ label_at ls 2 ∷ label_at ls 0 ∷ []
 
 pub labels_of_child : (mesh : Mesh) (n parent : Name) (b : Bool) (ls : List ℤ) → ls ≡ labels mesh parent → n ≡ (parent.0, b ∷ parent.1) → labels_by ls b ≡ labels mesh n
 labels_of_child mesh n parent b ls e named = ap (λ (ks : List ℤ). labels_by ks b) e ∙ computed b ∙ ap (labels mesh) (sym named)

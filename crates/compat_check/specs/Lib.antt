@@ -15,3 +15,4 @@ pub mod Checks
 pub mod Passes
 pub mod Points
 pub mod Within
+pub mod Steps

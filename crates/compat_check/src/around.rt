@@ -16,18 +16,18 @@ use mesh_names::patch::{PatchName, VertexKey};
 
 /// The parent of a name on the walk, the side of it on which the name lies, and its partner.
 #[derive(Clone, Copy)]
-struct Above {
-    name: ElemName,
-    side: bool,
-    partner: Option<(ElemName, bool)>,
+pub(crate) struct Above {
+    pub(crate) name: ElemName,
+    pub(crate) side: bool,
+    pub(crate) partner: Option<(ElemName, bool)>,
 }
 
 /// A name on the walk, its partner, and its parent, which give the partners of its children.
 #[derive(Clone, Copy)]
 pub(crate) struct Around {
-    name: ElemName,
+    pub(crate) name: ElemName,
     pub(crate) partner: Option<(ElemName, bool)>,
-    above: Option<Above>,
+    pub(crate) above: Option<Above>,
 }
 
 // The name whose refinement edge is this edge of a macro element.
@@ -106,8 +106,8 @@ impl MacroMesh {
         half(above.partner, side)
     }
 
-    // The child of a name, with its partner.
-    fn around_child(&self, parent: &Around, side: bool) -> Around
+    /// The child of a name, with its partner.
+    pub(crate) fn around_child(&self, parent: &Around, side: bool) -> Around
         requires root { parent.now.name.0 < size (shape_of self.now) }
         requires level { level (shape_of self.now) parent.now.name < 24 }
         requires parent { IsAround self.now parent.now }
@@ -171,8 +171,8 @@ impl MacroMesh {
         patch_with(name, self.around(name).partner)
     }
 
-    // The key of the midpoint of a name's refinement edge.
-    fn midpoint_key(&self, around: &Around) -> VertexKey
+    /// The key of the midpoint of a name's refinement edge.
+    pub(crate) fn midpoint_key(&self, around: &Around) -> VertexKey
         requires root { around.now.name.0 < size (shape_of self.now) }
         requires around { IsAround self.now around.now }
         ensures stands { vertex_of (shape_of self.now) result ≡ midpoint (triangle (shape_of self.now) around.now.name) }

@@ -15,6 +15,7 @@ pub mod mesh;
 mod parts;
 mod points;
 pub mod refusal;
+pub mod steps;
 #[cfg(test)]
 mod tests;
 mod triples;

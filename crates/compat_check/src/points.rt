@@ -5,7 +5,7 @@ ghost use Rattle.mesh_names.specs.Triangles.{size};
 ghost use Rattle.compat_check.specs.Faults.{point_at};
 ghost use Rattle.compat_check.specs.Meshes.{shape_of};
 ghost use Rattle.compat_check.specs.Points.{IsVertexOf, between, labels, point, points};
-ghost use Rattle.compat_check.specs.Within.{IsWithin, child_points, corner};
+ghost use Rattle.compat_check.specs.Within.{IsWithin, child_points, corner, labels_by};
 
 use crate::mesh::MacroMesh;
 use mesh_names::name::ElemName;
@@ -21,7 +21,7 @@ fn between(first: (i64, i64), second: (i64, i64)) -> (i64, i64)
 }
 
 // Where the corners of a child lie.
-fn child_points(corners: [(i64, i64); 3], side: bool) -> [(i64, i64); 3]
+pub(crate) fn child_points(corners: [(i64, i64); 3], side: bool) -> [(i64, i64); 3]
     requires first { IsWithin (corner corners 0) }
     requires second { IsWithin (corner corners 1) }
     ensures { result ≡ child_points corners side }
@@ -36,13 +36,25 @@ fn child_points(corners: [(i64, i64); 3], side: bool) -> [(i64, i64); 3]
 }
 
 // Where the middle of the refinement edge lies.
-fn middle_point(corners: [(i64, i64); 3]) -> (i64, i64)
+pub(crate) fn middle_point(corners: [(i64, i64); 3]) -> (i64, i64)
     requires first { IsWithin (corner corners 0) }
     requires second { IsWithin (corner corners 1) }
     ensures { result ≡ between (corner corners 0) (corner corners 1) }
 {
     let [first, second, _] = corners;
     between(first, second)
+}
+
+// The labels of a child.
+pub(crate) fn child_labels(labels: [i8; 3], side: bool) -> [i8; 3]
+    ensures { result ≡ labels_by labels side }
+{
+    let [first, second, third] = labels;
+    if side {
+        [0, third, first]
+    } else {
+        [third, 0, second]
+    }
 }
 
 impl MacroMesh {
@@ -107,11 +119,6 @@ impl MacroMesh {
                 self.label(root, 2),
             ];
         };
-        let [first, second, third] = self.labels(parent);
-        if side {
-            [0, third, first]
-        } else {
-            [third, 0, second]
-        }
+        child_labels(self.labels(parent), side)
     }
 }

@@ -64,7 +64,7 @@ no_corner i a b e = true≢false (ap is_corner e ∙ either (before b a)) where
   either false = refl
 
 -- a vertex has one key
-key-one : (mesh : Mesh) → Laws mesh → (v : Vertex) (j k : VertexKey) → IsKeyOf mesh j v → IsKeyOf mesh k v → j ≡ k
+pub key-one : (mesh : Mesh) → Laws mesh → (v : Vertex) (j k : VertexKey) → IsKeyOf mesh j v → IsKeyOf mesh k v → j ≡ k
 key-one mesh laws v (Macro i) (Macro j) a b = ap (λ (w : Vertex). Macro (corner_number w)) (a.is ∙ sym b.is)
 key-one mesh laws v (Macro i) (Patch m) a b = absurd (no_corner i (triangle (shape_of mesh) m).0 (triangle (shape_of mesh) m).1 (a.is ∙ sym b.is))
 key-one mesh laws v (Patch n) (Macro j) a b = absurd (no_corner j (triangle (shape_of mesh) n).0 (triangle (shape_of mesh) n).1 (b.is ∙ sym a.is))
