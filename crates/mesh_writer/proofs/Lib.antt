@@ -1,13 +1,18 @@
 mod OneKey
 mod Places
 mod MacroPlaces
-mod CornerKeys
 mod Adding
 mod Leaves
 mod Lines
-mod Numbered
 mod FirstOthers
 mod Apart
 mod AcrossLeaves
 mod Gathered
 mod WholeText
+mod WrittenValues
+mod MacroValues
+pub mod OwnerLists
+pub mod Walking
+pub mod SlotOrders
+pub mod Moved
+pub mod EdgeLinks

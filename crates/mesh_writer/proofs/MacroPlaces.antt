@@ -1,23 +1,24 @@
 -- Places among the macro vertices.
-use Rattle.std.proofs.Common.{◌≡◌, ℕ, zero, suc, ◌<◌, ◌≤◌, cond, eqb, refl, sym, ap, subst, ◌∙◌, List, [], ◌∷◌, ◌++◌, length, map, arith, eq-eqb, ne_eqb}
+use Rattle.std.proofs.Common.{◌≡◌, ℕ, zero, suc, ◌<◌, ◌≤◌, cond, eqb, refl, sym, ap, subst, ◌∙◌, List, [], ◌∷◌, ◌++◌, length, map, get_or, arith, eq-eqb, ne_eqb, ⊎_elim}
+use Rattle.std.proofs.lemmas.Bool.{cases_lt}
 use Rattle.std.proofs.lemmas.List.{map-append, length-append}
 use Rattle.std.specs.Prelude.{Option, Some, None}
 use Rattle.std.specs.Prelude.{All}
 use Rattle.std.proofs.lemmas.List.Elements.{All-nil, All-cons, All-append}
 use native.Mathlib.Decide.{dec_lt}
-use Rattle.std.specs.Map.{lookup}
-use Rattle.std.specs.Ordering.{eq_by_cmp}
-use Rattle.mesh_names.specs.Names.{Name, name_cmp}
+use Rattle.mesh_names.specs.Names.{Name}
 use Rattle.mesh_names.specs.Triangles.{Shape, Vertex, Corner, middle, triangle, midpoint}
 use Rattle.mesh_names.specs.Patches.{vertex_of}
 use Rattle.mesh_names.specs.declared.patch.VertexKey.{VertexKey}
 use Rattle.mesh_names.specs.declared.patch.VertexKey.TheVariants.{Macro, Patch}
 use Rattle.compat_check.specs.Meshes.{Mesh, shape_of}
-use Rattle.mesh_writer.specs.declared.numbering.Numbers.{Numbers}
+use Rattle.mesh_writer.specs.declared.slots.Slots.{Slots}
 use Rattle.mesh_writer.specs.Numbering.{macro_vertices}
-use Rattle.mesh_writer.specs.Numbers.{AreNumbers, IsKeyOf, macro_keys, place_of, told, written_in}
+use Rattle.mesh_writer.specs.Numbers.{IsKeyOf, macro_keys, place_of}
+use Rattle.mesh_writer.specs.Owners.{AreRising, first_of, told_by}
+use Rattle.mesh_writer.specs.Slots.{AreSlots, point_of_key, told}
 use Rattle.mesh_writer.proofs.OneKey.{middle-corner}
-use Rattle.mesh_writer.proofs.Places.{first_of, place-push}
+use Rattle.mesh_writer.proofs.Places.{place-push}
 
 pub macro_stand : (mesh : Shape) (count : ℕ) → map (vertex_of mesh) (macro_keys count) ≡ macro_vertices count
 macro_stand mesh zero = refl
@@ -44,20 +45,53 @@ pub middle_none : (a b : Vertex) (count : ℕ) → place_of (middle a b) (macro_
 middle_none a b zero = refl
 middle_none a b (suc k) = place-push (middle a b) (macro_vertices k) (Corner k) ∙ (λ j. first_of (middle_none a b k j) (cond (middle-corner a b k j) (Some (length (macro_vertices k))) None))
 
+key_count : (count : ℕ) → length (macro_keys count) ≡ count
+key_count zero = refl
+key_count (suc k) = length-append (macro_keys k) (Macro k ∷ []) ∙ omega (arith, key_count k)
+
+get_or-append_left : (xs ys : List VertexKey) (i : ℕ) (d : VertexKey) → i < length xs → get_or (xs ++ ys) i d ≡ get_or xs i d
+get_or-append_left [] ys i d low = absurd (omega (arith, low))
+get_or-append_left (x ∷ xs) ys zero d low = refl
+get_or-append_left (x ∷ xs) ys (suc i) d low = get_or-append_left xs ys i d (omega (arith, low))
+
+get_or-append_right_at : (xs : List VertexKey) (y : VertexKey) (i : ℕ) (d : VertexKey) → i ≡ length xs → get_or (xs ++ y ∷ []) i d ≡ y
+get_or-append_right_at [] y i d e = ap (λ (k : ℕ). get_or (y ∷ []) k d) e
+get_or-append_right_at (x ∷ xs) y zero d e = absurd (omega (arith, e))
+get_or-append_right_at (x ∷ xs) y (suc i) d e = get_or-append_right_at xs y i d (omega (arith, e))
+
 macro_keys_are : (mesh : Mesh) (count : ℕ) → count ≤ length mesh.vertices → All (IsKeyOf mesh) (macro_keys count)
 macro_keys_are mesh zero h = All-nil (IsKeyOf mesh)
 macro_keys_are mesh (suc k) h = let low : k < length mesh.vertices = omega arith in
     All-append (IsKeyOf mesh) (macro_keys k) (Macro k ∷ []) (macro_keys_are mesh k (omega arith)) (All-cons (IsKeyOf mesh) (Macro k) [] low (All-nil (IsKeyOf mesh)))
 
--- the numbers of the macro vertices
-pub macro_numbers : (mesh : Mesh) (numbers : Numbers) → numbers.keys.items ≡ macro_keys (length mesh.vertices) → numbers.by_owner.entries ≡ [] → AreNumbers mesh numbers × (written_in (shape_of mesh) numbers ≡ macro_vertices (length mesh.vertices))
-macro_numbers mesh numbers keys empty = (record { keys = subst (All (IsKeyOf mesh)) (sym keys) (macro_keys_are mesh (length mesh.vertices) (omega arith)); tell = tell }, written)
+macro_key_at : (s count : ℕ) (d : VertexKey) → s < count → get_or (macro_keys count) s d ≡ Macro s
+macro_key_at s zero d low = absurd (omega (arith, low))
+macro_key_at s (suc k) d low = ⊎_elim
+    (λ (under : s < k). get_or-append_left (macro_keys k) (Macro k ∷ []) s d (omega (arith, under, key_count k)) ∙ macro_key_at s k d under)
+    (λ (over : k ≤ s). let last : s ≡ k = omega (arith, over, low) in get_or-append_right_at (macro_keys k) (Macro k) s d (last ∙ sym (key_count k)) ∙ ap Macro (sym last))
+    (cases_lt s k)
+
+-- the slots of the macro vertices
+pub macro_slots : (mesh : Mesh) (slots : Slots) → slots.keys.items ≡ macro_keys (length mesh.vertices) → slots.points.items ≡ map (point_of_key mesh) (macro_keys (length mesh.vertices)) → AreRising slots.owners → ((n : Name) → told_by slots.owners n ≡ None) → AreSlots mesh slots
+macro_slots mesh slots keys points rising empty = record {
+  keys = subst (All (IsKeyOf mesh)) (sym keys) (macro_keys_are mesh (length mesh.vertices) (omega arith));
+  tell = tell;
+  own = own;
+  rising = rising;
+  points = points ∙ ap (map (point_of_key mesh)) (sym keys);
+}
   where
-    written : written_in (shape_of mesh) numbers ≡ macro_vertices (length mesh.vertices)
+    written : map (vertex_of (shape_of mesh)) slots.keys.items ≡ macro_vertices (length mesh.vertices)
     written = ap (map (vertex_of (shape_of mesh))) keys ∙ macro_stand (shape_of mesh) (length mesh.vertices)
 
-    tell : (key : VertexKey) → IsKeyOf mesh key → told numbers key ≡ place_of (vertex_of (shape_of mesh) key) (written_in (shape_of mesh) numbers)
+    tell : (key : VertexKey) → IsKeyOf mesh key → told slots key ≡ place_of (vertex_of (shape_of mesh) key) (map (vertex_of (shape_of mesh)) slots.keys.items)
     tell (Macro i) low = sym (macro_place i (length mesh.vertices) low) ∙ ap (place_of (Corner i)) (sym written)
     tell (Patch n) owner =
         let t = triangle (shape_of mesh) n in
-        ap (λ (es : List (Name × ℕ)). lookup (λ k. eq_by_cmp name_cmp n k) es) empty ∙ sym (middle_none t.0 t.1 (length mesh.vertices)) ∙ ap (place_of (midpoint t)) (sym written)
+        empty n ∙ sym (middle_none t.0 t.1 (length mesh.vertices)) ∙ ap (place_of (midpoint t)) (sym written)
+
+    own : (s : ℕ) → s < length slots.keys.items → place_of (vertex_of (shape_of mesh) (get_or slots.keys.items s (Macro 0))) (map (vertex_of (shape_of mesh)) slots.keys.items) ≡ Some s
+    own s inside =
+        let low : s < length mesh.vertices = omega (arith, inside, ap length keys, key_count (length mesh.vertices)) in
+        (λ i. place_of (vertex_of (shape_of mesh) (get_or (keys i) s (Macro 0))) (written i)) ∙ ap (λ (key : VertexKey). place_of (vertex_of (shape_of mesh) key) (macro_vertices (length mesh.vertices))) (macro_key_at s (length mesh.vertices) (Macro 0) low)
+        ∙ macro_place s (length mesh.vertices) low

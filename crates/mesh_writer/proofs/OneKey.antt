@@ -39,7 +39,7 @@ one_owner mesh x pairs tells n m t low e first second =
     let back = (pairs mesh x tells n m t low e).back in
     not_both (name_cmp n m) (sym (ap (is_first n) e) ∙ first) (ap is_lt (sym (name_cmp_total.antisymm m n)) ∙ sym (ap (is_first m) back.1) ∙ second)
 
-owners_are_one : (mesh : Shape) (x : Across) → PartnerIsOnly → PartnersPair → Tells mesh x → (n m : Name) → n.0 < size mesh → m.0 < size mesh → owns x n ≡ true → owns x m ≡ true → midpoint (triangle mesh n) ≡ midpoint (triangle mesh m) → n ≡ m
+pub owners_are_one : (mesh : Shape) (x : Across) → PartnerIsOnly → PartnersPair → Tells mesh x → (n m : Name) → n.0 < size mesh → m.0 < size mesh → owns x n ≡ true → owns x m ≡ true → midpoint (triangle mesh n) ≡ midpoint (triangle mesh m) → n ≡ m
 owners_are_one mesh x only pairs tells n m low low' first second e =
     ⊎_elim (λ (s : (n.0 ≡ m.0) × (n.1 ≡ m.1)). λ i. (s.0 i, s.1 i))
     (λ (s : (t : Bool) × (partner x n.0 n.1 ≡ Some (m, t))). absurd (one_owner mesh x pairs tells n m s.0 low s.1 first second))

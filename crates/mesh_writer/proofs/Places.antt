@@ -5,11 +5,7 @@ use Rattle.std.specs.Option.{is_some, option_map}
 use Rattle.mesh_names.specs.Triangles.{Vertex, same}
 use Rattle.mesh_writer.specs.Numbering.{is_among, number_of}
 use Rattle.mesh_writer.specs.Numbers.{place_of}
-
--- the first of two answers that is there
-abbrev pub first_of : Option ℕ → Option ℕ → Option ℕ
-first_of (Some k) o = Some k
-first_of None o = o
+use Rattle.mesh_writer.specs.Owners.{first_of}
 
 abbrev next : ℕ → ℕ
 next k = k + 1

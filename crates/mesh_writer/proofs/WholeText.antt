@@ -1,35 +1,26 @@
 -- The whole text, piece by piece.
-use Rattle.std.proofs.Common.{◌≡◌, ℕ, ◌<◌, ℤ, pos, List, [], ◌∷◌, ◌++◌, map, length, refl, sym, ap, ◌∙◌, subst, arith}
-use Rattle.std.specs.Prelude.{All, Option, codes, slice_index_or}
+use Rattle.std.proofs.Common.{◌≡◌, ℕ, suc, ◌<◌, ℤ, pos, true, List, [], ◌∷◌, ◌++◌, map, length, refl, sym, ap, ◌∙◌, subst, arith}
+use Rattle.std.specs.Prelude.{All, Option, codes, slice_index_or, zip}
+use Rattle.std.specs.Fmt.{signed_decimal}
 use Rattle.std.specs.List.Sorted.{IsStrictlySortedBy}
 use Rattle.std.proofs.lemmas.List.{ext_get_or, get_or-map, length-map}
 use Rattle.mesh_names.specs.Names.{Name, name_cmp}
 use Rattle.mesh_names.specs.Triangles.{Shape, Vertex}
 use Rattle.mesh_names.specs.Partners.{Edge0, Edge1, Edge2}
 use Rattle.mesh_names.specs.Forests.{IsInMesh}
-use Rattle.mesh_names.specs.Patches.{vertex_of}
 use Rattle.mesh_names.specs.Validity.{IsValid}
-use Rattle.mesh_names.specs.declared.patch.VertexKey.{VertexKey}
-use Rattle.mesh_names.specs.declared.patch.VertexKey.TheVariants.{Macro, Patch}
 use Rattle.compat_check.specs.Meshes.{Mesh, shape_of}
-use Rattle.compat_check.specs.Points.{IsVertexOf, Point, labels, point}
-use Rattle.macro_file.specs.Written.{head_lines, lines_text, list_lines, numbers_line}
-use Rattle.macro_file.proofs.WriterLemmas.{text_more}
-use Rattle.mesh_writer.specs.MeshText.{coordinates_line, mesh_lines, mesh_text}
+use Rattle.compat_check.specs.Points.{Point, labels, point}
+use Rattle.macro_file.specs.Meaning.{Element, Macro as MacroText, Vertex as MacroVertex}
+use Rattle.macro_file.specs.Written.{head_lines, lines_text, list_lines, macro_bytes, numbers_line, point_line}
+use Rattle.macro_file.proofs.WriterLemmas.{all_text}
+use Rattle.mesh_writer.specs.MeshText.{coordinates_line, macro_element, macro_vertex, written_mesh}
 use Rattle.mesh_writer.specs.Neighbours.{neighbours, number_or_none}
 use Rattle.mesh_writer.specs.Numbering.{vertices}
-use Rattle.mesh_writer.specs.Numbers.{IsKeyOf, IsWritten}
+use Rattle.mesh_writer.specs.Numbers.{IsWritten}
 use Rattle.mesh_writer.specs.Others.{AreAcross, AreOthers, row_by}
 use Rattle.mesh_writer.specs.Triples.{numbers}
 use Rattle.mesh_writer.proofs.AcrossLeaves.{across_told}
-
-key_of_vertex : (mesh : Mesh) (key : VertexKey) → IsKeyOf mesh key → IsVertexOf mesh key
-key_of_vertex mesh (Macro i) h = h
-key_of_vertex mesh (Patch n) h = h.1
-
--- keys of the mesh are keys of vertices
-pub keys_of_vertices : (mesh : Mesh) (keys : List VertexKey) → All (IsKeyOf mesh) keys → All (IsVertexOf mesh) keys
-keys_of_vertices mesh keys all = λ k d inside. key_of_vertex mesh (slice_index_or keys k d) (all k d inside)
 
 row_is : (mesh : Shape) → IsValid mesh → (written : List Vertex) (leaves : List Name) → IsStrictlySortedBy name_cmp leaves → All (IsInMesh mesh) leaves → All (IsWritten mesh written) leaves → (others : List (Option ℕ)) → AreOthers (map (numbers mesh written) leaves) others → (i : ℕ) (d : Name) → i < length leaves → row_by others i ≡ neighbours mesh leaves (slice_index_or leaves i d)
 row_is mesh valid written leaves sorted rooted all others known i d inside =
@@ -46,13 +37,43 @@ rows_are mesh valid written leaves sorted rooted all triples is rows across =
     let low : i < length leaves = omega (arith, inside, across.told.each, many) in
     across.told.row i (omega (arith, low, many)) ∙ row_is mesh valid written leaves sorted rooted all across.others known i d low ∙ sym (get_or-map (neighbours mesh leaves) leaves i d [] low))
 
--- where the vertices lie, by their keys
-pub points_are : (mesh : Mesh) (keys : List VertexKey) → map (λ (key : VertexKey). point mesh.vertices (vertex_of (shape_of mesh) key)) keys ≡ map (point mesh.vertices) (map (vertex_of (shape_of mesh)) keys)
-points_are mesh [] = refl
-points_are mesh (k ∷ ks) = ap (λ (ps : List Point). point mesh.vertices (vertex_of (shape_of mesh) k) ∷ ps) (points_are mesh ks)
+-- lines of items with their values, where the line tells the item or the value alone
+module _ {A X : Type 0} (made : A × ℤ → X) where
+  pub made_many : (xs : List A) (vs : List ℤ) → length xs ≡ length vs → length (map made (zip xs vs)) ≡ length xs
+  made_many [] vs e = refl
+  made_many (x ∷ xs) [] e = absurd (omega arith)
+  made_many (x ∷ xs) (v ∷ vs) e = ap suc (made_many xs vs (omega arith))
 
-pub whole_text : (mesh : Mesh) (leaves : List Name) (written : List Vertex) (k : ℕ) (points : List Point) (corners sides across : List (List ℤ)) (t0 t1 t2 t3 t4 t5 : List ℕ) →
-    written ≡ vertices (shape_of mesh) (length mesh.vertices) leaves → k ≡ length written →
+  pub item_lines : {Y : Type 0} (told : X → List ℕ) (line : Y → List ℕ) (item : A → Y) → ((x : A) (v : ℤ) → line (item x) ≡ told (made (x, v))) → (xs : List A) (vs : List ℤ) → length xs ≡ length vs → map line (map item xs) ≡ map told (map made (zip xs vs))
+  item_lines told line item is [] vs e = refl
+  item_lines told line item is (x ∷ xs) [] e = absurd (omega arith)
+  item_lines told line item is (x ∷ xs) (v ∷ vs) e = λ i. is x v i ∷ item_lines told line item is xs vs (omega arith) i
+
+  pub value_lines : (told : X → List ℕ) (line : ℤ → List ℕ) → ((x : A) (v : ℤ) → line v ≡ told (made (x, v))) → (xs : List A) (vs : List ℤ) → length xs ≡ length vs → map line vs ≡ map told (map made (zip xs vs))
+  value_lines told line is [] [] e = refl
+  value_lines told line is [] (v ∷ vs) e = absurd (omega arith)
+  value_lines told line is (x ∷ xs) [] e = absurd (omega arith)
+  value_lines told line is (x ∷ xs) (v ∷ vs) e = λ i. is x v i ∷ value_lines told line is xs vs (omega arith) i
+
+twice : {A B C : Type 0} (f : A → B) (g : B → C) (xs : List A) → map g (map f xs) ≡ map (λ x. g (f x)) xs
+twice f g [] = refl
+twice {A} {B} {C} f g (x ∷ xs) = ap (λ (ys : List C). g (f x) ∷ ys) (twice f g xs)
+
+-- the macro text with these written vertices
+abbrev formed : Mesh → List Vertex → List Name → List ℤ → List ℤ → MacroText
+formed mesh written leaves vs es = record {
+  vertices = map (macro_vertex mesh) (zip written vs);
+  elements = map (macro_element mesh written leaves) (zip leaves es);
+  labels_given = true;
+  neighbours_given = true;
+}
+
+-- a list with its key, and an empty line, by other lines
+same_list : (key : List ℕ) (now then : List ℕ) (some other : List (List ℕ)) → some ≡ other → then ≡ now ++ lines_text (key ∷ (some ++ [] ∷ [])) → then ≡ now ++ lines_text (key ∷ (other ++ [] ∷ []))
+same_list key now then some other e h = h ∙ ap (λ (ls : List (List ℕ)). now ++ lines_text (key ∷ (ls ++ [] ∷ []))) e
+
+pub whole_text : (mesh : Mesh) (leaves : List Name) (written : List Vertex) (vs es : List ℤ) (k : ℕ) (points : List Point) (corners sides across : List (List ℤ)) (t0 t1 t2 t3 t4 t5 t6 t7 : List ℕ) →
+    written ≡ vertices (shape_of mesh) (length mesh.vertices) leaves → length written ≡ length vs → length leaves ≡ length es → k ≡ length written →
     points ≡ map (point mesh.vertices) written →
     corners ≡ map (map pos) (map (numbers (shape_of mesh) written) leaves) →
     sides ≡ map (labels mesh) leaves →
@@ -61,22 +82,22 @@ pub whole_text : (mesh : Mesh) (leaves : List Name) (written : List Vertex) (k :
     t2 ≡ t1 ++ lines_text (list_lines (codes "vertex coordinates:") coordinates_line points) →
     t3 ≡ t2 ++ lines_text (list_lines (codes "element vertices:") numbers_line corners) →
     t4 ≡ t3 ++ lines_text (list_lines (codes "element boundaries:") numbers_line sides) →
-    t5 ≡ t4 ++ lines_text (codes "element neighbours:" ∷ map numbers_line across) → t5 ≡ mesh_text mesh leaves
-whole_text mesh leaves written k points corners sides across t0 t1 t2 t3 t4 t5 is many ep ec es ea e0 e1 e2 e3 e4 e5 =
-    let l1 = head_lines k (length leaves) in
-    let l2 = list_lines (codes "vertex coordinates:") coordinates_line points in
-    let l3 = list_lines (codes "element vertices:") numbers_line corners in
-    let l4 = list_lines (codes "element boundaries:") numbers_line sides in
-    let l5 = codes "element neighbours:" ∷ map numbers_line across in
-    let a1 = text_more [] l1 t0 t1 e0 e1 in
-    let a2 = text_more l1 l2 t1 t2 a1 e2 in
-    let a3 = text_more (l1 ++ l2) l3 t2 t3 a2 e3 in
-    let a4 = text_more (l1 ++ l2 ++ l3) l4 t3 t4 a3 e4 in
-    text_more (l1 ++ l2 ++ l3 ++ l4) l5 t4 t5 a4 e5
-    ∙ (λ i. lines_text (
-    head_lines (many i) (length leaves)
-    ++ list_lines (codes "vertex coordinates:") coordinates_line (ep i)
-    ++ list_lines (codes "element vertices:") numbers_line (ec i)
-    ++ list_lines (codes "element boundaries:") numbers_line (es i)
-    ++ codes "element neighbours:" ∷ map numbers_line (ea i)))
-    ∙ ap (λ (w : List Vertex). lines_text (mesh_lines mesh w leaves)) is
+    t5 ≡ t4 ++ lines_text (list_lines (codes "element neighbours:") numbers_line across) →
+    t6 ≡ t5 ++ lines_text (list_lines (codes "vertex values:") signed_decimal vs) →
+    t7 ≡ t6 ++ lines_text (codes "element values:" ∷ map signed_decimal es) → t7 ≡ macro_bytes (written_mesh mesh leaves vs es)
+whole_text mesh leaves written vs es k points corners sides across t0 t1 t2 t3 t4 t5 t6 t7 is each_vertex each_leaf many ep ec ea el e0 e1 e2 e3 e4 e5 e6 e7 =
+    let shape = shape_of mesh in
+    let v = macro_vertex mesh in
+    let n = macro_element mesh written leaves in
+    let m = formed mesh written leaves vs es in
+    let count = many ∙ sym (made_many v written vs each_vertex) in
+    let leaf_count = sym (made_many n leaves es each_leaf) in
+    all_text m t0 t1 t2 t3 t4 t5 t6 t7 e0
+    (e1 ∙ (λ i. t0 ++ lines_text (head_lines (count i) (leaf_count i))))
+    (same_list (codes "vertex coordinates:") t1 t2 _ _ (ap (map coordinates_line) ep ∙ item_lines v point_line coordinates_line (point mesh.vertices) (λ x z. refl) written vs each_vertex) e2)
+    (same_list (codes "element vertices:") t2 t3 _ _ (ap (map numbers_line) (ec ∙ twice (numbers shape written) (map pos) leaves) ∙ item_lines n (λ (e : Element). numbers_line (map pos e.corners)) numbers_line (λ (x : Name). map pos (numbers shape written x)) (λ x z. refl) leaves es each_leaf) e3)
+    (same_list (codes "element boundaries:") t3 t4 _ _ (ap (map numbers_line) ea ∙ item_lines n (λ (e : Element). numbers_line e.labels) numbers_line (labels mesh) (λ x z. refl) leaves es each_leaf) e4)
+    (same_list (codes "element neighbours:") t4 t5 _ _ (ap (map numbers_line) el ∙ item_lines n (λ (e : Element). numbers_line e.neighbours) numbers_line (neighbours shape leaves) (λ x z. refl) leaves es each_leaf) e5)
+    (same_list (codes "vertex values:") t5 t6 _ _ (value_lines v (λ (x : MacroVertex). signed_decimal x.value) signed_decimal (λ x z. refl) written vs each_vertex) e6)
+    (e7 ∙ ap (λ (ls : List (List ℕ)). t6 ++ lines_text (codes "element values:" ∷ ls)) (value_lines n (λ (e : Element). signed_decimal e.value) signed_decimal (λ x z. refl) leaves es each_leaf))
+    ∙ ap (λ (w : List Vertex). macro_bytes (formed mesh w leaves vs es)) is

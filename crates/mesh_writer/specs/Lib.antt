@@ -4,3 +4,8 @@ pub mod MeshText
 pub mod Neighbours
 pub mod Others
 pub mod Triples
+pub mod Owners
+pub mod Slots
+pub mod Walks
+pub mod Orders
+pub mod Links

@@ -1,33 +1,35 @@
 -- For each edge of a list of triples the first other place with the same edge.
-use Rattle.std.specs.Prelude.{◌≡◌, ℕ, ℤ, ◌+◌, ◌*◌, ◌/◌, ◌<◌, List, [], ◌∷◌, length, Option, Some, None, IsSome, option_map, slice_index_or}
+use Rattle.std.specs.Prelude.{◌≡◌, ℕ, ℤ, ◌+◌, ◌*◌, ◌/◌, ◌<◌, List, [], ◌∷◌, ◌++◌, length, Option, Some, None, option_map, slice_index_or, slice_set}
 use Rattle.mesh_names.specs.Triangles.{Triple}
 use Rattle.compat_check.specs.Places.{Meets}
 use Rattle.mesh_writer.specs.Neighbours.{number_or_none}
 
+-- the first of n places, other than i, with the edge of i
+abbrev pub IsFirstOtherBelow : List Triple → ℕ → ℕ → Option ℕ → Type 0
+IsFirstOtherBelow triples n i None = (j : ℕ) → j < n → (j ≡ i → ⊥) → Meets triples j i → ⊥
+IsFirstOtherBelow triples n i (Some j) = (j < n) × (j ≡ i → ⊥) × Meets triples j i × ((k : ℕ) → k < j → (k ≡ i → ⊥) → Meets triples k i → ⊥)
+
+-- of the first n places each has its first other
+pub record AreOthersBelow (triples : List Triple) (n : ℕ) (others : List (Option ℕ)) : Type 0 where
+  pub each : length others ≡ n
+  pub first : (i : ℕ) → i < n → IsFirstOtherBelow triples n i (slice_index_or others i None)
+
 -- the first place other than i with the edge of i
 abbrev pub IsFirstOther : List Triple → ℕ → Option ℕ → Type 0
-IsFirstOther triples i None = (j : ℕ) → j < length triples * 3 → (j ≡ i → ⊥) → Meets triples j i → ⊥
-IsFirstOther triples i (Some j) = (j < length triples * 3) × (j ≡ i → ⊥) × Meets triples j i × ((k : ℕ) → k < j → (k ≡ i → ⊥) → Meets triples k i → ⊥)
+IsFirstOther triples = IsFirstOtherBelow triples (length triples * 3)
 
-pub record AreOthers (triples : List Triple) (others : List (Option ℕ)) : Type 0 where
-  pub each : length others ≡ length triples * 3
-  pub first : (i : ℕ) → i < length triples * 3 → IsFirstOther triples i (slice_index_or others i None)
+abbrev pub AreOthers : List Triple → List (Option ℕ) → Type 0
+AreOthers triples = AreOthersBelow triples (length triples * 3)
 
--- what a place with this earlier place falls back to
-abbrev pub falls_to : List ℕ → ℕ → Option ℕ → ℕ
-falls_to firsts i None = i
-falls_to firsts i (Some j) = slice_index_or firsts j 0
+-- a place with this earlier one, which has this other one
+abbrev pub then_adds : List (Option ℕ) → ℕ → Option ℕ → List (Option ℕ) → Type 0
+then_adds old q (Some f) new = new ≡ old ++ Some f ∷ []
+then_adds old q None new = new ≡ slice_set old q (Some (length old)) ++ Some q ∷ []
 
--- each place falls back to the place itself, or to what its earlier place falls back to
-pub record AreFirsts (earlier : List (Option ℕ)) (firsts : List ℕ) : Type 0 where
-  pub each : length firsts ≡ length earlier
-  pub falls : (i : ℕ) → i < length earlier → slice_index_or firsts i 0 ≡ falls_to firsts i (slice_index_or earlier i None)
-
--- each of the first n places is told at its earlier place
-pub record AreLater (earlier : List (Option ℕ)) (later : List (Option ℕ)) (n : ℕ) : Type 0 where
-  pub each : length later ≡ length earlier
-  pub back : (i q : ℕ) → slice_index_or later i None ≡ Some q → (q < n) × (slice_index_or earlier q None ≡ Some i)
-  pub told : (i q : ℕ) → q < n → slice_index_or earlier q None ≡ Some i → IsSome (slice_index_or later i None)
+-- a place with this earlier one is added
+abbrev pub AddsPlace : List (Option ℕ) → Option ℕ → List (Option ℕ) → Type 0
+AddsPlace old None new = new ≡ old ++ None ∷ []
+AddsPlace old (Some q) new = then_adds old q (slice_index_or old q None) new
 
 -- the leaves of the first other places of a leaf's three edges
 abbrev pub row_by : List (Option ℕ) → ℕ → List ℤ

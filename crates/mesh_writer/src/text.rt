@@ -1,20 +1,25 @@
 //! The text of a mesh.
-ghost use Rattle.std.specs.Prelude.{◌≡◌, ◌++◌, ◌∷◌, All, IfOk, OnOk, codes, map};
+ghost use Rattle.std.specs.Prelude.{◌≡◌, ◌++◌, ◌∷◌, All, IfOk, IsSome, OnOk, map};
 ghost use Rattle.std.specs.Fmt.{decimal};
 ghost use Rattle.std.specs.List.Sorted.{IsStrictlySortedBy};
 ghost use Rattle.mesh_names.specs.Forests.{IsInMesh};
 ghost use Rattle.mesh_names.specs.Names.{name_cmp};
 ghost use Rattle.compat_check.specs.Meshes.{shape_of};
-ghost use Rattle.macro_file.specs.Written.{head_lines, lines_text, list_lines, numbers_line};
-ghost use Rattle.mesh_writer.specs.MeshText.{coordinates_line, mesh_text};
+ghost use Rattle.dof_transfer.specs.Held.{value_of};
+ghost use Rattle.macro_file.specs.Written.{head_lines, lines_text, list_lines};
+ghost use Rattle.mesh_writer.specs.MeshText.{HaveValues, IsMeshText};
 ghost use Rattle.mesh_writer.specs.Others.{AreAcross};
 
+use crate::line::{Line, put_text};
 use crate::numbering::Numbers;
 use crate::others::other_edges;
-use crate::pieces::{put_points, put_rows, put_text};
+use crate::pieces::put_lines;
 use crate::refusal::WriterRefusal;
-use crate::rows::{label_rows, neighbour_rows, points, triple_rows, triples};
+use crate::rows::{neighbour_rows, triple_rows};
+use crate::values::{element_values, vertex_values};
 use compat_check::mesh::MacroMesh;
+use dof_transfer::{ElementValues, VertexValues};
+use mesh_names::laws;
 use mesh_names::name::ElemName;
 use std::alloc::{AllocError, Global};
 use std::thread::Threads;
@@ -22,32 +27,40 @@ use std::thread::Threads;
 // The most leaves whose edges are counted in 32 bits; a text of more would not fit in memory.
 const MOST_LEAVES: usize = 1_431_655_765;
 
-/// The text of the mesh over these leaves: its sizes, where its vertices lie, and the leaves' corners,
-/// labels and neighbours. Its only refusal is want of memory. The lines are made in several threads
-/// where there are such. Takes n log n steps for n leaves.
+/// The text of the mesh over these leaves, in the form of a macro file with every list: its sizes, where
+/// its vertices lie, the leaves' corners, labels and neighbours, and the values of its vertices and
+/// leaves. Its only refusal is want of memory. The lines are made in several threads where there are
+/// such. Takes n log n steps for n leaves.
 pub fn mesh_text<R: Threads + Sync>(
     rt: &R,
     alloc: Global,
     mesh: &MacroMesh,
     leaves: &[ElemName],
+    vertices: &VertexValues,
+    elements: &ElementValues,
 ) -> Result<Vec<u8>, WriterRefusal>
     requires leaves { All (IsInMesh (shape_of mesh.now)) leaves.now }
     requires order { IsStrictlySortedBy name_cmp leaves.now }
-    ensures { IfOk result (λ text. text.items ≡ mesh_text mesh.now leaves.now) }
+    requires vertex_values { HaveValues mesh.now leaves.now vertices.now }
+    requires element_values { All (λ n. IsSome (value_of elements.now n)) leaves.now }
+    ensures { IfOk result (λ text. IsMeshText mesh.now leaves.now vertices.now elements.now text.items) }
 {
+    laws::partner_is_only();
+    laws::partners_pair();
     let _count = mesh.element_count();
     let known = Numbers::of_leaves(alloc, mesh, leaves)?;
     let mut text = Vec::new(alloc);
     put_head(&mut text, known.count(), leaves.len())?;
-    let points = points(alloc, mesh, &known.keys)?;
-    put_point_list(rt, alloc, &mut text, &points)?;
-    let triples = triples(alloc, mesh, &known, leaves)?;
-    let corners = triple_rows(alloc, &triples)?;
+    put_list(rt, alloc, &mut text, "vertex coordinates:", &known.points)?;
+    let corners = triple_rows(alloc, &known.triples)?;
     put_list(rt, alloc, &mut text, "element vertices:", &corners)?;
-    let labels = label_rows(alloc, mesh, leaves)?;
-    put_list(rt, alloc, &mut text, "element boundaries:", &labels)?;
-    let across = across(alloc, &triples)?;
-    put_lines(rt, alloc, &mut text, "element neighbours:", &across)?;
+    put_list(rt, alloc, &mut text, "element boundaries:", &known.labels)?;
+    let across = across(alloc, &known.triples)?;
+    put_list(rt, alloc, &mut text, "element neighbours:", &across)?;
+    let of_vertices = vertex_values(alloc, vertices, &known.keys)?;
+    let of_elements = element_values(alloc, elements, leaves)?;
+    put_list(rt, alloc, &mut text, "vertex values:", &of_vertices)?;
+    put_last_list(rt, alloc, &mut text, "element values:", &of_elements)?;
     Ok(text)
 }
 
@@ -81,45 +94,31 @@ fn put_head(text: &mut Vec<u8>, vertex_count: usize, leaf_count: usize) -> Resul
     put_text(text, "\n\n")
 }
 
-// Appends the key and a line for each row.
-fn put_lines<R: Threads + Sync>(
+// Appends the key and a line for each item.
+fn put_last_list<R: Threads + Sync, L: Line + Sync>(
     rt: &R,
     alloc: Global,
     text: &mut Vec<u8>,
     key: &str,
-    rows: &[[i64; 3]],
+    items: &[L],
 ) -> Result<(), AllocError>
-    ensures { OnOk result (text.new.items ≡ text.old.items ++ lines_text (key.now ∷ map numbers_line rows.now)) }
+    ensures { OnOk result (text.new.items ≡ text.old.items ++ lines_text (key.now ∷ map L.line items.now)) }
 {
     put_text(text, key)?;
     put_text(text, "\n")?;
-    put_rows(rt, alloc, text, rows)
+    put_lines(rt, alloc, text, items)
 }
 
-// Appends the key, a line for each row, and an empty line.
-fn put_list<R: Threads + Sync>(
+// Appends the key, a line for each item, and an empty line.
+fn put_list<R: Threads + Sync, L: Line + Sync>(
     rt: &R,
     alloc: Global,
     text: &mut Vec<u8>,
     key: &str,
-    rows: &[[i64; 3]],
+    items: &[L],
 ) -> Result<(), AllocError>
-    ensures { OnOk result (text.new.items ≡ text.old.items ++ lines_text (list_lines key.now numbers_line rows.now)) }
+    ensures { OnOk result (text.new.items ≡ text.old.items ++ lines_text (list_lines key.now L.line items.now)) }
 {
-    put_lines(rt, alloc, text, key, rows)?;
-    put_text(text, "\n")
-}
-
-// Appends the list of the coordinates, with its key.
-fn put_point_list<R: Threads + Sync>(
-    rt: &R,
-    alloc: Global,
-    text: &mut Vec<u8>,
-    points: &[(i64, i64)],
-) -> Result<(), AllocError>
-    ensures { OnOk result (text.new.items ≡ text.old.items ++ lines_text (list_lines (codes "vertex coordinates:") coordinates_line points.now)) }
-{
-    put_text(text, "vertex coordinates:\n")?;
-    put_points(rt, alloc, text, points)?;
+    put_last_list(rt, alloc, text, key, items)?;
     put_text(text, "\n")
 }

@@ -1,10 +1,11 @@
-use Rattle.std.proofs.Common.{◌≡◌, ℕ, ◌<◌, length}
-use Rattle.std.specs.Prelude.{None, slice_index_or}
-use Rattle.mesh_writer.specs.Others.{IsFirstOther}
+use Rattle.std.proofs.Common.{ℕ, ◌<◌, ◌*◌, length}
+use Rattle.mesh_writer.specs.Links.{AreLinked, edge_at}
+use Rattle.mesh_writer.specs.Others.{AreOthersBelow}
 use Rattle.mesh_writer.proofs.others.other_edges.Given as goal
 
 abbrev pub invariant-loop-place : goal.invariant-loop-place
 invariant-loop-place l = record {
-  each : length l.others.items ≡ l.place;
-  first : (i : ℕ) → i < l.place → IsFirstOther l.triples i (slice_index_or l.others.items i None);
+  linked : AreLinked l.triples l.place l.links;
+  bound : (k : ℕ) → k < length l.triples * 3 → (edge_at l.triples k).0 < length l.links.lasts.items;
+  others : AreOthersBelow l.triples l.place l.others.items;
 }
