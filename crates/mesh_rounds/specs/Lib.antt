@@ -1,0 +1,5 @@
+pub mod RoundChanges
+pub mod Setting
+pub mod Taking
+pub mod State
+pub mod ForestValues

@@ -1,0 +1,57 @@
+//! Laws over the definitions alone. Each function takes nothing and answers nothing: its
+//! contract is the law.
+ghost use Rattle.mesh_rounds.specs.ForestValues.{ElementsStay, FirstElements, FirstVertices, VerticesStay};
+ghost use Rattle.mesh_rounds.specs.RoundChanges.{BornAreLow, BornArePairs, BornAreRooted, DiedAreParents, NewHoldsPartners, NewIsForest, RoundsAreChanges, RoundsAreTransitions, RoundsCanBeFollowed};
+
+/// A round leads to a forest.
+pub fn new_is_forest()
+    ensures { NewIsForest }
+{}
+
+/// A round leads to a forest that holds the partners of its members.
+pub fn new_holds_partners()
+    ensures { NewHoldsPartners }
+{}
+
+/// Born patches are of one or two elements that can be bisected.
+pub fn born_are_pairs()
+    ensures { BornArePairs }
+{}
+
+/// The owners of born patches are of the mesh, and of levels that an element can have.
+pub fn born_are_of_mesh()
+    ensures rooted { BornAreRooted }
+    ensures low { BornAreLow }
+{}
+
+/// The members of died patches are of the mesh and can have children, and none stands twice.
+pub fn died_are_parents()
+    ensures { DiedAreParents }
+{}
+
+/// A round's patches lead from the old forest to the new one, by elements.
+pub fn rounds_are_changes()
+    ensures { RoundsAreChanges }
+{}
+
+/// A round's patches lead from the old forest to the new one, by vertices.
+pub fn rounds_are_transitions()
+    ensures { RoundsAreTransitions }
+{}
+
+/// The values of vertices and elements can follow each round.
+pub fn rounds_can_be_followed()
+    ensures { RoundsCanBeFollowed }
+{}
+
+/// The values of a mesh are at first those of the forest in which nothing is bisected.
+pub fn first_values()
+    ensures elements { FirstElements }
+    ensures vertices { FirstVertices }
+{}
+
+/// The values after a round are those of the new forest.
+pub fn values_stay()
+    ensures elements { ElementsStay }
+    ensures vertices { VerticesStay }
+{}
