@@ -1,0 +1,27 @@
+use Rattle.std.proofs.Common.{Err, map, string_bytes, subst}
+use Rattle.std.specs.Prelude.{option_and_then, ok_or}
+use Rattle.std.proofs.lemmas.Result.{err_from_is_err_and}
+use Rattle.clap.specs.Words.{App, app_of, found_of, rows_of}
+use Rattle.clap.specs.declared.parser.matches.ArgMatches.{ArgMatches}
+use Rattle.adapt_words.specs.Commands.{found_in, soak_app}
+use Rattle.adapt_words.specs.Words.{Answers, soak_in, soak_of, soak_said}
+use Rattle.adapt_words.specs.declared.words.WordsRefusal.TheVariants.{Outside}
+use Rattle.adapt_words.proofs.AnswerLemmas.{answered, still_refused}
+use Rattle.adapt_words.proofs.words.read_soak.Goals as goal
+
+pub returns-in_err-matches-clause-told : goal.returns-in_err-matches-clause-told
+unfolding soak_of
+returns-in_err-matches-clause-told c =
+    let words = map string_bytes c.args.words.now in
+    let p = err_from_is_err_and c.from_residual.result c.from_residual.ensures.1 in
+    let Told : App → Type 0 = λ app. Answers soak_said (option_and_then soak_in (found_in app words)) (Err c.in_err-matches.field-0.0) in
+    let told : Told soak_app = subst Told c.in-Ok.ensures (still_refused (λ (m : ArgMatches). rows_of (found_of m)) soak_said (found_in (app_of c.in-Ok.command) words) soak_in c.in_err-matches.field-0.0 c.in_err-matches.ensures) in
+    rw (p.1, p.2) told
+
+pub returns-clause-told : goal.returns-clause-told
+unfolding soak_of
+returns-clause-told c =
+    let words = map string_bytes c.args.words.now in
+    let Told : App → Type 0 = λ app. Answers soak_said (option_and_then soak_in (found_in app words)) (ok_or c.soak_in.result Outside) in
+    let told : Told soak_app = subst Told c.in-Ok.ensures (answered soak_said (found_in (app_of c.in-Ok.command) words) soak_in (rows_of (found_of c.in_ok-matches.matches)) c.soak_in.result c.in_ok-matches.ensures c.soak_in.ensures.told) in
+    rw c.ok_or.ensures.value told

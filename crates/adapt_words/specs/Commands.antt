@@ -1,0 +1,41 @@
+-- Which words each command takes, as data of `clap`, and what `clap` finds in them.
+use Rattle.std.specs.Prelude.{true, Bool, false, fold, List, [], ◌∷◌, codes, bytes_eq, Option, Some, None, if◌then◌else◌}
+use Rattle.std.specs.Option.{option_map_or}
+use Rattle.clap.specs.Walk.{is_empty}
+use Rattle.clap.specs.Words.{App, Row, Rule, fault_of, first_of, matches_of, new_app, new_rule, with_rule}
+use Rattle.clap.specs.declared.builder.ArgAction.TheVariants.{Set, SetTrue}
+use Rattle.adapt_words.specs.Numbers.{Word}
+
+-- a word that has to stand at its place
+abbrev pub required : Word → Rule
+required id = record (new_rule id) { required = true; action = Some Set }
+
+-- `--id VALUE`, at most once
+abbrev pub option : Word → Rule
+option id = record (new_rule id) { long = Some id; action = Some Set }
+
+-- `--id`, at most once and with no value
+abbrev pub flag : Word → Rule
+flag id = record (new_rule id) { long = Some id; action = Some SetTrue }
+
+-- `run MACRO MARKS [--workers N] [--pool P] [--report]`
+abbrev pub run_app : App
+run_app = fold with_rule (new_app (codes "run"))
+    (required (codes "macro") ∷ required (codes "marks") ∷ option (codes "workers") ∷ option (codes "pool") ∷ flag (codes "report") ∷ [])
+
+-- `soak START GRID ROUNDS [--workers N] [--pool P]`
+abbrev pub soak_app : App
+soak_app = fold with_rule (new_app (codes "soak"))
+    (required (codes "start") ∷ required (codes "grid") ∷ required (codes "rounds") ∷ option (codes "workers") ∷ option (codes "pool") ∷ [])
+
+-- what `clap` finds for each argument, where it takes the words; the first of them is the command's own
+unfoldable pub found_in : App → List Word → Option (List Row)
+found_in app words = if is_empty (fault_of app words) then Some (matches_of app words) else None
+
+-- the word that was found for an argument
+abbrev pub word_of : Word → List Row → Option Word
+word_of id rows = first_of id rows
+
+-- whether a flag stands among the words
+abbrev pub is_given : Word → List Row → Bool
+is_given id rows = option_map_or (λ value. bytes_eq value (codes "true")) (first_of id rows) false

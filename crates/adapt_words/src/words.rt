@@ -1,0 +1,119 @@
+//! The words of the program.
+ghost use Rattle.std.specs.Prelude.{◌≡◌, map, option_map, string_bytes, IfOk, IfSome};
+ghost use Rattle.clap.specs.Words.{found_of, rows_of};
+ghost use Rattle.adapt_words.specs.Words.{Answers, IsInRange, IsRunInRange, IsSoakInRange, command_of, run_of, run_said, said, soak_of, soak_said};
+ghost use Rattle.adapt_words.specs.Words as spec;
+
+use crate::commands::{find, run_command, soak_command};
+use crate::values::{is_given, number_of, pool_in, word_of, workers_in};
+use clap::ArgMatches;
+use std::alloc::Global;
+
+/// The lines on err for words that are outside the form.
+pub const USAGE: &str =
+    "usage: adapt run MACRO MARKS [--workers N] [--pool P] [--report]\n       adapt soak START GRID ROUNDS [--workers N] [--pool P]\n";
+
+/// What the words ask for.
+#[derive(Clone, Copy, Debug, PartialEq, Eq)]
+pub enum Command<'a> {
+    /// `run MACRO MARKS [--workers N] [--pool P] [--report]`.
+    Run(Run<'a>),
+    /// `soak START GRID ROUNDS [--workers N] [--pool P]`.
+    Soak(Soak),
+}
+
+/// A run over a macro file and a marks file.
+#[derive(Clone, Copy, Debug, PartialEq, Eq)]
+pub struct Run<'a> {
+    pub macro_file: &'a str,
+    pub marks_file: &'a str,
+    pub workers: u32,
+    pub pool: u32,
+    pub report: bool,
+}
+
+/// Random rounds on a grid.
+#[derive(Clone, Copy, Debug, PartialEq, Eq)]
+pub struct Soak {
+    pub start: u32,
+    pub grid: u32,
+    pub rounds: u32,
+    pub workers: u32,
+    pub pool: u32,
+}
+
+/// Why no command was read.
+#[derive(Clone, Copy, Debug, PartialEq, Eq)]
+pub enum WordsRefusal {
+    /// The words are outside the form.
+    Outside,
+    /// Memory ran out.
+    Memory,
+}
+
+/// The command that the words give, after the name of the program.
+pub fn read_words<'a>(alloc: Global, words: &'a [String]) -> Result<Command<'a>, WordsRefusal>
+    ensures told { Answers said (command_of (map string_bytes words.entry.now)) result }
+    ensures ranges { IfOk result IsInRange }
+{
+    let Some(first) = words.first() else {
+        return Err(WordsRefusal::Outside);
+    };
+    match first.as_str() {
+        "run" => Ok(Command::Run(read_run(alloc, words)?)),
+        "soak" => Ok(Command::Soak(read_soak(alloc, words)?)),
+        _ => Err(WordsRefusal::Outside),
+    }
+}
+
+// The run that the words give, of which the first is `run`.
+fn read_run<'a>(alloc: Global, words: &'a [String]) -> Result<Run<'a>, WordsRefusal>
+    ensures told { Answers run_said (run_of (map string_bytes words.entry.now)) result }
+    ensures ranges { IfOk result IsRunInRange }
+{
+    let Ok(command) = run_command(alloc) else {
+        return Err(WordsRefusal::Memory);
+    };
+    let matches = find(command, words)?;
+    run_in(&matches).ok_or(WordsRefusal::Outside)
+}
+
+// The run that was found.
+fn run_in<'a>(matches: &ArgMatches<'a>) -> Option<Run<'a>>
+    ensures told { option_map run_said result ≡ spec.run_in (rows_of (found_of matches.now)) }
+    ensures ranges { IfSome result IsRunInRange }
+{
+    Some(Run {
+        macro_file: word_of(matches, "macro")?,
+        marks_file: word_of(matches, "marks")?,
+        workers: workers_in(matches)?,
+        pool: pool_in(matches)?,
+        report: is_given(matches, "report"),
+    })
+}
+
+// The soak that the words give, of which the first is `soak`.
+fn read_soak(alloc: Global, words: &[String]) -> Result<Soak, WordsRefusal>
+    ensures told { Answers soak_said (soak_of (map string_bytes words.entry.now)) result }
+    ensures ranges { IfOk result IsSoakInRange }
+{
+    let Ok(command) = soak_command(alloc) else {
+        return Err(WordsRefusal::Memory);
+    };
+    let matches = find(command, words)?;
+    soak_in(&matches).ok_or(WordsRefusal::Outside)
+}
+
+// The soak that was found.
+fn soak_in(matches: &ArgMatches<'_>) -> Option<Soak>
+    ensures told { option_map soak_said result ≡ spec.soak_in (rows_of (found_of matches.now)) }
+    ensures ranges { IfSome result IsSoakInRange }
+{
+    Some(Soak {
+        start: number_of(matches, "start", 0, 65_535)?,
+        grid: number_of(matches, "grid", 1, 128)?,
+        rounds: number_of(matches, "rounds", 1, 64)?,
+        workers: workers_in(matches)?,
+        pool: pool_in(matches)?,
+    })
+}

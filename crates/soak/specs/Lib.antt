@@ -1,0 +1,4 @@
+pub mod Draws
+pub mod Grid
+pub mod GridChecks
+pub mod Rows
