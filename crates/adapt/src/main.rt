@@ -3,7 +3,7 @@
 
 use adapt_cli::ending::{MEMORY, write_line};
 use adapt_cli::program::adapt;
-use adapt_cli::words::USAGE;
+use adapt_words::USAGE;
 use mesh_io::{FileShelf, NoGate, StreamSink};
 use std::env;
 use std::process::ExitCode;

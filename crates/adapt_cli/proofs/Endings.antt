@@ -1,55 +1,72 @@
--- How a call ends at a stop.
+-- How a call ends.
 use Rattle.std.proofs.Common.{◌≡◌, ℕ, Bool, refl, sym, List, inl, inr, ⊎_elim, subst}
-use Rattle.std.specs.Prelude.{Option, Some, None, IfSome, string_bytes}
-use Rattle.std.specs.FinMap.{get}
+use Rattle.std.specs.Prelude.{Option, Some, None, string_bytes}
 use Rattle.mesh_io.specs.Shelves.{Files}
-use Rattle.adapt_cli.specs.Words.{Word, files_of_run, usage}
-use Rattle.adapt_cli.specs.FaultTexts.{memory_line, read_fault_line}
-use Rattle.adapt_cli.specs.Ending.{Call, Ends, IsNext, IsUntouched, LineEnds, StopEnds, Tells, Written}
-use Rattle.adapt_cli.specs.Stops.{IsStop, IsTurn, name_of}
+use Rattle.adapt_words.specs.Words.{RunWords, run}
+use Rattle.adapt_cli.specs.FaultTexts.{memory_line, read_fault_line, usage}
+use Rattle.adapt_cli.specs.Ending.{Call, Ends, IsNext, IsText, IsUntouched, LineEnds, Source, StopEnds, Tells, TextEnds, Written}
+use Rattle.adapt_cli.specs.Stops.{IsStop, IsTextOf, IsTurn, name_of}
 use Rattle.adapt_cli.specs.declared.fault.InputFile.{InputFile}
 use Rattle.adapt_cli.specs.declared.fault.InputFile.TheVariants.{Macro, Marks}
 use Rattle.adapt_cli.specs.declared.fault.Stop.{Stop}
-use Rattle.adapt_cli.specs.declared.fault.Stop.TheVariants.{Refused, Memory, ReadFault, Usage}
+use Rattle.adapt_cli.specs.declared.fault.Stop.TheVariants.{Refused, Memory, ReadFault}
 
-module _ (words : List Word) (files : Option Files) (steady : Bool) (before now : ℕ) (out err : Written) (kept : IsUntouched out) where
-  abbrev call : ℕ → Call
-  call status = record { words = words; files = files; steady = steady; before = before; now = now; out = out; err = err; status = status }
+abbrev pub call : Source → Written → Written → ℕ → Call
+call source out err status = record { source = source; out = out; err = err; status = status }
 
-  -- a line that was to be told, with the status that goes with it
-  told : (line : List ℕ) (status result : ℕ) → ((any : ℕ) → Tells (call any) status line) → LineEnds err line status result → Ends (call result)
-  told line status result tells ends = ⊎_elim
-      (λ h. inr (inl (record {
-        line = line;
-        tells = subst (λ (s : ℕ). Tells (call result) s line) (sym h.0) (tells result);
-        out_kept = kept;
-        err_took = h.1;
-      })))
-      (λ h. inr (inr (inr (record {
-        status_is = h.0;
-        status = status;
-        line = line;
-        tells = tells result;
-        out_kept = kept;
-        err_failed = h.1;
-      }))))
-      ends
+-- a line that was to be told, with the status that goes with it
+pub told : (source : Source) (out err : Written) → IsUntouched out → (line : List ℕ) (status result : ℕ) → Tells source status line → LineEnds err line status result → Ends (call source out err result)
+told source out err kept line status result tells ends = ⊎_elim
+    (λ h. inr (inl (record {
+      line = line;
+      tells = subst (λ (s : ℕ). Tells source s line) (sym h.0) tells;
+      out_kept = kept;
+      err_took = h.1;
+    })))
+    (λ h. inr (inr (inr (record {
+      status_is = h.0;
+      status = status;
+      line = line;
+      tells = tells;
+      out_kept = kept;
+      err_failed = h.1;
+    }))))
+    ends
 
-  is_next : (names : Word × Word) (file : InputFile) (name : Word) → files_of_run words ≡ Some names → IsTurn files names file → name ≡ name_of names file → (any : ℕ) → IsNext (call any) name
-  is_next names Macro name e turn same any = (names, e, inl same)
-  is_next names Marks name e turn same any = (names, e, inr (same, turn))
+-- a text that was to be written
+pub written_out : (source : Source) (out err : Written) (text : List ℕ) (result : ℕ) → IsText source text → TextEnds out err text result → Ends (call source out err result)
+written_out source out err text result is_text ends = ⊎_elim
+    (λ h. inl (record { status_is = h.0; text = text; is_text = is_text; out_took = h.1; err_kept = h.2 }))
+    (λ h. inr (inr (inl (record { status_is = h.0; text = text; is_text = is_text; out_failed = h.1; err_told = h.2 }))))
+    ends
 
-  pub ends_at_stop : (stop : Stop) → IsStop words files steady before now stop → (result : ℕ) → StopEnds words stop err result → Ends (call result)
-  ends_at_stop (Refused fault) h result ends = told (string_bytes fault.line) fault.status result (λ any. inr (inr (inl (record { low = h.0; high = h.1; names = h.2; calm = h.3; outcome = h.4 })))) ends
-  ends_at_stop Memory h result ends = told memory_line 1 result (λ any. inl (record { status_is = refl; line_is = refl; names = h.0; calm = h.1 })) ends
-  ends_at_stop (ReadFault file) h result ends =
-      let same = ends.1 h.0 h.1 in
-      told (read_fault_line ends.0) 6 result (λ any. inr (inr (inr (record {
-        status_is = refl;
-        name = ends.0;
-        is_next = is_next h.0 file ends.0 h.1 h.3 same any;
-        line_is = refl;
-        rose = h.2;
-        missing = λ steadily. subst (λ (n : Word). IfSome files (λ told. get told n ≡ None)) (sym same) (h.4 steadily);
-      })))) ends.2
-  ends_at_stop Usage h result ends = told usage 2 result (λ any. inr (inl (record { status_is = refl; line_is = refl; outside = h.0; calm = h.1 }))) ends
+module _ (r : RunWords) (files : Option Files) (steady : Bool) (before now : ℕ) where
+  abbrev pub source_of_run : Source
+  source_of_run = record { command = Some (run r); files = files; steady = steady; before = before; now = now }
+
+  pub text_of_run : (text : List ℕ) → IsTextOf r files before now text → IsText source_of_run text
+  text_of_run text h = record { calm = h.0; outcome = record { command = run r; is_command = refl; outcome = h.1 } }
+
+  is_next : (file : InputFile) → IsTurn files r file → IsNext source_of_run (name_of r file)
+  is_next Macro turn = (r, refl, inl refl)
+  is_next Marks turn = (r, refl, inr (refl, turn))
+
+  pub ends_at_stop : (out err : Written) → IsUntouched out → (stop : Stop) → IsStop r files steady before now stop → (result : ℕ) → StopEnds r stop err result → Ends (call source_of_run out err result)
+  ends_at_stop out err kept (Refused fault) h result ends = told source_of_run out err kept (string_bytes fault.line) fault.status result (inr (inr (inl (record { low = h.0; high = h.1; calm = h.2; outcome = record { command = run r; is_command = refl; outcome = h.3 } })))) ends
+  ends_at_stop out err kept Memory h result ends = told source_of_run out err kept memory_line 1 result (inl (record { status_is = refl; line_is = refl; calm = h })) ends
+  ends_at_stop out err kept (ReadFault file) h result ends = told source_of_run out err kept (read_fault_line (name_of r file)) 6 result (inr (inr (inr (record {
+    status_is = refl;
+    name = name_of r file;
+    is_next = is_next file h.1;
+    line_is = refl;
+    rose = h.0;
+    missing = h.2;
+  })))) ends
+
+-- the words are outside the form
+pub ends_outside : (source : Source) (out err : Written) → IsUntouched out → source.command ≡ None → source.now ≡ source.before → (result : ℕ) → LineEnds err usage 2 result → Ends (call source out err result)
+ends_outside source out err kept outside calm result ends = told source out err kept usage 2 result (inr (inl (record { status_is = refl; line_is = refl; outside = outside; calm = calm }))) ends
+
+-- there was no memory
+pub ends_wanting : (source : Source) (out err : Written) → IsUntouched out → source.now ≡ source.before → (result : ℕ) → LineEnds err memory_line 1 result → Ends (call source out err result)
+ends_wanting source out err kept calm result ends = told source out err kept memory_line 1 result (inl (record { status_is = refl; line_is = refl; calm = calm })) ends

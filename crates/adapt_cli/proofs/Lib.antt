@@ -3,3 +3,5 @@ pub mod Loading
 pub mod Outcomes
 pub mod Parts
 pub mod Endings
+pub mod Texts
+pub mod Drawing

@@ -15,7 +15,7 @@ use Rattle.adapt_cli.specs.FaultTexts.{check_line}
 use Rattle.adapt_cli.specs.Outcome.{RefusesMacro, macro_limit}
 use Rattle.adapt_cli.specs.Stops.{IsRefusedWith, RefusesBy}
 use Rattle.adapt_cli.specs.declared.fault.Stop.{Stop}
-use Rattle.adapt_cli.specs.declared.fault.Stop.TheVariants.{Refused, Memory, ReadFault, Usage}
+use Rattle.adapt_cli.specs.declared.fault.Stop.TheVariants.{Refused, Memory, ReadFault}
 
 -- a text that the check refuses
 pub unchecked : (bytes : List ℕ) → length bytes ≤ macro_limit → (text : MacroText) → meaning bytes ≡ Ok (macro_of text) → (refusal : CheckRefusal) → IsCheckRefusal text refusal →
@@ -33,7 +33,6 @@ unchecked bytes short text read refusal cause line told (Refused fault) h = (
 )
 unchecked bytes short text read refusal cause line told Memory h = tt
 unchecked bytes short text read refusal cause line told (ReadFault file) h = absurd h
-unchecked bytes short text read refusal cause line told Usage h = absurd h
 
 -- rows that a marks file gives
 pub marks_formed : (rounds : List RoundMarks) → AreMarks (rounds_read rounds) → All (λ r. All IsWellFormed r.rows.items) rounds

@@ -3,12 +3,14 @@ use Rattle.std.specs.Prelude.{◌≡◌, ℕ, ◌≤◌, ◌⊎◌, Bool, true, 
 use Rattle.std.specs.FinMap.{get}
 use Rattle.mesh_io.specs.Faults.{Rose}
 use Rattle.mesh_io.specs.Shelves.{Files}
-use Rattle.adapt_cli.specs.Words.{Word, HasNames, files_of_run, usage}
-use Rattle.adapt_cli.specs.FaultTexts.{memory_line, read_fault_line, write_fault_line}
-use Rattle.adapt_cli.specs.Outcome.{IsOutcome, MacroIsAccepted}
-use Rattle.adapt_cli.specs.Stops.{IsNameOf}
+use Rattle.adapt_words.specs.Numbers.{Word}
+use Rattle.adapt_words.specs.Words.{CommandWords, RunWords, run, soak}
+use Rattle.adapt_cli.specs.FaultTexts.{memory_line, read_fault_line, usage, write_fault_line}
+use Rattle.adapt_cli.specs.Outcome.{End, IsRunOutcome}
+use Rattle.adapt_cli.specs.Soaks.{IsSoakOutcome}
+use Rattle.adapt_cli.specs.Stops.{MacroIsAccepted, name_of}
 use Rattle.adapt_cli.specs.declared.fault.Stop.{Stop}
-use Rattle.adapt_cli.specs.declared.fault.Stop.TheVariants.{Refused, Memory, ReadFault, Usage}
+use Rattle.adapt_cli.specs.declared.fault.Stop.TheVariants.{Refused, Memory, ReadFault}
 
 -- a sink before and after the call: what it tells, and its count of faults
 pub record Written : Type 0 where
@@ -32,74 +34,86 @@ pub record Failed (sink : Written) (text : List ℕ) : Type 0 where
   pub grown : IfSome sink.old (λ held. (n : ℕ) × (sink.new ≡ Some (held ++ take n text)))
   pub rose : Rose sink.before sink.now
 
--- a call: its words, what the shelf tells at the start and whether it is steady, the shelf's count before and after, both sinks, and the status
-pub record Call : Type 0 where
-  pub words : List Word
+-- what a call goes by: the command of its words, where they are in the form; and what the shelf tells at the start and whether it is steady, with its count before and after
+pub record Source : Type 0 where
+  pub command : Option CommandWords
   pub files : Option Files
   pub steady : Bool
   pub before : ℕ
   pub now : ℕ
+
+-- a call: what it goes by, both sinks, and the status
+pub record Call : Type 0 where
+  pub source : Source
   pub out : Written
   pub err : Written
   pub status : ℕ
 
+-- what a command leads to; a run's files tell it where the shelf tells its files, and a soak needs none
+abbrev pub IsOutcomeOf : Option Files → CommandWords → End → Type 0
+IsOutcomeOf files (run r) end = IfSome files (λ told. IsRunOutcome r told end)
+IsOutcomeOf files (soak s) end = IsSoakOutcome s end
+
+-- the outcome of the command
+pub record IsOutcome (source : Source) (end : End) : Type 0 where
+  pub command : CommandWords
+  pub is_command : source.command ≡ Some command
+  pub outcome : IsOutcomeOf source.files command end
+
 -- the name is that of the macro file; or that of the marks file, once the macro file is accepted
-abbrev pub IsNext : Call → Word → Type 0
-IsNext call name = (names : Word × Word) × (files_of_run call.words ≡ Some names) × ((name ≡ names.0) ⊎ ((name ≡ names.1) × MacroIsAccepted call.files names.0))
+abbrev pub IsNext : Source → Word → Type 0
+IsNext source name = (r : RunWords) × (source.command ≡ Some (run r)) × ((name ≡ r.macro_file) ⊎ ((name ≡ r.marks_file) × MacroIsAccepted source.files r.macro_file))
 
 -- there was no memory
-pub record WantsMemory (call : Call) (status : ℕ) (line : List ℕ) : Type 0 where
+pub record WantsMemory (source : Source) (status : ℕ) (line : List ℕ) : Type 0 where
   pub status_is : status ≡ 1
   pub line_is : line ≡ memory_line
-  pub names : HasNames call.words
-  pub calm : call.now ≡ call.before
+  pub calm : source.now ≡ source.before
 
--- the words are outside
-pub record IsOutside (call : Call) (status : ℕ) (line : List ℕ) : Type 0 where
+-- the words are outside the form
+pub record IsOutside (source : Source) (status : ℕ) (line : List ℕ) : Type 0 where
   pub status_is : status ≡ 2
   pub line_is : line ≡ usage
-  pub outside : files_of_run call.words ≡ None
-  pub calm : call.now ≡ call.before
+  pub outside : source.command ≡ None
+  pub calm : source.now ≡ source.before
 
--- a file or a round is refused, as the outcome says where the shelf tells its files
-pub record IsRefused (call : Call) (status : ℕ) (line : List ℕ) : Type 0 where
+-- a file or a round is refused, as the outcome says
+pub record IsRefused (source : Source) (status : ℕ) (line : List ℕ) : Type 0 where
   pub low : 3 ≤ status
   pub high : status ≤ 5
-  pub names : HasNames call.words
-  pub calm : call.now ≡ call.before
-  pub outcome : IfSome call.files (λ files. IsOutcome call.words files (Err (status, line)))
+  pub calm : source.now ≡ source.before
+  pub outcome : IsOutcome source (Err (status, line))
 
 -- the load of a file failed, which a steady shelf has not
-pub record IsUnread (call : Call) (status : ℕ) (line : List ℕ) : Type 0 where
+pub record IsUnread (source : Source) (status : ℕ) (line : List ℕ) : Type 0 where
   pub status_is : status ≡ 6
   pub name : Word
-  pub is_next : IsNext call name
+  pub is_next : IsNext source name
   pub line_is : line ≡ read_fault_line name
-  pub rose : Rose call.before call.now
-  pub missing : call.steady ≡ true → IfSome call.files (λ files. get files name ≡ None)
+  pub rose : Rose source.before source.now
+  pub missing : source.steady ≡ true → IfSome source.files (λ files. get files name ≡ None)
 
 -- the status and the line of a call that has no text
-abbrev pub Tells : Call → ℕ → List ℕ → Type 0
-Tells call status line = WantsMemory call status line ⊎ IsOutside call status line ⊎ IsRefused call status line ⊎ IsUnread call status line
+abbrev pub Tells : Source → ℕ → List ℕ → Type 0
+Tells source status line = WantsMemory source status line ⊎ IsOutside source status line ⊎ IsRefused source status line ⊎ IsUnread source status line
 
--- a text, which is the outcome where the shelf tells its files
-pub record IsText (call : Call) (text : List ℕ) : Type 0 where
-  pub names : HasNames call.words
-  pub calm : call.now ≡ call.before
-  pub outcome : IfSome call.files (λ files. IsOutcome call.words files (Ok text))
+-- a text, which is the outcome
+pub record IsText (source : Source) (text : List ℕ) : Type 0 where
+  pub calm : source.now ≡ source.before
+  pub outcome : IsOutcome source (Ok text)
 
 -- out took the whole text
 pub record WritesText (call : Call) : Type 0 where
   pub status_is : call.status ≡ 0
   pub text : List ℕ
-  pub is_text : IsText call text
+  pub is_text : IsText call.source text
   pub out_took : Took call.out text
   pub err_kept : IsUntouched call.err
 
 -- err took the whole line
 pub record WritesLine (call : Call) : Type 0 where
   pub line : List ℕ
-  pub tells : Tells call call.status line
+  pub tells : Tells call.source call.status line
   pub out_kept : IsUntouched call.out
   pub err_took : Took call.err line
 
@@ -107,7 +121,7 @@ pub record WritesLine (call : Call) : Type 0 where
 pub record LosesText (call : Call) : Type 0 where
   pub status_is : call.status ≡ 7
   pub text : List ℕ
-  pub is_text : IsText call text
+  pub is_text : IsText call.source text
   pub out_failed : Failed call.out text
   pub err_told : Took call.err write_fault_line ⊎ Failed call.err write_fault_line
 
@@ -116,7 +130,7 @@ pub record LosesLine (call : Call) : Type 0 where
   pub status_is : call.status ≡ 7
   pub status : ℕ
   pub line : List ℕ
-  pub tells : Tells call status line
+  pub tells : Tells call.source status line
   pub out_kept : IsUntouched call.out
   pub err_failed : Failed call.err line
 
@@ -134,9 +148,8 @@ TextEnds out err text result =
     ((result ≡ 0) × Took out text × IsUntouched err)
     ⊎ ((result ≡ 7) × Failed out text × (Took err write_fault_line ⊎ Failed err write_fault_line))
 
--- how a call ends at a stop
-abbrev pub StopEnds : List Word → Stop → Written → ℕ → Type 0
-StopEnds words (Refused fault) err result = LineEnds err (string_bytes fault.line) fault.status result
-StopEnds words Memory err result = LineEnds err memory_line 1 result
-StopEnds words (ReadFault file) err result = (name : Word) × IsNameOf words file name × LineEnds err (read_fault_line name) 6 result
-StopEnds words Usage err result = LineEnds err usage 2 result
+-- how a run ends at a stop
+abbrev pub StopEnds : RunWords → Stop → Written → ℕ → Type 0
+StopEnds r (Refused fault) err result = LineEnds err (string_bytes fault.line) fault.status result
+StopEnds r Memory err result = LineEnds err memory_line 1 result
+StopEnds r (ReadFault file) err result = LineEnds err (read_fault_line (name_of r file)) 6 result

@@ -10,7 +10,7 @@ use Rattle.compat_check.specs.declared.refusal.CheckRefusal.TheVariants.{VertexR
 use Rattle.mark_file.specs.declared.refusal.MarkRefusal.{MarkRefusal}
 use Rattle.mark_file.specs.declared.refusal.MarkRefusal.TheVariants.{BadHeader, BadFields, BadRound, RoundsFall, BadWhat, BadWhere, BadNumber, TooMany, Memory as no_memory}
 use Rattle.forest_plain.specs.declared.refusal.RoundRefusal.{RoundRefusal}
-use Rattle.forest_plain.specs.declared.refusal.RoundRefusal.TheVariants.{NotALeaf, LevelTooDeep, PoolFull, Memory}
+use Rattle.forest_plain.specs.declared.refusal.RoundRefusal.TheVariants.{RoundsUsedUp, NotALeaf, LevelTooDeep, PoolFull, Memory}
 
 -- pieces of text, one after another
 abbrev pub joined : List (List ℕ) → List ℕ
@@ -85,7 +85,12 @@ abbrev pub round_fault : ℕ → RoundRefusal → Option Fault
 round_fault round (NotALeaf row) = Some (4, at_row row (codes "not a leaf"))
 round_fault round (LevelTooDeep row level) = Some (4, at_row row (joined (codes "level " ∷ decimal level ∷ codes " is above 24" ∷ [])))
 round_fault round (PoolFull needed kept pool) = Some (5, joined (codes "adapt: round " ∷ decimal round ∷ codes ": " ∷ decimal needed ∷ codes " patches needed, pool " ∷ decimal pool ∷ codes "\n" ∷ []))
+round_fault round (RoundsUsedUp rounds) = None
 round_fault round Memory = None
+
+-- the lines for words that are outside the form
+abbrev pub usage : List ℕ
+usage = codes "usage: adapt run MACRO MARKS [--workers N] [--pool P] [--report]\n       adapt soak START GRID ROUNDS [--workers N] [--pool P]\n"
 
 -- the line for want of memory
 abbrev pub memory_line : List ℕ

@@ -1,6 +1,7 @@
-pub mod Words
 pub mod FaultTexts
 pub mod Rounds
+pub mod Reports
 pub mod Outcome
+pub mod Soaks
 pub mod Stops
 pub mod Ending

@@ -1,36 +1,30 @@
--- What the words and the files lead to: the text on out, or a status with its line on err. The first of these that holds:
--- the words are outside; the macro file is refused; the marks file is refused; a round is refused; or else the text.
-use Rattle.std.specs.Prelude.{◌≡◌, ℕ, ◌<◌, ◌≤◌, ◌⊎◌, List, length, codes, Option, Some, None, IfSome, Result, Ok, Err}
+-- What a run leads to: the text on out, or a status with its line on err. The first of these that holds:
+-- the macro file is refused; the marks file is refused; a round is refused; or else the text.
+use Rattle.std.specs.Prelude.{◌≡◌, ℕ, ◌<◌, ◌≤◌, ◌⊎◌, List, length, codes, Some, Result, Ok, Err}
 use Rattle.std.specs.FinMap.{get}
-use Rattle.std.specs.FinSet.{empty}
 use Rattle.mesh_io.specs.Shelves.{Files}
-use Rattle.mesh_names.specs.Names.{Name}
-use Rattle.mesh_names.specs.Forests.{Names, IsListOf}
-use Rattle.mesh_names.specs.Leaves.{leaves}
 use Rattle.macro_file.specs.Meaning.{meaning}
 use Rattle.macro_file.specs.Text.{macro_of}
 use Rattle.macro_file.specs.declared.text.MacroText.{MacroText}
 use Rattle.macro_file.specs.declared.refusal.MacroRefusal.{MacroRefusal}
-use Rattle.compat_check.specs.Meshes.{Mesh, shape_of, across_in}
+use Rattle.compat_check.specs.Meshes.{Mesh}
 use Rattle.compat_check.specs.Checks.{IsMeshOf, IsCheckRefusal}
 use Rattle.compat_check.specs.declared.refusal.CheckRefusal.{CheckRefusal}
 use Rattle.compat_check.specs.declared.refusal.CheckRefusal.TheVariants.{Memory as no_memory}
 use Rattle.mark_file.specs.Meaning.{Round, marks_meaning}
 use Rattle.mark_file.specs.declared.refusal.MarkRefusal.{MarkRefusal}
-use Rattle.mesh_writer.specs.MeshText.{mesh_text}
-use Rattle.adapt_cli.specs.Words.{Word, files_of_run, usage}
+use Rattle.adapt_words.specs.Words.{RunWords}
+use Rattle.mesh_rounds.specs.State.{IsFirst, State}
 use Rattle.adapt_cli.specs.FaultTexts.{Fault, macro_line, check_line, marks_line}
+use Rattle.adapt_cli.specs.Reports.{IsOutput}
 use Rattle.adapt_cli.specs.Rounds.{LeadTo}
 
--- the greatest length of each file, in bytes, and how many patches a forest may have
+-- the greatest length of each file, in bytes
 abbrev pub macro_limit : ℕ
 macro_limit = 16777216
 
 abbrev pub marks_limit : ℕ
 marks_limit = 67108864
-
-abbrev pub pool : ℕ
-pool = 65536
 
 -- the bytes are a macro file of this mesh, which the check refuses for nothing
 pub record AcceptsMacro (bytes : List ℕ) (mesh : Mesh) : Type 0 where
@@ -39,10 +33,6 @@ pub record AcceptsMacro (bytes : List ℕ) (mesh : Mesh) : Type 0 where
   pub read : meaning bytes ≡ Ok (macro_of text)
   pub faultless : (refusal : CheckRefusal) → IsCheckRefusal text refusal → refusal ≡ no_memory
   pub checked : IsMeshOf text mesh
-
--- where the shelf tells its files, the macro file is there and is accepted
-abbrev pub MacroIsAccepted : Option Files → Word → Type 0
-MacroIsAccepted files name = IfSome files (λ told. (bytes : List ℕ) × (get told name ≡ Some bytes) × (mesh : Mesh) × AcceptsMacro bytes mesh)
 
 -- the bytes are too long
 pub record IsTooLong (limit : ℕ) (what : List ℕ) (bytes line : List ℕ) : Type 0 where
@@ -89,28 +79,22 @@ RefusesMarks bytes line = IsTooLong marks_limit (codes "adapt: marks: longer tha
 abbrev pub End : Type 0
 End = Result (List ℕ) Fault
 
--- the rounds lead from the mesh to this text of the last forest, or to the first fault
-abbrev pub RunsTo : Mesh → List Round → End → Type 0
-RunsTo mesh rounds (Ok text) =
-    (last : Names) × LeadTo (shape_of mesh) (across_in mesh) pool rounds empty (Ok last)
-    × (list : List Name) × IsListOf (leaves (shape_of mesh) last) list × (text ≡ mesh_text mesh list)
-RunsTo mesh rounds (Err fault) = LeadTo (shape_of mesh) (across_in mesh) pool rounds empty (Err fault)
+-- from the mesh before any round the rounds lead to this output, or to the first fault
+abbrev pub RunsTo : Mesh → RunWords → List Round → End → Type 0
+RunsTo mesh run rounds (Ok text) =
+    (first : State) × IsFirst mesh first × (states : List State) × LeadTo mesh run.pool rounds first (Ok states) × IsOutput mesh run.report first states text
+RunsTo mesh run rounds (Err fault) = (first : State) × IsFirst mesh first × LeadTo mesh run.pool rounds first (Err fault)
 
 -- what follows from the marks file, on a mesh
-abbrev pub FollowsMarks : Mesh → List ℕ → End → Type 0
-FollowsMarks mesh bytes end = ((line : List ℕ) × RefusesMarks bytes line × (end ≡ Err (4, line))) ⊎ ((rounds : List Round) × AcceptsMarks bytes rounds × RunsTo mesh rounds end)
+abbrev pub FollowsMarks : Mesh → RunWords → List ℕ → End → Type 0
+FollowsMarks mesh run bytes end = ((line : List ℕ) × RefusesMarks bytes line × (end ≡ Err (4, line))) ⊎ ((rounds : List Round) × AcceptsMarks bytes rounds × RunsTo mesh run rounds end)
 
 -- what follows from the macro file
-abbrev pub FollowsMacro : Files → Word → List ℕ → End → Type 0
-FollowsMacro files marks_file bytes end =
+abbrev pub FollowsMacro : Files → RunWords → List ℕ → End → Type 0
+FollowsMacro files run bytes end =
     ((line : List ℕ) × RefusesMacro bytes line × (end ≡ Err (3, line)))
-    ⊎ ((mesh : Mesh) × AcceptsMacro bytes mesh × (marks : List ℕ) × (get files marks_file ≡ Some marks) × FollowsMarks mesh marks end)
+    ⊎ ((mesh : Mesh) × AcceptsMacro bytes mesh × (marks : List ℕ) × (get files run.marks_file ≡ Some marks) × FollowsMarks mesh run marks end)
 
--- what follows from the names of the files, where the words have them
-abbrev pub Follows : Option (Word × Word) → Files → End → Type 0
-Follows None files end = end ≡ Err (2, usage)
-Follows (Some names) files end = (bytes : List ℕ) × (get files names.0 ≡ Some bytes) × FollowsMacro files names.1 bytes end
-
--- what the words and the files lead to
-abbrev pub IsOutcome : List Word → Files → End → Type 0
-IsOutcome words files end = Follows (files_of_run words) files end
+-- what a run and its files lead to
+abbrev pub IsRunOutcome : RunWords → Files → End → Type 0
+IsRunOutcome run files end = (bytes : List ℕ) × (get files run.macro_file ≡ Some bytes) × FollowsMacro files run bytes end

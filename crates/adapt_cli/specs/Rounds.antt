@@ -1,22 +1,36 @@
 -- Rounds, one after another, up to the first that is refused.
 use Rattle.std.specs.Prelude.{◌≡◌, ℕ, ◌⊎◌, List, [], ◌∷◌, Result, Ok, Err, Some}
-use Rattle.mesh_names.specs.Triangles.{Shape}
-use Rattle.mesh_names.specs.Partners.{Across}
+use Rattle.std.specs.Result.{result_map_both}
 use Rattle.mesh_names.specs.Forests.{Names}
-use Rattle.forest_plain.specs.Rounds.{IsRound, IsRoundRefusal}
+use Rattle.compat_check.specs.Meshes.{Mesh, across_in, shape_of}
+use Rattle.forest_plain.specs.Rounds.{IsRoundRefusal, Room}
 use Rattle.forest_plain.specs.declared.refusal.RoundRefusal.{RoundRefusal}
 use Rattle.mark_file.specs.Meaning.{Round}
+use Rattle.mesh_rounds.specs.State.{IsMeshRound, State}
 use Rattle.adapt_cli.specs.FaultTexts.{Fault, round_fault}
 
+-- the whole pool, of which nothing is kept back
+abbrev pub whole : ℕ → Room
+whole pool = record { pool = pool; kept = 0 }
+
 -- the round is refused, and this is what becomes of it
-pub record Refuses (mesh : Shape) (across : Across) (pool : ℕ) (old : Names) (round : Round) (fault : Fault) : Type 0 where
+pub record Refuses (mesh : Mesh) (pool : ℕ) (old : Names) (round : Round) (fault : Fault) : Type 0 where
   pub refusal : RoundRefusal
-  pub cause : IsRoundRefusal mesh across pool old round.rows refusal
+  pub cause : IsRoundRefusal (shape_of mesh) (across_in mesh) (whole pool) old round.rows refusal
   pub told : round_fault round.number refusal ≡ Some fault
 
--- what the rounds lead to from a forest: the last forest, or the first fault
-abbrev pub LeadTo : Shape → Across → ℕ → List Round → Names → Result Names Fault → Type 0
-LeadTo mesh across pool [] old end = end ≡ Ok old
-LeadTo mesh across pool (round ∷ rounds) old end =
-    ((new : Names) × IsRound mesh across pool old round.rows new × LeadTo mesh across pool rounds new end)
-    ⊎ ((fault : Fault) × Refuses mesh across pool old round fault × (end ≡ Err fault))
+-- with this state before all others, where there is no fault
+abbrev pub preceded : State → Result (List State) Fault → Result (List State) Fault
+preceded state end = result_map_both (λ states. state ∷ states) (λ fault. fault) end
+
+-- what the rounds lead to from a state: the state after each of them, or the first fault
+abbrev pub LeadTo : Mesh → ℕ → List Round → State → Result (List State) Fault → Type 0
+LeadTo mesh pool [] old end = end ≡ Ok []
+LeadTo mesh pool (round ∷ rounds) old end =
+    ((new : State) × IsMeshRound mesh (whole pool) round.rows old new × (rest : Result (List State) Fault) × LeadTo mesh pool rounds new rest × (end ≡ preceded new rest))
+    ⊎ ((fault : Fault) × Refuses mesh pool old.members round fault × (end ≡ Err fault))
+
+-- the last of the states, or the first one where no round was made
+abbrev pub last_state : State → List State → State
+last_state old [] = old
+last_state old (new ∷ states) = last_state new states

@@ -15,7 +15,7 @@ pub struct Fault {
     pub line: String,
 }
 
-/// A file that the words name.
+/// A file of a run.
 #[derive(Clone, Copy, Debug, PartialEq, Eq)]
 pub enum InputFile {
     Macro,
@@ -31,8 +31,6 @@ pub enum Stop {
     Memory,
     /// The load of a file failed.
     ReadFault(InputFile),
-    /// The words are outside.
-    Usage,
 }
 
 impl From<AllocError> for Stop {
@@ -80,7 +78,7 @@ pub fn round_stop(alloc: Global, round: u32, refusal: RoundRefusal) -> Stop
     }
 }
 
-// What becomes of a round that is refused.
+// What becomes of a round that is refused. The rounds of a plain forest are never used up.
 fn round_fault(alloc: Global, round: u32, refusal: RoundRefusal) -> Result<Fault, AllocError>
     ensures { IfOk result (λ f. round_fault round refusal ≡ Some (f.status, string_bytes f.line)) }
 {
@@ -97,6 +95,7 @@ fn round_fault(alloc: Global, round: u32, refusal: RoundRefusal) -> Result<Fault
             status: 5,
             line: pool_full(alloc, round, needed, pool)?,
         },
+        RoundRefusal::RoundsUsedUp { rounds: _ } => return Err(AllocError),
         RoundRefusal::Memory => return Err(AllocError),
     };
     Ok(fault)

@@ -7,5 +7,6 @@ pub mod load;
 pub mod macro_lines;
 pub mod outcome;
 pub mod program;
+pub mod reports;
 pub mod rounds;
-pub mod words;
+pub mod soaking;
