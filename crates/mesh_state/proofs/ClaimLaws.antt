@@ -17,26 +17,26 @@ bit_held Open e = absurd (omega arith)
 bit_held (Held j m p) e = (j, m, p, refl)
 
 pub bits_claimed : BitsClaimed
-bits_claimed s w n v g r x = (
+bits_claimed s w n v (g, r) x = (
   (let b = few_bits (g.stage x) in let e = r.claims.bits x in omega arith),
   (λ j m p h. r.claims.bits x ∙ ap bit_of (r.claims.held j x m p h)),
   λ e. let t = bit_held (g.stage x) (sym (r.claims.bits x) ∙ e) in (t.0, t.1, t.2, r.claims.holds t.0 x t.1 t.2 t.3, λ i k q h. held_one i t.0 k t.1 q t.2 (sym (r.claims.held i x k q h) ∙ t.3)),
 )
 
 pub second_places : SecondPlaces
-second_places s w n v g r j x y p h = let t = r.claims.mates x j y p (r.claims.held j x (y + 1) p h) in (r.claims.bits y ∙ ap bit_of t.0, λ i z q l. t.1 z i q (r.claims.held i z (y + 1) q l))
+second_places s w n v (g, r) j x y p h = let t = r.claims.mates x j y p (r.claims.held j x (y + 1) p h) in (r.claims.bits y ∙ ap bit_of t.0, λ i z q l. t.1 z i q (r.claims.held i z (y + 1) q l))
 
 pub stages_viewed : StagesViewed
-stages_viewed s w n v g r j x m p = (
+stages_viewed s w n v (g, r) j x m p = (
   (r.claims.holds j x m p, r.claims.held j x m p),
   λ h. elim (dec_lt x (places s)) [ yes a ↦ a | no o ↦ absurd (not_open j m p (sym (r.claims.held j x m p h) ∙ r.claims.inside x (omega arith))) ],
 )
 
 pub draws_counted : DrawsCounted
-draws_counted s w n v g r one = r.claims.drawn one
+draws_counted s w n v (g, r) one = r.claims.drawn one
 
 pub unborn_blocks : UnbornBlocks
-unborn_blocks s w n v g r = (
+unborn_blocks s w n v (g, r) = (
   (λ j x m b h. r.claims.shape x j m (Drawn b) (r.claims.held j x m (Drawn b) h)),
   (λ j x m b h. r.claims.shape x j m (Half b) (r.claims.held j x m (Half b) h)),
   (λ j x m b h. r.claims.shape x j m (Whole b) (r.claims.held j x m (Whole b) h)),
@@ -44,7 +44,7 @@ unborn_blocks s w n v g r = (
 )
 
 pub unborn_claimed : UnbornClaimed
-unborn_claimed s w n v g r b x m u z = let t = r.claims.half b x m u z in (t.0, ⊎_elim (λ e. inl (r.claims.holds t.0 x m (Half b) e)) (λ e. inr (r.claims.holds t.0 x m (Whole b) e)) t.1)
+unborn_claimed s w n v (g, r) b x m u z = let t = r.claims.half b x m u z in (t.0, ⊎_elim (λ e. inl (r.claims.holds t.0 x m (Half b) e)) (λ e. inr (r.claims.holds t.0 x m (Whole b) e)) t.1)
 
 pub target_least : TargetLeast
-target_least s w n v g r a b = r.plan.aim a b
+target_least s w n v (g, r) a b = r.plan.aim a b

@@ -16,6 +16,8 @@ use Rattle.mesh_state.specs.Bisections.{IsPlaceOf, MayRead}
 use Rattle.mesh_state.specs.Sure.{GuardsBlock, GuardsHead, SureRule}
 use Rattle.mesh_state.proofs.Lists.{crew_goes}
 use Rattle.mesh_state.specs.Rule.{Rule}
+use Rattle.mesh_state.specs.Inside.{ListedOnce}
+use Rattle.mesh_state.proofs.Inside.{label_below, label_of, once_more}
 use Rattle.mesh_state.proofs.FoundAgain.{one_more}
 use Rattle.mesh_state.proofs.HeldClaims.{not_open, held_one}
 use Rattle.mesh_state.proofs.Across.{place_one, name_one}
@@ -125,10 +127,24 @@ module _ (s : Setup) (w : Words) (n : ℕ) (v : Views) (g : Ghost) (r : Rule s w
       drawn = r.drawn;
       draws = λ z i a b p e h f. ⊎_elim (λ t. let y = ap block_of t.3 in absurd (omega arith)) (λ t. r.draws z i a b p e t.1 f) (back z i a p h);
       crew = crew_goes s w.round v.ruling.phase v.kind v.work v.work g.stage v.ruling.lone x j m Claimed kind (λ _. refl) r.crew;
+      inside = record {
+        few = r.inside.few;
+        rows = r.inside.rows;
+        blocks = r.inside.blocks;
+        stand_in = r.inside.stand_in;
+        seconds = λ z i y p h. ⊎_elim (λ t. second_below y t.2) (λ t. r.inside.seconds z i y p t.1) (back z i (y + 1) p h);
+        hand_in = r.inside.hand_in;
+        retired_in = r.inside.retired_in;
+      };
+      named = r.named;
+      once = update_cases (λ _ cs. ListedOnce cs) v.claims j (claim x m Claimed ∷ v.claims j) (once_more (v.claims j) x m Claimed (λ a q h. not_open j a q (sym (r.claims.held j x a q h) ∙ open_)) (r.once j)) (λ i _. r.once i);
       holders = λ z i a p h. ⊎_elim (λ t. inr (ap v.kind t.1 ∙ kind)) (λ t. r.holders z i a p t.1) (back z i a p h);
       hand = r.hand;
     }
       where
+        second_below : (y : ℕ) → y + 1 ≡ m → y < places s
+        second_below y f = ⊎_elim (λ t. let q = t.0 in absurd (omega arith)) (λ t. let l = label_below s w.name w.free w.row g.life g.stage v.ruling.hand v.ruling.retired r.inside t.0 (t.1 + 1) (label_of s w n v g r d can t.0 (t.1 + 1) ((r.works j).found t.0 (t.1 + 1) t.4).1) in let e = t.2 in omega arith) mate
+
         new_mate : (z y : ℕ) → z ≡ x → y + 1 ≡ m → (stage' y ≡ Open) × ((q b : ℕ) (c : Progress) → stage' q ≡ Held b (y + 1) c → q ≡ z)
         new_mate z y e f = ⊎_elim (λ t. let q = t.0 in absurd (omega arith))
             (λ t. let same : t.0 ≡ y = one_more t.0 y (sym t.2 ∙ sym f) in let h : IsPlaceOf s w.name (g.who d) y (t.1 + 1) = subst (λ (u : ℕ). IsPlaceOf s w.name (g.who d) u (t.1 + 1)) same ((r.works j).found t.0 (t.1 + 1) t.4).1 in let a = no_second y t.1 t.3 h in

@@ -20,6 +20,8 @@ use Rattle.mesh_state.specs.Work.{WorkRule, WalkRule}
 use Rattle.mesh_state.proofs.Lists.{plan_update, crew_goes, number_kept}
 use Rattle.mesh_state.proofs.Lawful.{uses_block}
 use Rattle.mesh_state.specs.Rule.{Rule}
+use Rattle.mesh_state.specs.Inside.{ListedOnce}
+use Rattle.mesh_state.proofs.Inside.{inside_goes, inside_life, inside_block, labels_on, once_moved}
 use Rattle.mesh_state.proofs.FoundAgain.{placed, chained_stands, standing, reach_on, names_on, goes_on, workers_on, Moves}
 use Rattle.mesh_state.proofs.HeldClaims.{not_open, held_one, free_not, free_loose, loose_not, uses, used_life, shape_on, moved_on_has, moved_on_here, moved_on_keeps, place_of}
 use Rattle.mesh_state.proofs.Across.{Went, first_half}
@@ -46,7 +48,7 @@ module _ (s : Setup) (w : Words) (n : ℕ) (v : Views) (g : Ghost) (r : Rule s w
 
     module _ (q : Progress) (life : ℕ → Life) (used : (b : ℕ) → uses q ≡ b + 1 → (b ≡ w.row w.cursor) × (w.cursor < w.free) × (q ≡ Drawn b))
         (shape : Shape w.round w.head w.born life x m q) (drawn : draws q ≡ 1) (unlinked : (b : ℕ) → linked q ≡ b + 1 → ⊥) (not_half : (b : ℕ) → q ≡ Half b → ⊥) (not_whole : (b : ℕ) → q ≡ Whole b → ⊥) (not_living : (b : ℕ) → q ≡ Living b → ⊥)
-        (same_life : (c : ℕ) → (g.life c ≡ Free → ⊥) → life c ≡ g.life c) (back_life : (c y k : ℕ) → life c ≡ Placed y k → g.life c ≡ Placed y k) (undone_life : (c y k : ℕ) → life c ≡ Undone y k → g.life c ≡ Undone y k) (free_life : (i : ℕ) → w.cursor < i → i < w.free → life (w.row i) ≡ Free) (left_life : (c : ℕ) → g.life c ≡ Free → (life c ≡ Free) ⊎ ((w.cursor < w.free) × (w.row w.cursor ≡ c))) (e : ℕ) (below : w.cursor < w.free → e ≡ w.row w.cursor + 1) (above : w.free ≤ w.cursor → e ≡ 0) where
+        (same_life : (c : ℕ) → (g.life c ≡ Free → ⊥) → life c ≡ g.life c) (back_life : (c y k : ℕ) → life c ≡ Placed y k → g.life c ≡ Placed y k) (undone_life : (c y k : ℕ) → life c ≡ Undone y k → g.life c ≡ Undone y k) (free_life : (i : ℕ) → w.cursor < i → i < w.free → life (w.row i) ≡ Free) (left_life : (c : ℕ) → g.life c ≡ Free → (life c ≡ Free) ⊎ ((w.cursor < w.free) × (w.row w.cursor ≡ c))) (e : ℕ) (below : w.cursor < w.free → e ≡ w.row w.cursor + 1) (above : w.free ≤ w.cursor → e ≡ 0) (beyond : (c : ℕ) → s.pool ≤ c → life c ≡ Free) where
       abbrev stage' : ℕ → Stage
       stage' = update g.stage x (Held j m q)
 
@@ -131,7 +133,7 @@ module _ (s : Setup) (w : Words) (n : ℕ) (v : Views) (g : Ghost) (r : Rule s w
             record { head_is = λ z l f h. absurd f; hist_is = λ b t l f h. absurd f; died_is = λ b k f h. absurd f; name_is = λ b t k f h. absurd f; born_is = λ b k f h i. absurd f; row_is = λ b k f h i. absurd f }
             (λ i ne. sure_on s.elements v.ruling.workers v.ruling.workers w.head w.hist w.head w.hist w.born w.died w.name w.row w.born w.died w.name w.row g.stage stage' i (v.sure i)
             (λ z h. (head_was i ne z h, refl)) (λ c h. (block_was i ne c h, (λ _. refl), refl, λ _. refl)) (λ z e. (e, (λ _. refl), λ _. refl)) (r.sure i));
-        walks = update_cases (λ i u. WalkRule s w.round v.ruling.phase w.name w.hist w.born w.died life g.who (v.kind i) i u) v.work j noted (let u = walker j in record { still = u.still; only = u.only; half = u.half; absent = u.absent; stood = u.stood; had = u.had; went = u.went; walk = u.walk }) (λ i _. walker i);
+        walks = update_cases (λ i u. WalkRule s w.round v.ruling.phase w.name w.hist w.born w.died life g.who (v.kind i) i u) v.work j noted (let u = walker j in record { still = u.still; only = u.only; half = u.half; at_work = u.at_work; retired_in = u.retired_in; absent = u.absent; stood = u.stood; had = u.had; went = u.went; walk = u.walk; sided = u.sided }) (λ i _. walker i);
         goes = λ i. goes_on s w.name w.name w.head w.hist w.head w.hist w.born w.died w.born w.died g.life life (λ _ _ _ _ _. refl) w.round v.ruling.phase g.who v.read Can A moves (λ a p e. (inl (inr (a, e)), r.pins.past a p e)) (λ a p c e h x. (inl (a, e, h), x)) (λ p t. r.names.fits p t) i (r.goes i);
         rules = r.rules;
         stock = let k = r.stock in record { finished = k.finished; cursor_is = λ i e. absurd ((k.cursor_is i e).0 one); free_is = k.free_is; left = k.left; never = λ c l. ⊎_elim (λ e. ⊎_elim inl (λ t. inr (w.cursor, omega arith, t.0, t.1)) (left_life c e)) (λ t. let u = t.1 in inr (t.0, omega arith, t.2, t.3)) (k.never c l) };
@@ -150,6 +152,9 @@ module _ (s : Setup) (w : Words) (n : ℕ) (v : Views) (g : Ghost) (r : Rule s w
             (λ t. let u = used b (uses_block q b (sym (ap block_of t.3) ∙ f)) in let more = below u.1 in let same : e ≡ b + 1 = more ∙ ap (λ (y : ℕ). y + 1) (sym u.0) in (w.cursor, drawn_at i t.1 w.cursor (b + 1) (inl (λ y. (w.cursor, sym same y)))))
             (λ t. let u = r.draws z i k b p a t.1 f in (u.0, drawn_on i u.0 (b + 1) u.1)) (back z i k p h);
         crew = crew_goes s w.round v.ruling.phase v.kind v.work (update v.work j noted) g.stage v.ruling.lone x j m q kind (number_kept v.work j noted refl) r.crew;
+        inside = inside_goes s w.free w.row life g.stage v.ruling.hand v.ruling.retired x j m Claimed j q is (inside_life s w.free w.row g.life life g.stage v.ruling.hand v.ruling.retired beyond (λ c t y st. r.inside.stand_in c t y (back_stand c t y st)) r.inside);
+        named = labels_on s w.name w.name w.head w.head w.hist w.hist g.life life (λ c t y st. (stand c t y st, refl)) back_stand back_chain (λ _ _. refl) (λ _ _ _ _. refl) (λ c y k u. r.named.patch c y k (undone_life c y k u)) r.named;
+        once = update_cases (λ _ cs. ListedOnce cs) v.claims j (moved_on (v.claims j) x q) (once_moved (v.claims j) x q (r.once j)) (λ i _. r.once i);
         holders = λ z i k p h. ⊎_elim (λ t. inr (ap v.kind t.1 ∙ kind)) (λ t. r.holders z i k p t.1) (back z i k p h);
         hand = λ c h. absurd ((r.hand c h).0 one);
       }
@@ -209,7 +214,7 @@ module _ (s : Setup) (w : Words) (n : ℕ) (v : Views) (g : Ghost) (r : Rule s w
         (λ c y k u. dite (ℕ_discrete c b) (λ e. absurd (clash4 (x + 1) y k (sym (update_at g.life b c (Loose (x + 1)) e) ∙ u))) (λ o. sym (update_other g.life b c (Loose (x + 1)) o) ∙ u))
         (λ i a m. let t = r.claims.rows i (omega arith) m in update_other g.life b (w.row i) (Loose (x + 1)) (λ (e : w.row i ≡ b). let q = r.claims.apart i w.cursor (omega arith) m (omega arith) l e in omega arith) ∙ t.0)
         (λ c e. dite (ℕ_discrete c b) (λ k. inr (l, sym k)) (λ o. inl (update_other g.life b c (Loose (x + 1)) o ∙ e)))
-        (w.row w.cursor + 1) (λ _. refl) (λ a. absurd (omega arith))
+        (w.row w.cursor + 1) (λ _. refl) (λ a. absurd (omega arith)) (inside_block s g.life b (Loose (x + 1)) (r.inside.rows w.cursor l) r.inside.blocks)
       where
         clash1 : (b c : ℕ) → Drawn b ≡ Half c → ⊥
         clash1 b c e = cc
@@ -225,7 +230,7 @@ module _ (s : Setup) (w : Words) (n : ℕ) (v : Views) (g : Ghost) (r : Rule s w
 
     -- it is not: the round is full
     pub draws_none : w.free ≤ w.cursor → Rule s (record w { cursor = w.cursor + 1 }) n (record v { claims = update v.claims j (moved_on (v.claims j) x Failed); work = update v.work j (record (v.work j) { drawn = (w.cursor, 0) ∷ (v.work j).drawn }); sure = update v.sure j unsure }) (record g { stage = update g.stage x (Held j m Failed); life = g.life })
-    draws_none l = draws_any Failed g.life (λ c e. absurd (omega arith)) tt refl (λ c e. absurd (omega arith)) (λ c e. clash1 c e) (λ c e. clash2 c e) (λ c e. clash3 c e) (λ _ _. refl) (λ _ _ _ u. u) (λ _ _ _ u. u) (λ i a m. absurd (omega arith)) (λ c e. inl e) 0 (λ a. absurd (omega arith)) (λ _. refl)
+    draws_none l = draws_any Failed g.life (λ c e. absurd (omega arith)) tt refl (λ c e. absurd (omega arith)) (λ c e. clash1 c e) (λ c e. clash2 c e) (λ c e. clash3 c e) (λ _ _. refl) (λ _ _ _ u. u) (λ _ _ _ u. u) (λ i a m. absurd (omega arith)) (λ c e. inl e) 0 (λ a. absurd (omega arith)) (λ _. refl) r.inside.blocks
       where
         clash1 : (c : ℕ) → Failed ≡ Half c → ⊥
         clash1 c e = cc

@@ -9,12 +9,13 @@ use Rattle.mesh_words.specs.Places.{member_of, child_place}
 use Rattle.mesh_words.specs.Entries.{HasEntry}
 use Rattle.mesh_words.proofs.Functions.{update_at, update_other, update_cases}
 use Rattle.mesh_words.proofs.PlaceNumbers.{member_one, child_one}
-use Rattle.mesh_state.specs.Ghosts.{Held, Life, Loose, Placed, Undone, chained, Ghost}
+use Rattle.mesh_state.specs.Ghosts.{Held, Life, Loose, Placed, Undone, chained, stands, Ghost}
 use Rattle.mesh_state.specs.Chains.{IsPlace, ChainsRule}
 use Rattle.mesh_state.specs.Claims.{Shape, linked}
 use Rattle.mesh_state.specs.Bisections.{IsPlaceOf, MayRead}
 use Rattle.mesh_state.specs.Sure.{GuardsBlock, GuardsHead, SureRule}
 use Rattle.mesh_state.specs.Rule.{Rule}
+use Rattle.mesh_state.proofs.Inside.{labels_on}
 use Rattle.mesh_state.proofs.FoundAgain.{seen_on, seen_live, names_on, goes_on, workers_on, SameNames, Moves}
 use Rattle.mesh_state.proofs.ChainSteps.{moves_same, chains_apart}
 use Rattle.mesh_state.proofs.BlockSteps.{resets}
@@ -58,6 +59,9 @@ module _ (s : Setup) (w : Words) (n : ℕ) (v : Views) (g : Ghost) (r : Rule s w
   other : (c : ℕ) (t : Bool) (y : ℕ) → chained (g.life c) t ≡ y + 1 → c ≢ b
   other c t y h e = let z : 0 ≡ y + 1 = sym (ap (λ (l : Life). chained l t) (ap g.life e ∙ loose)) ∙ h in omega arith
 
+  stood : (c : ℕ) (t : Bool) (y : ℕ) → stands (g.life c) t ≡ y + 1 → c ≢ b
+  stood c t y h e = let z : 0 ≡ y + 1 = sym (ap (λ (l : Life). stands l t) (ap g.life e ∙ loose)) ∙ h in omega arith
+
   -- no other seat guards the block
   mine_only : (i c : ℕ) → GuardsBlock v.ruling.workers g.stage i c → c ≡ b → i ≡ j
   mine_only i c h e = ⊎_elim (λ o. let z = some_worker s w n v g r j kind in let y = o.1 in absurd (omega arith)) (λ o. ⊎_elim (λ f. holder o.0 i o.1 (Drawn c) f refl) (λ f. holder o.0 i o.1 (Half c) f refl) o.2) h
@@ -76,7 +80,7 @@ module _ (s : Setup) (w : Words) (n : ℕ) (v : Views) (g : Ghost) (r : Rule s w
         clash u y k e = cc
 
     same : SameNames g.life w.name name'
-    same c t i y h = (off c (other c i y h)).2 t
+    same c t i y h = (off c (stood c i y h)).2 t
 
     place_on : (y k : ℕ) → IsPlaceOf s w.name (g.who d) y k → IsPlaceOf s name' (g.who d) y k
     place_on y k h = seen_on s w.name name' w.head w.hist w.head hist' w.born w.died w.born died' g.life g.life same (g.who d) d y k (r.names.fits d can) h
@@ -86,7 +90,7 @@ module _ (s : Setup) (w : Words) (n : ℕ) (v : Views) (g : Ghost) (r : Rule s w
       names_apart = r.names_apart;
       claims = r.claims;
       labels = λ z i k p h e. let l = r.labels z i k p h e in
-          (l.0, l.1, place_on z l.0 l.2, l.3, (λ c f. let at = linked_placed w.round w.head w.born g.life z k p c (r.claims.shape z i k p h) f in same c false false z (ap (λ (y : Life). chained y false) at) ∙ l.4 c f), ⊎_elim inl (λ t. inr (t.0, t.1, t.2, t.3, place_on t.0 (t.1 + 1) t.4, t.5)) l.5, l.6);
+          (l.0, l.1, place_on z l.0 l.2, l.3, (λ c f. let at = linked_placed w.round w.head w.born g.life z k p c (r.claims.shape z i k p h) f in same c false false z (ap (λ (y : Life). stands y false) at) ∙ l.4 c f), ⊎_elim inl (λ t. inr (t.0, t.1, t.2, t.3, place_on t.0 (t.1 + 1) t.4, t.5)) l.5, l.6);
       chains = step_chains.0;
       names = names_on s w.name name' w.head w.hist w.head hist' w.born w.died w.born died' g.life g.life same w.round v.ruling.phase g.who v.read Can A step_chains.1 (λ _ k. k)
           (λ c y k h. let o = off c (other c false y (ap (λ (l : Life). chained l false) h)) in subst (λ (i : ℕ × ℕ). (s.leads i.0 ≡ 1) × (i.1 ≡ s.mate i.0) × ((k ≡ 0) × (s.mate i.0 ≡ 0) ⊎ ((a : ℕ) × (e : ℕ) × (k ≡ a + 1) × (s.mate i.0 ≡ e + 1)))) (λ t. (sym (o.2 false) t, sym (o.2 true) t)) (r.names.patch c y k h))
@@ -113,6 +117,9 @@ module _ (s : Setup) (w : Words) (n : ℕ) (v : Views) (g : Ghost) (r : Rule s w
       drawn = r.drawn;
       draws = r.draws;
       crew = r.crew;
+      inside = r.inside;
+      named = labels_on s w.name name' w.head w.head w.hist hist' g.life g.life (λ c t y st. (st, (off c (stood c t y st)).2 t)) (λ _ _ _ st. st) (λ _ _ _ ch. ch) (λ _ _. refl) (λ c t y st. (off c (stood c t y st)).0 t) (λ c y k h. subst (λ (i : ℕ × ℕ). (s.leads i.0 ≡ 1) × (i.1 ≡ s.mate i.0) × ((k ≡ 0) × (s.mate i.0 ≡ 0) ⊎ ((a : ℕ) × (e : ℕ) × (k ≡ a + 1) × (s.mate i.0 ≡ e + 1)))) (λ t. let o = off c (stood c false y (ap (λ (l : Life). stands l false) h)) in (sym (o.2 false) t, sym (o.2 true) t)) (r.named.patch c y k h)) r.named;
+      once = r.once;
       holders = r.holders;
       hand = r.hand;
     }
@@ -195,6 +202,9 @@ module _ (s : Setup) (w : Words) (n : ℕ) (v : Views) (g : Ghost) (r : Rule s w
         drawn = r.drawn;
         draws = r.draws;
         crew = r.crew;
+        inside = r.inside;
+        named = labels_on s w.name w.name w.head head' w.hist w.hist g.life g.life (λ _ _ _ st. (st, refl)) (λ _ _ _ st. st) (λ _ _ _ ch. ch) (λ y live. ap (λ (i : Node). i.block) (stays y live)) (λ _ _ _ _. refl) r.named.patch r.named;
+        once = r.once;
         holders = r.holders;
         hand = r.hand;
       }

@@ -2,15 +2,15 @@
 use Rattle.std.proofs.Common.{◌≡◌, ◌≢◌, ℕ, ◌+◌, ◌<◌, ◌≤◌, Bool, true, false, ◌⊎◌, refl, sym, ap, ◌∙◌, subst, inl, inr, ⊎_elim, arith}
 use mathlib.Core.Logic.{dite}
 use native.Mathlib.Decide.{ℕ_discrete}
-use Rattle.mesh_words.specs.Setup.{Setup}
+use Rattle.mesh_words.specs.Setup.{Setup, places}
 use Rattle.mesh_words.specs.Functions.{update}
 use Rattle.mesh_words.specs.Words.{Words, Node, node}
 use Rattle.mesh_words.specs.Views.{Views}
 use Rattle.mesh_words.specs.Claims.{Progress, Drawn, Half, Whole, claim, moved_on}
 use Rattle.mesh_words.specs.Places.{member_of, child_place}
 use Rattle.mesh_words.specs.Entries.{HasEntry, Noted}
-use Rattle.mesh_words.proofs.Functions.{update_same, update_at, update_other}
-use Rattle.mesh_state.specs.Ghosts.{Held, Life, Loose, Placed, Undone, stands, Ghost}
+use Rattle.mesh_words.proofs.Functions.{update_same, update_at, update_other, update_cases}
+use Rattle.mesh_state.specs.Ghosts.{chained, Held, Life, Loose, Placed, Undone, stands, Ghost}
 use Rattle.mesh_state.specs.Chains.{IsPlace, ChainsRule}
 use Rattle.mesh_state.specs.Claims.{block_of, Shape, linked, draws}
 use Rattle.mesh_state.specs.Bisections.{MayRead, IsPatch}
@@ -18,8 +18,10 @@ use Rattle.mesh_state.specs.Sure.{GuardsBlock, GuardsHead}
 use Rattle.mesh_state.proofs.Lists.{crew_goes}
 use Rattle.mesh_state.proofs.Lists.{draws_goes}
 use Rattle.mesh_state.specs.Rule.{Rule}
-use Rattle.mesh_state.proofs.FoundAgain.{one_more, placed, seen_live, names_on, goes_on, workers_on, Moves}
-use Rattle.mesh_state.proofs.ChainSteps.{links_first, named}
+use Rattle.mesh_state.specs.Inside.{IsLabel, ListedOnce}
+use Rattle.mesh_state.proofs.Inside.{below_pool, inside_goes, inside_life, inside_block, label_below, label_of, label_one, label_on, once_moved}
+use Rattle.mesh_state.proofs.FoundAgain.{chained_stands, one_more, placed, seen_live, names_on, goes_on, workers_on, Moves}
+use Rattle.mesh_state.proofs.ChainSteps.{links_first, named, older_named}
 use Rattle.mesh_state.proofs.HeldClaims.{not_open, held_one, loose_not, free_not, free_loose, placed_one, uses, used_life, shape_on, one_user, heads_apart}
 use Rattle.mesh_state.proofs.Across.{Went, Of, some_worker, first_half, name_one, settled}
 use Rattle.mesh_state.proofs.SureWords.{sure_on, block_back, head_back, not_kid}
@@ -154,10 +156,63 @@ module _ (s : Setup) (w : Words) (n : ℕ) (v : Views) (g : Ghost) (r : Rule s w
       drawn = r.drawn;
       draws = draws_goes v.ruling.phase v.work g.stage x j m (Drawn b) q is (λ c e. ⊎_elim (λ f. sym (ap block_of f) ∙ e) (λ f. sym (ap block_of f.0) ∙ e) how) r.draws;
       crew = crew_goes s w.round v.ruling.phase v.kind v.work v.work g.stage v.ruling.lone x j m q kind (λ _. refl) r.crew;
+      inside = inside_goes s w.free w.row life' g.stage v.ruling.hand v.ruling.retired x j m (Drawn b) j q is (inside_life s w.free w.row g.life life' g.stage v.ruling.hand v.ruling.retired (inside_block s g.life b (Placed x m) in_pool r.inside.blocks) stand_in r.inside);
+      named = record {
+        heads = λ y c t l e ch. ⊎_elim
+            (λ a. dite (ℕ_discrete y x)
+            (λ f. let same : c ≡ b = one_more c b (sym e ∙ ap (λ (i : Node). i.block) (update_at w.head x y (node (b + 1) 0) f)) in
+            subst (λ (i : ℕ). IsLabel s w.name life' y (w.name (member_of i t))) (sym same) (new_label_on y (w.name (member_of b t)) (own_label t y (sym (ap (λ (l : Life). stands l t) (update_at g.life b c (Placed x m) same)) ∙ chained_stands (life' c) t y ch))))
+            (λ o. let e0 = sym (ap (λ (i : Node). i.block) (update_other w.head x y (node (b + 1) 0) o)) ∙ e in new_label_on y (w.name (member_of c t)) (r.named.heads y c t a e0 (old_chain c t y (unnamed y c a e0) ch))))
+            (λ k. let z : 0 ≡ c + 1 = sym (ap (λ (i : Node). i.block) k) ∙ e in absurd (omega arith)) (old_place y l);
+        hists = λ a c z t u st e ch. dite (ℕ_discrete a b)
+            (λ f. let sb : stands (Placed x m) t ≡ z + 1 = sym (ap (λ (l : Life). stands l t) (update_at g.life b a (Placed x m) f)) ∙ st in let o = old t z sb in
+            let e0 : (w.head z).block ≡ c + 1 = sym (ap (λ (i : Node). i.block) (ap (λ (i : ℕ). w.hist (member_of i t)) f ∙ o.0)) ∙ e in
+            label_one s w.name g.life z (w.name (member_of c u)) (w.name (member_of a t)) (r.named.heads z c u o.1 e0 (old_chain c u z (unnamed z c o.1 e0) ch)) (subst (λ (i : ℕ). IsLabel s w.name g.life z (w.name (member_of i t))) (sym f) (own_label t z sb)))
+            (λ o. let st0 = sym (ap (λ (l : Life). stands l t) (off a o)) ∙ st in r.named.hists a c z t u st0 e (old_chain c u z (λ f. let k = older_named Can A s.elements w.round w.head w.hist w.born w.died g.life r.chains z c (w.born a) (w.hist (member_of a t)) (r.chains.hists a t z st0) e in not_chained k.0 z (subst (λ (i : ℕ). chained (g.life i) k.0 ≡ z + 1) f k.1)) ch));
+        patch = λ c y k u. dite (ℕ_discrete c b) (λ e. absurd (placed_undone x m y k (sym (update_at g.life b c (Placed x m) e) ∙ u))) (λ o. r.named.patch c y k (sym (off c o) ∙ u));
+      };
+      once = update_cases (λ _ cs. ListedOnce cs) v.claims j (moved_on (v.claims j) x q) (once_moved (v.claims j) x q (r.once j)) (λ i _. r.once i);
       holders = λ z i c p h. dite (ℕ_discrete z x) (λ f. let t = (held_one j i m c q p (sym (update_at g.stage x z (Held j m q) f) ∙ h)).0 in inr (ap v.kind (sym t) ∙ kind)) (λ o. r.holders z i c p (sym (update_other g.stage x z (Held j m q) o) ∙ h));
       hand = λ c h. absurd ((r.hand c h).0 one);
     }
       where
+        in_pool : b < s.pool
+        in_pool = below_pool s w.free w.row g.life g.stage v.ruling.hand v.ruling.retired r.inside b (λ e. free_loose (x + 1) (sym e ∙ shape.0))
+
+        stay : (a : ℕ) (u : Bool) (z : ℕ) → stands (g.life a) u ≡ z + 1 → stands (life' a) u ≡ z + 1
+        stay a u z h = ap (λ (l : Life). stands l u) (off a (λ (e : a ≡ b). let y : 0 ≡ z + 1 = sym (ap (λ (l : Life). stands l u) (ap g.life e ∙ shape.0)) ∙ h in omega arith)) ∙ h
+
+        -- the NAME words are the names of the elements at the claim's places
+        own_label : (t : Bool) (y : ℕ) → stands (Placed x m) t ≡ y + 1 → IsLabel s w.name g.life y (w.name (member_of b t))
+        own_label false y st = subst (λ (i : ℕ × ℕ). IsLabel s w.name g.life i.0 i.1) (λ u. (one_more x y st u, sym first_name u)) (label_of s w n v g r d can x k ((r.works j).found x k place).1)
+        own_label true y st = ⊎_elim (λ z. let q : 0 ≡ y + 1 = sym z.0 ∙ st in absurd (omega arith))
+            (λ z. subst (λ (i : ℕ × ℕ). IsLabel s w.name g.life i.0 i.1) (λ u. (one_more z.0 y (sym z.2 ∙ st) u, sym ((r.sure j).name_is b true (s.mate k) name1 guard ∙ z.3) u)) (label_of s w n v g r d can z.0 (z.1 + 1) ((r.works j).found z.0 (z.1 + 1) z.4).1)) mate
+
+        stand_in : (c : ℕ) (t : Bool) (y : ℕ) → stands (life' c) t ≡ y + 1 → y < places s
+        stand_in c t y st = dite (ℕ_discrete c b)
+            (λ e. label_below s w.name w.free w.row g.life g.stage v.ruling.hand v.ruling.retired r.inside y (w.name (member_of b t)) (own_label t y (sym (ap (λ (l : Life). stands l t) (update_at g.life b c (Placed x m) e)) ∙ st)))
+            (λ o. r.inside.stand_in c t y (sym (ap (λ (l : Life). stands l t) (off c o)) ∙ st))
+
+        not_chained : (t : Bool) (y : ℕ) → chained (g.life b) t ≡ y + 1 → ⊥
+        not_chained t y h = let p = placed (g.life b) t y h in loose_not (x + 1) p.0 p.1 (sym shape.0 ∙ p.2)
+
+        -- no LINK of a place at work named the block
+        unnamed : (y c : ℕ) → IsPlace s.elements g.life y → (w.head y).block ≡ c + 1 → c ≡ b → ⊥
+        unnamed y c a e f = let k = named Can A s.elements w.round w.head w.hist w.born w.died g.life r.chains y c (w.head y) (r.chains.heads y a) e in not_chained k.0 y (subst (λ (i : ℕ). chained (g.life i) k.0 ≡ y + 1) f k.1)
+
+        old_chain : (c : ℕ) (t : Bool) (y : ℕ) → (c ≡ b → ⊥) → chained (life' c) t ≡ y + 1 → chained (g.life c) t ≡ y + 1
+        old_chain c t y o ch = ap (λ (l : Life). chained l t) (sym (off c o)) ∙ ch
+
+        -- a place at work now was one before, or is of a child of the block, whose LINK names nothing
+        old_place : (y : ℕ) → IsPlace s.elements life' y → IsPlace s.elements g.life y ⊎ (head' y ≡ node 0 0)
+        old_place y (inl l) = inl (inl l)
+        old_place y (inr k) = dite (ℕ_discrete k.0 b)
+            (λ e. inr (update_other w.head x y (node (b + 1) 0) (λ f. not_kid s.elements g.life x b (x + 1) k.1 k.2 (live x (inl refl)) shape.0 (sym f ∙ k.4 ∙ ap (λ (i : ℕ). child_place s.elements i k.1 k.2) e)) ∙ ap w.head (k.4 ∙ ap (λ (i : ℕ). child_place s.elements i k.1 k.2) e) ∙ (r.sure j).head_is (child_place s.elements b k.1 k.2) (node 0 0) (kids k.1 k.2) (inr (x, m, b, inl (is, inr (inr (k.1, k.2, refl)))))))
+            (λ o. inl (inr (k.0, k.1, k.2, k.3, k.4, ap (λ (l : Life). stands l false) (sym (off k.0 o)) ∙ k.5)))
+
+        new_label_on : (y k : ℕ) → IsLabel s w.name g.life y k → IsLabel s w.name life' y k
+        new_label_on = label_on s w.name w.name g.life life' (λ a u z h. (stay a u z h, refl))
+
         new_half : Shape w.round (update w.head x (node (b + 1) 0)) w.born (update g.life b (Placed x m)) x m (Half b)
         new_half = (update_same g.life b (Placed x m), shape.1, update_same w.head x (node (b + 1) 0), λ y f h. no_second y f (sym (ap (λ (l : Node). l.block) (update_other w.head x y (node (b + 1) 0) (λ (e : y ≡ x). apart (f ∙ ap (λ (t : ℕ). t + 1) e)))) ∙ h))
           where

@@ -14,6 +14,25 @@ use Rattle.mesh_state.specs.Work.{IsWorkPlace, WorkWalks, WalkRule}
 use Rattle.mesh_state.specs.Readers.{Walks, ReaderRule}
 use Rattle.mesh_state.specs.Fresh.{idle}
 
+pub still_not : (x n b : ℕ) (t : Bool) → (Still ≡ At x n b t) ⊎ (Still ≡ Past x n b t) → ⊥
+still_not x n b t (inl e) = clash e
+  where
+    clash : Still ≡ At x n b t → ⊥
+    clash e = cc
+still_not x n b t (inr e) = clash e
+  where
+    clash : Still ≡ Past x n b t → ⊥
+    clash e = cc
+
+pub at_past : (x n b : ℕ) (t : Bool) (y m c : ℕ) (u : Bool) → At x n b t ≡ Past y m c u → ⊥
+at_past x n b t y m c u e = cc
+
+pub at_one : (x n b : ℕ) (t : Bool) (y m c : ℕ) (u : Bool) → At x n b t ≡ At y m c u → (x ≡ y) × (n ≡ m) × (b ≡ c) × (t ≡ u)
+at_one x n b t y m c u e = (cc, cc, cc, cc)
+
+pub past_one : (x n b : ℕ) (t : Bool) (y m c : ℕ) (u : Bool) → Past x n b t ≡ Past y m c u → (x ≡ y) × (n ≡ m) × (b ≡ c) × (t ≡ u)
+past_one x n b t y m c u e = (cc, cc, cc, cc)
+
 pub one_more : (a b : ℕ) → a + 1 ≡ b + 1 → a ≡ b
 one_more a b e = omega arith
 
@@ -127,14 +146,14 @@ pub record Moves (K : ℕ → Type 0) (A : ℕ → ℕ → Type 0) (e round : �
   pub stand : (q b : ℕ) (t : Bool) (x : ℕ) → K q → A q b → stands (life b) t ≡ x + 1 → stands (life' b) t ≡ x + 1
   pub alive : (q b : ℕ) (t : Bool) (x : ℕ) → q ≤ round → stands (life b) t ≡ x + 1 → (died b ≡ 0) ⊎ (q < died b) → (died' b ≡ 0) ⊎ (q < died' b)
 
--- the names of placed blocks stay
+-- the names of blocks that stand stay
 abbrev pub SameNames : (ℕ → Life) → (ℕ → ℕ) → (ℕ → ℕ) → Type 0
-SameNames life name name' = (b : ℕ) (t u : Bool) (x : ℕ) → chained (life b) u ≡ x + 1 → name' (member_of b t) ≡ name (member_of b t)
+SameNames life name name' = (b : ℕ) (t u : Bool) (x : ℕ) → stands (life b) u ≡ x + 1 → name' (member_of b t) ≡ name (member_of b t)
 
 module _ (s : Setup) (name name' : ℕ → ℕ) (head hist head' hist' : ℕ → Node) (born died born' died' : ℕ → ℕ) (life life' : ℕ → Life) (same : SameNames life name name') where
   pub seen_on : (who : ℕ → ℕ) (q x n : ℕ) → Fits s name head hist born died life who q → IsPlaceOf s name who x n → IsPlaceOf s name' who x n
   seen_on who q x n f (inl a) = inl a
-  seen_on who q x n f (inr k) = let b = k.0 in let t = k.1 in let h = f.found (name (member_of b t)) b k.4 in let e : name' (member_of b t) ≡ name (member_of b t) = same b t h.0 h.1 h.3 in
+  seen_on who q x n f (inr k) = let b = k.0 in let t = k.1 in let h = f.found (name (member_of b t)) b k.4 in let e : name' (member_of b t) ≡ name (member_of b t) = same b t h.0 h.1 (chained_stands (life b) h.0 h.1 h.3) in
       inr (b, t, k.2, k.3, ap who e ∙ k.4, k.5 ∙ ap (λ (y : ℕ). s.child y k.2) (sym e))
 
   pub seen_live : (who : ℕ → ℕ) (q x n : ℕ) → Fits s name head hist born died life who q → IsPlaceOf s name who x n → IsPlace s.elements life x
@@ -145,17 +164,17 @@ module _ (s : Setup) (name name' : ℕ → ℕ) (head hist head' hist' : ℕ →
     pub fits_on : (q : ℕ) → K q → Fits s name head hist born died life (who q) q → Fits s name' head' hist' born' died' life' (who q) q
     fits_on q k f = record {
       found = λ n b w. let h = f.found n b w in let c = found_covers hist born died life q h.1 b h.5.0 (head h.1) h.5.1 in
-          (h.0, h.1, same b h.0 h.0 h.1 h.3 ∙ h.2, m.stays q b h.0 h.1 k c h.3, seen_on (who q) q h.1 n f h.4, m.heads q h.1 b k (seen_live (who q) q h.1 n f h.4) h.5);
+          (h.0, h.1, same b h.0 h.0 h.1 (chained_stands (life b) h.0 h.1 h.3) ∙ h.2, m.stays q b h.0 h.1 k c h.3, seen_on (who q) q h.1 n f h.4, m.heads q h.1 b k (seen_live (who q) q h.1 n f h.4) h.5);
       both = λ b y t u w e. both_on b y t u w e;
     }
       where
         both_on : (b y : ℕ) (t u : Bool) → who q (name' (member_of b t)) ≡ b + 1 → chained (life' b) u ≡ y + 1 → who q (name' (member_of b u)) ≡ b + 1
         both_on b y t u w e = let h = f.found (name' (member_of b t)) b w in let c = found_covers hist born died life q h.1 b h.5.0 (head h.1) h.5.1 in
             let e' : chained (life b) u ≡ y + 1 = m.fresh q b u y k (m.on q b h.0 h.1 k (chained_stands (life b) h.0 h.1 h.3) c) e in
-            ap (who q) (same b u u y e') ∙ f.both b y t u (ap (who q) (sym (same b t u y e')) ∙ w) e'
+            let st = chained_stands (life b) u y e' in ap (who q) (same b u u y st) ∙ f.both b y t u (ap (who q) (sym (same b t u y st)) ∙ w) e'
 
     pub sound_on : (q : ℕ) → K q → Fits s name head hist born died life (who q) q → IsSound s name born died life (who q) q → IsSound s name' born' died' life' (who q) q
-    sound_on q k f h b t x e c = let e' = m.fresh q b t x k c e in let u = h b t x e' (m.back q b t x k e' c) in let n : name' (member_of b t) ≡ name (member_of b t) = same b t t x e' in
+    sound_on q k f h b t x e c = let e' = m.fresh q b t x k c e in let u = h b t x e' (m.back q b t x k e' c) in let n : name' (member_of b t) ≡ name (member_of b t) = same b t t x (chained_stands (life b) t x e') in
         (ap (who q) n ∙ u.0, subst (λ (y : ℕ). IsPlaceOf s name' (who q) x y) (sym n) (seen_on (who q) q x _ f u.1))
 
     -- where no round's bisection changes
@@ -175,6 +194,7 @@ module _ (s : Setup) (name name' : ℕ → ℕ) (head hist head' hist' : ℕ →
     goes_on pinned gone fits j g = record {
       went = λ q b p h. let t = g.went q b p h in let k = pinned j q p in ((t.0.0, t.0.1, m.stand q b t.0.0 t.0.1 k.0 (gone j q b p h t.1) t.0.2), m.alive q b t.0.0 t.0.1 k.1 t.0.2 t.1);
       walk = λ q p. walk_on q p (read j).walk (g.walk q p);
+      sided = λ q x n b t p h. same b t t x (⊎_elim (λ e. let k : Walks s name hist born died life (who q) q (read j).went (At x n b t) = subst (Walks s name hist born died life (who q) q (read j).went) e (g.walk q p) in k.1) (λ e. let k : Walks s name hist born died life (who q) q (read j).went (Past x n b t) = subst (Walks s name hist born died life (who q) q (read j).went) e (g.walk q p) in k.1) h) ∙ g.sided q x n b t p h;
       places = λ q x n p h. seen_on (who q) q x n (fits q (pinned j q p).0) (g.places q x n p h);
       yes_notes = g.yes_notes;
       no_notes = g.no_notes;
@@ -195,11 +215,14 @@ module _ (s : Setup) (name name' : ℕ → ℕ) (head hist head' hist' : ℕ →
       still = g.still;
       only = g.only;
       half = g.half;
+      at_work = g.at_work;
+      retired_in = g.retired_in;
       absent = g.absent;
       stood = λ x n h. seen_on (who round) round x n last (g.stood x n h);
       had = g.had;
       went = λ b h. let t = g.went b h in ((t.0.0, t.0.1, m.stand round b t.0.0 t.0.1 now (gone b (worker b h) h t.1) t.0.2), m.alive round b t.0.0 t.0.1 (omega arith) t.0.2 t.1);
       walk = walk_on v.walk g.walk;
+      sided = λ x n b t h. same b t t x (⊎_elim (λ e. let k : WorkWalks s round phase name hist born died life who v.went (At x n b t) = subst (WorkWalks s round phase name hist born died life who v.went) e g.walk in k.1) (λ e. let k : WorkWalks s round phase name hist born died life who v.went (Past x n b t) = subst (WorkWalks s round phase name hist born died life who v.went) e g.walk in k.1) h) ∙ g.sided x n b t h;
     }
       where
         worker : (b : ℕ) → HasEntry v.went b → kind ≡ 1
@@ -222,11 +245,14 @@ workers_who s round phase name hist born died life who who' same more kind seat 
   still = g.still;
   only = g.only;
   half = g.half;
+  at_work = g.at_work;
+  retired_in = g.retired_in;
   absent = λ n h. ap (λ (f : ℕ → ℕ). f n) same ∙ g.absent n h;
   stood = λ x n h. subst (λ (f : ℕ → ℕ). IsPlaceOf s name f x n) (sym same) (g.stood x n h);
   had = λ b n h. ap (λ (f : ℕ → ℕ). f n) same ∙ g.had b n h;
   went = g.went;
   walk = walk_on v.walk g.walk;
+  sided = g.sided;
 }
   where
     place_on : (x n : ℕ) → IsWorkPlace s round phase name who x n → IsWorkPlace s round phase name who' x n
@@ -238,8 +264,8 @@ workers_who s round phase name hist born died life who who' same more kind seat 
     walk_on (Past x n b t) h = (h.0, h.1, place_on x n h.2, λ c w. h.3 c (sym (ap (λ (f : ℕ → ℕ). f n) same) ∙ w))
 
 -- a seat that does not walk
-pub walks_idle : (s : Setup) (round phase : ℕ) (name : ℕ → ℕ) (hist : ℕ → Node) (born died : ℕ → ℕ) (life : ℕ → Life) (who : ℕ → ℕ → ℕ) (kind seat half number : ℕ) (plan : Plan) → (kind ≡ 1 → half ≡ phase) → WalkRule s round phase name hist born died life who kind seat (record idle { half = half; number = number; plan = plan })
-walks_idle s round phase name hist born died life who kind seat half number plan said = record { half = said; still = λ _. (refl, refl); only = λ _ _. (refl, refl, refl, refl); absent = λ n h. absurd h; stood = λ x n h. absurd h; had = λ b n h. absurd h; went = λ b h. absurd h; walk = tt }
+pub walks_idle : (s : Setup) (round phase : ℕ) (name : ℕ → ℕ) (hist : ℕ → Node) (born died : ℕ → ℕ) (life : ℕ → Life) (who : ℕ → ℕ → ℕ) (kind seat half work number : ℕ) (plan : Plan) → (kind ≡ 1 → half ≡ phase) → (kind ≡ 1 → work ≡ round + 1) → WalkRule s round phase name hist born died life who kind seat (record idle { half = half; round = work; number = number; plan = plan })
+walks_idle s round phase name hist born died life who kind seat half work number plan said at_work = record { half = said; at_work = at_work; retired_in = λ b h. absurd h; still = λ _. (refl, refl); only = λ _ _. (refl, refl, refl, refl); absent = λ n h. absurd h; stood = λ x n h. absurd h; had = λ b n h. absurd h; went = λ b h. absurd h; walk = tt; sided = λ x n b t h. absurd (still_not x n b t h) }
 
 -- a seat that is no worker's keeps what it knows of the last finished round
 pub walks_home : (s : Setup) (round phase phase' : ℕ) (name : ℕ → ℕ) (hist hist' : ℕ → Node) (born died born' died' : ℕ → ℕ) (life life' : ℕ → Life) (who : ℕ → ℕ → ℕ) (kind seat : ℕ) (v : Work) → (kind ≡ 1 → ⊥) → WalkRule s round phase name hist born died life who kind seat v → WalkRule s round phase' name hist' born' died' life' who kind seat v
@@ -247,11 +273,14 @@ walks_home s round phase phase' name hist hist' born died born' died' life life'
   still = g.still;
   only = g.only;
   half = λ e. absurd (other e);
+  at_work = λ e. absurd (other e);
+  retired_in = g.retired_in;
   absent = g.absent;
   stood = g.stood;
   had = g.had;
   went = λ b h. absurd (subst (λ (l : List ℕ). HasEntry l b) e.0 h);
   walk = subst (λ (u : Walk). WorkWalks s round phase' name hist' born' died' life' who v.went u) (sym e.1) tt;
+  sided = g.sided;
 }
 
 -- readers see the finished rounds only
@@ -260,6 +289,7 @@ pub goes_who : (s : Setup) (round : ℕ) (name : ℕ → ℕ) (hist : ℕ → No
 goes_who s round name hist born died life who who' same v low g = record {
   went = g.went;
   walk = λ q p. subst (λ (f : ℕ → ℕ). Walks s name hist born died life f q v.went v.walk) (sym (same q (low q p))) (g.walk q p);
+  sided = g.sided;
   places = λ q x n p h. subst (λ (f : ℕ → ℕ). IsPlaceOf s name f x n) (sym (same q (low q p))) (g.places q x n p h);
   yes_notes = λ n q h. let t = g.yes_notes n q h in (t.0, (t.1.0, ap (λ (f : ℕ → ℕ). f n) (same q t.0) ∙ t.1.1));
   no_notes = λ n q h. let t = g.no_notes n q h in (t.0, ap (λ (f : ℕ → ℕ). f n) (same q t.0) ∙ t.1);

@@ -4,7 +4,7 @@ use Rattle.mesh_words.specs.Entries.{Noted, EntryAt, HasEntry}
 use Rattle.mesh_words.specs.Setup.{Setup, NamesApart, setup_of}
 use Rattle.mesh_words.proofs.CodedNames.{codes_apart}
 use Rattle.mesh_state.specs.Sure.{SureRule}
-use Rattle.mesh_state.specs.Fresh.{idle, noted_below, fresh_words, fresh_kind, fresh_sure, fresh_views, fresh_ghost, FreshIsLawful}
+use Rattle.mesh_state.specs.Fresh.{idle, numbers_below, noted_below, fresh_words, fresh_kind, fresh_sure, fresh_views, fresh_ghost, FreshIsLawful}
 use Rattle.mesh_words.specs.Sums.{sum_below, one_where}
 use Rattle.mesh_words.specs.Views.{no_plan}
 use Rattle.mesh_words.specs.Words.{node}
@@ -12,7 +12,7 @@ use Rattle.mesh_state.specs.Ghosts.{Open, Free, Placed, Undone}
 use Rattle.mesh_state.specs.Lists.{Holds}
 use Rattle.mesh_state.proofs.Lists.{none_drawn, crew_free}
 use Rattle.mesh_state.specs.Rule.{Rule}
-use Rattle.mesh_state.proofs.FoundAgain.{walks_idle}
+use Rattle.mesh_state.proofs.FoundAgain.{still_not, walks_idle}
 use Rattle.mesh_state.proofs.HeldClaims.{not_open}
 
 noted_is : (n : ℕ) (f : ℕ → ℕ) (i a : ℕ) → Noted (noted_below n f) i a → (i < n) × (f i ≡ a)
@@ -22,6 +22,11 @@ noted_is (suc n) f i a (inr t) = let r = noted_is n f i a t.1 in let l = r.0 in 
 
 row_is : (pool i : ℕ) → i < pool → (fresh_words pool).row i ≡ i
 row_is pool i l = ap (λ (t : Bool). cond t i 0) (lt-ltb i pool l)
+
+listed : (n b : ℕ) → HasEntry (numbers_below n) b → b < n
+listed zero b h = absurd h
+listed (suc n) b (inl e) = omega arith
+listed (suc n) b (inr h) = let l = listed n b h in omega arith
 
 none_in : (n : ℕ) → ◌≡◌ {A = ℕ} (sum_below n (λ _. 0)) 0
 none_in zero = refl
@@ -62,9 +67,9 @@ starts s a = record {
   };
   pins = record { now = refl; later = λ q l. (refl, refl); count = λ q. let z : one_where 0 (q + 1) ≡ 0 = ap (λ (t : Bool). cond {A = ℕ} t 1 0) (ne_eqb 0 (q + 1) (λ (e : 0 ≡ q + 1). omega arith)) in omega arith; past = λ j q e. absurd (omega arith); few = λ j l. few j l; readers = λ j o. (refl, refl); bit = λ j. omega arith; bound = omega arith };
   works = λ j. record { only = λ _ _. (refl, refl, refl, refl); found = λ x k h. absurd h; known = λ k h. absurd h; open_ = λ k h. absurd h; given = λ b k h. absurd h };
-  walks = λ j. walks_idle s 0 0 (λ _. 0) (λ _. node 0 0) (λ _. 0) (λ _. 0) (λ _. Free) (λ _ _. 0) (fresh_kind j) j 0 0 no_plan (λ _. refl);
+  walks = λ j. walks_idle s 0 0 (λ _. 0) (λ _. node 0 0) (λ _. 0) (λ _. 0) (λ _. Free) (λ _ _. 0) (fresh_kind j) j 0 0 0 no_plan (λ _. refl) (λ e. absurd (not_one j e));
   sure = sure_is;
-  goes = λ j. record { went = λ q b p h. absurd h; walk = λ q p. tt; places = λ q x k p h. absurd h; yes_notes = λ k q h. absurd h; no_notes = λ k q h. absurd h };
+  goes = λ j. record { went = λ q b p h. absurd h; walk = λ q p. tt; sided = λ q x k b t p h. absurd (still_not x k b t h); places = λ q x k p h. absurd h; yes_notes = λ k q h. absurd h; no_notes = λ k q h. absurd h };
   rules = record { owner = (refl, omega arith); one = λ j e. only j e; workers = refl; readers = refl; few_readers = omega arith; halves = λ _ _. refl; clear = λ q h. absurd h };
   stock = record { finished = refl; cursor_is = λ k e. ((λ f. omega arith), omega arith); free_is = λ k e. omega arith; never = λ b l. inl refl; left = λ q k h. absurd h };
   note = record { undone = λ b h. absurd h; all = λ b x m e. absurd (free_undone x m e); placed = λ b x m h. absurd h; seen = λ x e. absurd (omega arith); quiet = λ e. absurd (omega arith) };
@@ -74,6 +79,9 @@ starts s a = record {
   drawn = none_drawn 0 0 s.pool (fresh_words s.pool).row fresh_kind (λ _. idle) (λ j. refl);
   draws = λ x j m b p e. absurd (omega arith);
   crew = crew_free s 0 0 fresh_kind (λ _. idle) (λ _. Open) 0 (omega arith, λ l. absurd (omega arith)) (λ e. absurd (omega arith));
+  inside = record { few = omega arith; rows = λ i l. let e = row_is s.pool i l in omega arith; blocks = λ b l. refl; stand_in = λ b t x st. absurd (omega arith); seconds = λ x j y p h. absurd (not_open j (y + 1) p (sym h)); hand_in = λ b h. listed s.pool b h; retired_in = λ b h. absurd h };
+  named = record { heads = λ x b t l e c. absurd (omega arith); hists = λ a c x t u st e. absurd (omega arith); patch = λ b x m u. absurd (free_undone x m u) };
+  once = λ j. tt;
   holders = λ x j m p h. absurd (not_open j m p (sym h));
   hand = λ b h. ((λ e. omega arith), refl);
 }

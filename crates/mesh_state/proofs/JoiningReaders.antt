@@ -16,6 +16,7 @@ use Rattle.mesh_state.specs.Readers.{ReaderRule}
 use Rattle.mesh_state.specs.Ghosts.{Ghost}
 use Rattle.mesh_state.specs.Owner.{NoneWent}
 use Rattle.mesh_state.specs.Rule.{Rule}
+use Rattle.mesh_state.proofs.FoundAgain.{still_not}
 use Rattle.mesh_state.proofs.Lists.{plan_on, history_read}
 use Rattle.mesh_state.specs.Fresh.{blank}
 
@@ -75,12 +76,12 @@ module _ (s : Setup) (w : Words) (n : ℕ) (v : Views) (g : Ghost) (r : Rule s w
       bound = let a = sum_le n (λ i. (read' i).ready) (λ i. (v.read i).ready) ready_le in let b = r.pins.bound in omega arith;
     };
     works = λ i. let t = r.works i in record { only = λ o z. t.only (λ k. o (dite (ℕ_discrete i j) (λ e. let y : v.kind i ≡ v.kind j = ap v.kind e in absurd (omega arith)) (λ f. update_other v.kind j i 0 f ∙ k))) z; found = t.found; known = t.known; open_ = t.open_; given = t.given };
-    walks = λ i. let t = r.walks i in record { still = λ o. t.still (kept_work i o); only = λ o. t.only (kept_work i o); half = λ e. t.half (was i 1 (λ z. omega arith) e); absent = t.absent; stood = t.stood; had = t.had; went = t.went; walk = t.walk };
+    walks = λ i. let t = r.walks i in record { still = λ o. t.still (kept_work i o); only = λ o. t.only (kept_work i o); half = λ e. t.half (was i 1 (λ z. omega arith) e); at_work = λ e. t.at_work (was i 1 (λ z. omega arith) e); retired_in = t.retired_in; absent = t.absent; stood = t.stood; had = t.had; went = t.went; walk = t.walk; sided = t.sided };
     sure = r.sure;
     goes = update_cases (λ _ u. ReaderRule s w.round w.name w.hist w.born w.died g.life g.who u) (update v.read 0 own) j (blank [])
-        record { went = λ q b p f. absurd f; walk = λ q p. tt; places = λ q x k p h. absurd h; yes_notes = λ k q h. absurd h; no_notes = λ k q h. absurd h }
+        record { went = λ q b p f. absurd f; walk = λ q p. tt; sided = λ q x k b t p h. absurd (still_not x k b t h); places = λ q x k p h. absurd h; yes_notes = λ k q h. absurd h; no_notes = λ k q h. absurd h }
         (λ i _. update_cases (λ _ u. ReaderRule s w.round w.name w.hist w.born w.died g.life g.who u) v.read 0 own
-        (let a = r.goes 0 in let b = r.goes j in record { went = a.went; walk = a.walk; places = a.places; yes_notes = λ k q h. ⊎_elim (λ t. a.yes_notes k q t) (λ t. b.yes_notes k q t) (entry_of_both (v.read 0).notes (v.read j).notes _ h); no_notes = λ k q h. ⊎_elim (λ t. a.no_notes k q t) (λ t. b.no_notes k q t) (entry_of_both (v.read 0).notes (v.read j).notes _ h) })
+        (let a = r.goes 0 in let b = r.goes j in record { went = a.went; walk = a.walk; sided = a.sided; places = a.places; yes_notes = λ k q h. ⊎_elim (λ t. a.yes_notes k q t) (λ t. b.yes_notes k q t) (entry_of_both (v.read 0).notes (v.read j).notes _ h); no_notes = λ k q h. ⊎_elim (λ t. a.no_notes k q t) (λ t. b.no_notes k q t) (entry_of_both (v.read 0).notes (v.read j).notes _ h) })
         (λ i _. r.goes i) i);
     rules = record {
       owner = (update_other v.kind j 0 0 (λ e. far (sym e)) ∙ r.rules.owner.0, r.rules.owner.1);
@@ -100,6 +101,9 @@ module _ (s : Setup) (w : Words) (n : ℕ) (v : Views) (g : Ghost) (r : Rule s w
     drawn = record { only = λ i o. r.drawn.only i (kept_work i o); drawn = r.drawn.drawn; apart = r.drawn.apart };
     draws = r.draws;
     crew = record { rounds = r.crew.rounds; alone = λ i one k z. let t = r.crew.alone i one (was i 1 (λ z. omega arith) k) z in ((λ a c. t.0 a (was a 1 (λ z. omega arith) c)), t.1); none = λ i one l k. r.crew.none i one l (was i 1 (λ z. omega arith) k) };
+    inside = r.inside;
+    named = r.named;
+    once = r.once;
     holders = λ x i m p h. ⊎_elim inl (λ k. inr (dite (ℕ_discrete i j) (λ e. let y : v.kind i ≡ v.kind j = ap v.kind e in absurd (omega arith)) (λ f. update_other v.kind j i 0 f ∙ k))) (r.holders x i m p h);
     hand = r.hand;
   }

@@ -17,7 +17,9 @@ use Rattle.mesh_state.specs.Claims.{draws_of, bit_of}
 use Rattle.mesh_state.specs.Work.{WorkRule, WalkRule}
 use Rattle.mesh_state.specs.Sure.{GuardsBlock, GuardsHead, SureRule}
 use Rattle.mesh_state.specs.Rule.{Rule}
-use Rattle.mesh_state.proofs.FoundAgain.{walks_idle}
+use Rattle.mesh_state.specs.Inside.{ListedOnce}
+use Rattle.mesh_state.proofs.Inside.{once_both}
+use Rattle.mesh_state.proofs.FoundAgain.{still_not, walks_idle}
 use Rattle.mesh_state.proofs.HeldClaims.{not_open, held_one}
 use Rattle.mesh_state.proofs.Lists.{plan_on}
 use Rattle.mesh_state.specs.Fresh.{idle}
@@ -70,11 +72,11 @@ module _ (s : Setup) (w : Words) (n : ℕ) (v : Views) (g : Ghost) (r : Rule s w
   kind_sum k = sum_update n (λ i. one_where (v.kind i) k) (λ i. one_where (update v.kind j 0 i) k) j inside (λ i o. ap (λ (x : ℕ). one_where x k) (update_other v.kind j i 0 o)) ∙ ap (λ (x : ℕ). sum_below n (λ i. one_where (v.kind i) k) + one_where x k) (update_same v.kind j 0)
 
   abbrev joined : Work
-  joined = record { half = 0; number = 0; plan = no_plan; drawn = (v.work 0).drawn ++ (v.work j).drawn; found = (v.work 0).found ++ (v.work j).found; known = (v.work 0).known ++ (v.work j).known; open_ = (v.work 0).open_ ++ (v.work j).open_; given = (v.work 0).given ++ (v.work j).given; absent = (v.work 0).absent ++ (v.work j).absent; stood = (v.work 0).stood ++ (v.work j).stood; had = (v.work 0).had ++ (v.work j).had; retired = (v.work 0).retired ++ (v.work j).retired; went = []; walk = Still }
+  joined = record { half = 0; round = 0; number = 0; plan = no_plan; drawn = (v.work 0).drawn ++ (v.work j).drawn; found = (v.work 0).found ++ (v.work j).found; known = (v.work 0).known ++ (v.work j).known; open_ = (v.work 0).open_ ++ (v.work j).open_; given = (v.work 0).given ++ (v.work j).given; absent = (v.work 0).absent ++ (v.work j).absent; stood = (v.work 0).stood ++ (v.work j).stood; had = (v.work 0).had ++ (v.work j).had; retired = (v.work 0).retired ++ (v.work j).retired; went = []; walk = Still }
 
   -- the owner has the claims and the knowledge of both, and is sure of no word
   pub joins : (workers : ℕ) → v.ruling.workers ≡ workers + 1
-      → Rule s w n (record v { kind = update v.kind j 0; claims = update (update v.claims 0 (v.claims 0 ++ v.claims j)) j []; work = update (update v.work 0 record { half = 0; number = 0; plan = no_plan; drawn = (v.work 0).drawn ++ (v.work j).drawn; found = (v.work 0).found ++ (v.work j).found; known = (v.work 0).known ++ (v.work j).known; open_ = (v.work 0).open_ ++ (v.work j).open_; given = (v.work 0).given ++ (v.work j).given; absent = (v.work 0).absent ++ (v.work j).absent; stood = (v.work 0).stood ++ (v.work j).stood; had = (v.work 0).had ++ (v.work j).had; retired = (v.work 0).retired ++ (v.work j).retired; went = []; walk = Still }) j idle; sure = update (update v.sure 0 unsure) j unsure; ruling = record v.ruling { workers = workers; lone = 0 } }) (record g { stage = λ x. moved j (g.stage x) })
+      → Rule s w n (record v { kind = update v.kind j 0; claims = update (update v.claims 0 (v.claims 0 ++ v.claims j)) j []; work = update (update v.work 0 record { half = 0; round = 0; number = 0; plan = no_plan; drawn = (v.work 0).drawn ++ (v.work j).drawn; found = (v.work 0).found ++ (v.work j).found; known = (v.work 0).known ++ (v.work j).known; open_ = (v.work 0).open_ ++ (v.work j).open_; given = (v.work 0).given ++ (v.work j).given; absent = (v.work 0).absent ++ (v.work j).absent; stood = (v.work 0).stood ++ (v.work j).stood; had = (v.work 0).had ++ (v.work j).had; retired = (v.work 0).retired ++ (v.work j).retired; went = []; walk = Still }) j idle; sure = update (update v.sure 0 unsure) j unsure; ruling = record v.ruling { workers = workers; lone = 0 } }) (record g { stage = λ x. moved j (g.stage x) })
   joins workers one = record {
     names_apart = r.names_apart;
     claims = record {
@@ -116,14 +118,17 @@ module _ (s : Setup) (w : Words) (n : ℕ) (v : Views) (g : Ghost) (r : Rule s w
           still = λ _. (refl, refl);
           only = λ _ z. absurd (z refl);
           half = λ e. let z = update_other v.kind j 0 0 (λ e. far (sym e)) in let y = r.rules.owner.0 in absurd (omega arith);
+          at_work = λ e. let z = update_other v.kind j 0 0 (λ e. far (sym e)) in let y = r.rules.owner.0 in absurd (omega arith);
+          retired_in = λ k h. ⊎_elim (a.retired_in k) (b.retired_in k) (entry_of_both (v.work 0).retired (v.work j).retired k h);
           absent = λ k h. ⊎_elim (λ t. a.absent k t) (λ t. b.absent k t) (entry_of_both (v.work 0).absent (v.work j).absent k h);
           stood = λ x k h. ⊎_elim (λ t. a.stood x k t) (λ t. b.stood x k t) (entry_of_both (v.work 0).stood (v.work j).stood (x, k) h);
           had = λ c k h. ⊎_elim (λ t. a.had c k t) (λ t. b.had c k t) (entry_of_both (v.work 0).had (v.work j).had (c, k) h);
           went = λ c h. absurd h;
           walk = tt;
+          sided = λ x n b t h. absurd (still_not x n b t h);
         })
-        (walks_idle s w.round v.ruling.phase w.name w.hist w.born w.died g.life g.who (K j) j 0 0 no_plan (λ e. let z = update_same v.kind j 0 in absurd (omega arith)))
-        (λ i a b. let t = r.walks i in record { still = λ o. t.still (λ k. o (update_other v.kind j i 0 b ∙ k)); only = λ o. t.only (λ k. o (update_other v.kind j i 0 b ∙ k)); half = λ e. t.half (sym (update_other v.kind j i 0 b) ∙ e); absent = t.absent; stood = t.stood; had = t.had; went = t.went; walk = t.walk }) i;
+        (walks_idle s w.round v.ruling.phase w.name w.hist w.born w.died g.life g.who (K j) j 0 0 0 no_plan (λ e. let z = update_same v.kind j 0 in absurd (omega arith)) (λ e. let z = update_same v.kind j 0 in absurd (omega arith)))
+        (λ i a b. let t = r.walks i in record { still = λ o. t.still (λ k. o (update_other v.kind j i 0 b ∙ k)); only = λ o. t.only (λ k. o (update_other v.kind j i 0 b ∙ k)); half = λ e. t.half (sym (update_other v.kind j i 0 b) ∙ e); at_work = λ e. t.at_work (sym (update_other v.kind j i 0 b) ∙ e); retired_in = t.retired_in; absent = t.absent; stood = t.stood; had = t.had; went = t.went; walk = t.walk; sided = t.sided }) i;
     sure = two_at (λ i u. SureRule s.elements workers w.head w.hist w.born w.died w.name w.row stage' i u) v.sure unsure unsure (nothing_sure 0) (nothing_sure j) (λ i a b. let t = r.sure i in record {
       head_is = λ z l f h. t.head_is z l f (head_was i a z h);
       hist_is = λ c u l f h. t.hist_is c u l f (block_was i a c h);
@@ -156,6 +161,9 @@ module _ (s : Setup) (w : Words) (n : ℕ) (v : Views) (g : Ghost) (r : Rule s w
     };
     draws = λ x i m b p one e f. ⊎_elim (λ t. let u = r.draws x i m b p one t.1 f in (u.0, drawn_now i u.0 (b + 1) u.1 t.0)) (λ t. let u = r.draws x j m b p one t.1 f in (u.0, subst (λ (c : ℕ). HasEntry (update (update v.work 0 joined) j idle c).drawn (u.0, b + 1)) (sym t.0) (own_now u.0 (b + 1) (entry_right (v.work 0).drawn (v.work j).drawn (u.0, b + 1) u.1)))) (moved_back j (g.stage x) i m p e);
     crew = let K : ℕ → ℕ = update v.kind j 0 in record { rounds = r.crew.rounds; alone = λ i one k z. absurd (last i one k z); none = λ i one l k z. last i one k z };
+    inside = record { few = r.inside.few; rows = r.inside.rows; blocks = r.inside.blocks; stand_in = r.inside.stand_in; seconds = λ x i y p h. let k = was x i (y + 1) p h in r.inside.seconds x k.0 y p k.1; hand_in = r.inside.hand_in; retired_in = r.inside.retired_in };
+    named = r.named;
+    once = two_at (λ _ cs. ListedOnce cs) v.claims (v.claims 0 ++ v.claims j) [] (once_both (v.claims 0) (v.claims j) (λ x m k p q a b. far (sym (held_one 0 j m k p q (sym (r.claims.held 0 x m p a) ∙ r.claims.held j x k q b)).0)) (r.once 0) (r.once j)) tt (λ i _ _. r.once i);
     holders = λ x i m p h. ⊎_elim (λ t. ⊎_elim inl (λ k. inr (update_other v.kind j i 0 t.0 ∙ k)) (r.holders x i m p t.1)) (λ t. inl t.0) (moved_back j (g.stage x) i m p h);
     hand = r.hand;
   }

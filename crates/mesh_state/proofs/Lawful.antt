@@ -16,10 +16,10 @@ use Rattle.mesh_state.proofs.HeldClaims.{held_one, uses, one_user}
 use Rattle.mesh_state.proofs.Across.{place_one, name_one, no_pin}
 
 pub bounded : PinsBounded
-bounded s w n v g r = let b = r.pins.bound in (omega arith, sym r.pins.now ∙ r.pins.count w.round)
+bounded s w n v (g, r) = let b = r.pins.bound in (omega arith, sym r.pins.now ∙ r.pins.count w.round)
 
 pub one_holder : OneHolder
-one_holder s w n v g r i j x m k p q a b = held_one i j m k p q (sym (r.claims.held i x m p a) ∙ r.claims.held j x k q b)
+one_holder s w n v (g, r) i j x m k p q a b = held_one i j m k p q (sym (r.claims.held i x m p a) ∙ r.claims.held j x k q b)
 
 pub uses_block : (p : Progress) (b : ℕ) → block_of p ≡ b + 1 → uses p ≡ b + 1
 uses_block Claimed b e = e
@@ -30,7 +30,7 @@ uses_block (Whole c) b e = e
 uses_block (Living c) b e = e
 
 pub one_claim : OneClaim
-one_claim s w n v g r i j x y m k b p q a c e f = one_user s w.round w.cursor w.free v.ruling.phase w.row w.claimed w.head w.born g.life g.stage v.claims r.claims x y i j m k b p q (r.claims.held i x m p a) (r.claims.held j y k q c) (uses_block p b e) (uses_block q b f)
+one_claim s w n v (g, r) i j x y m k b p q a c e f = one_user s w.round w.cursor w.free v.ruling.phase w.row w.claimed w.head w.born g.life g.stage v.claims r.claims x y i j m k b p q (r.claims.held i x m p a) (r.claims.held j y k q c) (uses_block p b e) (uses_block q b f)
 
 few_draws : (t : Stage) → draws_of t ≤ 1
 few_draws Open = omega arith
@@ -42,25 +42,25 @@ few_draws (Held j m (Whole b)) = omega arith
 few_draws (Held j m (Living b)) = omega arith
 
 pub draws_bounded : DrawsBounded
-draws_bounded s w n v g r one = let a = r.claims.drawn one in let b = flags_below (places s) (λ x. draws_of (g.stage x)) (λ x. few_draws (g.stage x)) in omega arith
+draws_bounded s w n v (g, r) one = let a = r.claims.drawn one in let b = flags_below (places s) (λ x. draws_of (g.stage x)) (λ x. few_draws (g.stage x)) in omega arith
 
 pub free_rows : FreeRows
-free_rows s w n v g r i k a l = let t = r.claims.rows i a l in (t.0, t.1, λ b m e. r.claims.apart i k a l b m e)
+free_rows s w n v (g, r) i k a l = let t = r.claims.rows i a l in (t.0, t.1, λ b m e. r.claims.apart i k a l b m e)
 
 pub walks_end : WalksEnd
-walks_end s w n v g r b c x t st e = ⊎_elim
+walks_end s w n v (g, r) b c x t st e = ⊎_elim
     (λ o. let z : 0 ≡ c + 1 = sym (ap (λ (l : Node). l.block) o) ∙ e in absurd (omega arith))
     (λ o. let same : o.0 ≡ c = one_more o.0 c (sym (ap (λ (l : Node). l.block) o.2) ∙ e) in subst (λ (i : ℕ). (0 < w.died i) × (w.died i ≤ w.round) × (0 < w.born b → w.died i < w.born b)) same (o.4, o.6, o.5))
     (r.chains.hists b t x st)
 
 pub parents_bisected : ParentsBisected
-parents_bisected s w n v g r q may k b e = ⊎_elim (λ t. inl (f.1, t.0, t.1)) (λ t. inr (w.name (member_of t.0 t.1), t.0, t.2, t.5, t.4)) f.4
+parents_bisected s w n v (g, r) q may k b e = ⊎_elim (λ t. inl (f.1, t.0, t.1)) (λ t. inr (w.name (member_of t.0 t.1), t.0, t.2, t.5, t.4)) f.4
   where
     f : (t : Bool) × (x : ℕ) × (w.name (member_of b t) ≡ k) × (chained (g.life b) t ≡ x + 1) × IsPlaceOf s w.name (g.who q) x k × Reaches w.hist w.born w.died g.life q x b (w.head x)
     f = (r.names.fits q may).found k b e
 
 pub members_together : MembersTogether
-members_together s w n v g r q may k i b e = (down, up)
+members_together s w n v (g, r) q may k i b e = (down, up)
   where
     -- the block of a name, its patch, and whether it is the first member
     down : g.who q k ≡ b + 1 → g.who q (i + 1) ≡ b + 1
@@ -84,17 +84,17 @@ members_together s w n v g r q may k i b e = (down, up)
             ap (g.who q) (sym first) ∙ (r.names.fits q may).both b p.0 true false (ap (g.who q) n1 ∙ h) (ap (λ (l : Life). chained l false) p.2)
 
 pub places_agree : PlacesAgree
-places_agree s w n v g r q may x y k i a = ((λ b. place_one s w n v g r q may x y k a b), λ b. name_one s w n v g r q x k i a b)
+places_agree s w n v (g, r) q may x y k i a = ((λ b. place_one s w n v g r q may x y k a b), λ b. name_one s w n v g r q x k i a b)
 
 pub notes_agree : NotesAgree
-notes_agree s w n v g r j k q = ((λ h. ((r.goes j).yes_notes k q h).1), λ h. ((r.goes j).no_notes k q h).1)
+notes_agree s w n v (g, r) j k q = ((λ h. ((r.goes j).yes_notes k q h).1), λ h. ((r.goes j).no_notes k q h).1)
 
 found_stands : (hist : ℕ → Node) (born died : ℕ → ℕ) (life : ℕ → Life) (q x c : ℕ) (ts : List (ℕ × Bool)) (l : Node) → Finds hist born died life q x c l ts → (t : Bool) × (stands (life c) t ≡ x + 1)
 found_stands hist born died life q x c [] l h = absurd h
 found_stands hist born died life q x c (t ∷ ts) l h = ⊎_elim (λ k. (t.1, subst (λ (y : ℕ). stands (life y) t.1 ≡ x + 1) k.0 h.1)) (λ f. found_stands hist born died life q x c ts (hist (member_of t.0 t.1)) f) h.2
 
 pub walks_agree : WalksAgree
-walks_agree s w n v g r q k x i b seen = (
+walks_agree s w n v (g, r) q k x i b seen = (
   (λ e. let h = (r.names.fits q k).found i b e in subst (λ (y : ℕ). Reaches w.hist w.born w.died g.life q y b (w.head y)) (place_one s w n v g r q k h.1 x i h.4 seen) h.5),
   λ h. let c = found_covers w.hist w.born w.died g.life q x b h.0 (w.head x) h.1 in let t = found_stands w.hist w.born w.died g.life q x b h.0 (w.head x) h.1 in
       let ch : chained (g.life b) t.0 ≡ x + 1 = ⊎_elim (λ p. placed_chained (g.life b) t.0 x p.0 p.1 p.2 t.1) (λ p. let z = r.chains.undone b p.0 p.1 p.2 in let c0 = c.0 in absurd (omega arith)) (standing (g.life b) t.0 x t.1) in
@@ -102,20 +102,20 @@ walks_agree s w n v g r q k x i b seen = (
 )
 
 pub reached_kept : ReachedKept
-reached_kept s w n v g r j q b p h = (r.goes j).went q b p h
+reached_kept s w n v (g, r) j q b p h = (r.goes j).went q b p h
 
 pub clear_rounds : ClearRounds
-clear_rounds s w n v g r q j h = ((r.rules.clear q h).0, λ e. no_pin s w n v g r q h j e)
+clear_rounds s w n v (g, r) q j h = ((r.rules.clear q h).0, λ e. no_pin s w n v g r q h j e)
 
 pub blocks_placed : BlocksPlaced
-blocks_placed s w n v g r q may k b e = let f = (r.names.fits q may).found k b e in (f.0, f.1, f.2, f.3, f.4)
+blocks_placed s w n v (g, r) q may k b e = let f = (r.names.fits q may).found k b e in (f.0, f.1, f.2, f.3, f.4)
 
 pub retired_born : RetiredBorn
-retired_born s w n v g r = r.chains.dieds
+retired_born s w n v (g, r) = r.chains.dieds
 
 pub walks_short : WalksShort
-walks_short s w n v g r x [] h = omega arith
-walks_short s w n v g r x (a ∷ ts) h = rest ts h.2
+walks_short s w n v (g, r) x [] h = omega arith
+walks_short s w n v (g, r) x (a ∷ ts) h = rest ts h.2
   where
     -- behind a block that was retired at d there are at most (d - 2) / 2
     behind : (ts : List (ℕ × Bool)) (c : ℕ) (t u : Bool) → stands (g.life c) t ≡ x + 1 → chained (g.life c) u ≡ x + 1 → 0 < w.died c → LeadOn w.hist g.life x (w.hist (member_of c t)) ts → 2 * length ts + 2 ≤ w.died c

@@ -1,5 +1,5 @@
 -- The lists of a round, the history and the draws, across steps.
-use Rattle.std.proofs.Common.{◌≡◌, ℕ, zero, suc, ◌+◌, ◌<◌, ◌≤◌, List, [], ◌∷◌, ◌++◌, length, ◌⊎◌, refl, sym, ap, ◌∙◌, subst, inl, inr, ⊎_elim, arith}
+use Rattle.std.proofs.Common.{◌≡◌, ℕ, zero, suc, ◌+◌, ◌<◌, ◌≤◌, Bool, true, false, List, [], ◌∷◌, ◌++◌, length, ◌⊎◌, refl, sym, ap, ◌∙◌, subst, inl, inr, ⊎_elim, arith}
 use mathlib.Core.Logic.{dite}
 use native.Mathlib.Decide.{ℕ_discrete}
 use Rattle.mesh_words.specs.Entries.{HasEntry, EntryAt}
@@ -9,10 +9,11 @@ use Rattle.mesh_words.specs.Views.{Plan, Work, Read, Views}
 use Rattle.mesh_words.specs.Words.{Words}
 use Rattle.mesh_words.proofs.Functions.{update_at, update_cases, update_other}
 use Rattle.mesh_words.specs.Claims.{Progress}
-use Rattle.mesh_state.specs.Ghosts.{Stage, Held, Ghost}
+use Rattle.mesh_words.specs.Places.{member_of}
+use Rattle.mesh_state.specs.Ghosts.{Stage, Held, Placed, chained, Ghost}
 use Rattle.mesh_state.proofs.HeldClaims.{held_one}
-use Rattle.mesh_state.specs.Bisections.{MayRead}
-use Rattle.mesh_state.specs.Lists.{Holds, IsClosed, IsTarget, PlanRule, HistoryRule, DrawnRule, DrawnFor, CrewRule}
+use Rattle.mesh_state.specs.Bisections.{IsPatch, MayRead}
+use Rattle.mesh_state.specs.Lists.{Holds, IsClosed, IsTarget, IsMember, PlanRule, HistoryRule, DrawnRule, DrawnFor, CrewRule}
 use Rattle.mesh_state.specs.Claims.{block_of}
 use Rattle.mesh_state.specs.Rule.{Rule}
 use Rattle.mesh_state.proofs.Lawful.{parents_bisected, members_together}
@@ -105,9 +106,9 @@ target_on s Old Old' p same t = record {
 -- at each round that may be read the bisected names are closed
 pub bisected_closed : (s : Setup) (w : Words) (n : ℕ) (v : Views) (g : Ghost) → Rule s w n v g → (q : ℕ) → MayRead w.round v.ruling.phase v.read q → IsClosed s (Holds (g.who q))
 bisected_closed s w n v g r q may = record {
-  parents = λ i c h. ⊎_elim (λ t. absurd (r.names_apart.top_child t.0 i c (sym t.2))) (λ t. let e = r.names_apart.child_one i t.0 c t.2 t.3 in (t.1, ap (g.who q) e.0 ∙ t.4)) (parents_bisected s w n v g r q may (s.child i c) h.0 h.1);
-  seconds = λ i k e h. (h.0, (members_together s w n v g r q may i k h.0 e).0 h.1);
-  firsts = λ i k e h. (h.0, (members_together s w n v g r q may i k h.0 e).1 h.1);
+  parents = λ i c h. ⊎_elim (λ t. absurd (r.names_apart.top_child t.0 i c (sym t.2))) (λ t. let e = r.names_apart.child_one i t.0 c t.2 t.3 in (t.1, ap (g.who q) e.0 ∙ t.4)) (parents_bisected s w n v (g, r) q may (s.child i c) h.0 h.1);
+  seconds = λ i k e h. (h.0, (members_together s w n v (g, r) q may i k h.0 e).0 h.1);
+  firsts = λ i k e h. (h.0, (members_together s w n v (g, r) q may i k h.0 e).1 h.1);
 }
 
 pub number_kept : (work : ℕ → Work) (j : ℕ) (u : Work) → u.number ≡ (work j).number → (i : ℕ) → (update work j u i).number ≡ (work i).number
@@ -146,3 +147,10 @@ pub draws_goes : (phase : ℕ) (work : ℕ → Work) (stage : ℕ → Stage) (x 
 draws_goes phase work stage x j m p q is same h y i k b z one e f = dite (ℕ_discrete y x)
     (λ a. let t = held_one j i m k q z (sym (update_at stage x y (Held j m q) a) ∙ e) in subst (λ (c : ℕ). (n : ℕ) × HasEntry (work c).drawn (n, b + 1)) t.0 (h x j m b p one is (same b (ap block_of t.2 ∙ f))))
     (λ o. h y i k b z one (sym (update_other stage x y (Held j m q) o) ∙ e) f)
+
+-- the member of the patch of a block that has the name
+pub member_side : (s : Setup) (name : ℕ → ℕ) (k b x m i : ℕ) → name (member_of b false) ≡ k → IsPatch s name b m → IsMember s k i → (t : Bool) × (y : ℕ) × (chained (Placed x m) t ≡ y + 1) × (i ≡ name (member_of b t))
+member_side s name k b x m i first patch (inl e) = (false, x, refl, e ∙ sym first)
+member_side s name k b x m i first patch (inr t) = ⊎_elim
+    (λ z. let q : 0 ≡ t.0 + 1 = sym z.1 ∙ ap s.mate first ∙ t.1 in absurd (omega arith))
+    (λ z. (true, z.0, z.2, t.2 ∙ sym (patch.1 ∙ ap s.mate first ∙ t.1))) patch.2

@@ -21,8 +21,9 @@ use Rattle.mesh_state.specs.Fresh.{idle}
 use Rattle.mesh_state.specs.Lists.{Holds, IsTarget, IsListed, PlanRule, DrawnRule}
 use Rattle.mesh_state.proofs.Lists.{crew_free, plan_on, history_who, none_drawn, target_on, bisected_closed, entry_more, length_more}
 use Rattle.mesh_state.specs.Rule.{Labels, Rule}
-use Rattle.mesh_state.proofs.FoundAgain.{one_more, placed, goes_who, walks_idle}
-use Rattle.mesh_words.proofs.Entries.{entry_left, entry_right}
+use Rattle.mesh_state.specs.Inside.{InsideRule}
+use Rattle.mesh_state.proofs.FoundAgain.{still_not, one_more, placed, goes_who, walks_idle}
+use Rattle.mesh_words.proofs.Entries.{entry_left, entry_right, entry_of_both}
 use Rattle.mesh_state.proofs.ChainSteps.{named}
 use Rattle.mesh_state.proofs.BlockSteps.{ends_round}
 use Rattle.mesh_state.proofs.HeldClaims.{not_open}
@@ -63,16 +64,19 @@ module _ (s : Setup) (w : Words) (n : ℕ) (v : Views) (g : Ghost) (r : Rule s w
 
   idle_walks : Home → (round p : ℕ) (name : ℕ → ℕ) (hist : ℕ → Node) (born died : ℕ → ℕ) (life : ℕ → Life) (who : ℕ → ℕ → ℕ) (j : ℕ) → WalkRule s round p name hist born died life who (v.kind j) j (update v.work 0 idle j)
   idle_walks h round p name hist born died life who = update_cases (λ j u. WalkRule s round p name hist born died life who (v.kind j) j u) v.work 0 idle
-      (walks_idle s round p name hist born died life who (v.kind 0) 0 0 0 no_plan (λ e. absurd (not_work h 0 e)))
+      (walks_idle s round p name hist born died life who (v.kind 0) 0 0 0 0 no_plan (λ e. absurd (not_work h 0 e)) (λ e. absurd (not_work h 0 e)))
       (λ j ne. let k = r.walks j in let e = k.still (not_work h j) in let f = k.only (not_work h j) ne in record {
         still = k.still;
         only = k.only;
         half = λ e. absurd (not_work h j e);
+        at_work = λ e. absurd (not_work h j e);
+        retired_in = k.retired_in;
         absent = λ i a. absurd (subst (λ (l : List ℕ). HasEntry l i) f.0 a);
         stood = λ x i a. absurd (subst (λ (l : List (ℕ × ℕ)). HasEntry l (x, i)) f.1 a);
         had = λ b i a. absurd (subst (λ (l : List (ℕ × ℕ)). HasEntry l (b, i)) f.2 a);
         went = λ b a. absurd (subst (λ (l : List ℕ). HasEntry l b) e.0 a);
         walk = subst (λ (u : Walk). WorkWalks s round p name hist born died life who (v.work j).went u) (sym e.1) tt;
+        sided = λ x n b t h. absurd (still_not x n b t (⊎_elim (λ z. inl (sym e.1 ∙ z)) (λ z. inr (sym e.1 ∙ z)) h));
       })
 
   -- no pass at work, and the owner's draws forgotten: there is none
@@ -81,9 +85,9 @@ module _ (s : Setup) (w : Words) (n : ℕ) (v : Views) (g : Ghost) (r : Rule s w
 
   -- the owner goes on to another phase of the same round, and forgets what held in this one
   pub rephases : Home → (p : ℕ) (who : ℕ → ℕ → ℕ) (hand : List ℕ) (cursor : ℕ) (retired : List ℕ) (plan : Plan) → (0 < p → w.round < s.rounds) → (p ≡ 1 → v.ruling.phase ≡ 0) → PlanRule s w.round p who (λ _. 0) v.work plan → RetiredKnown w.round w.died g.life (update v.work 0 idle) retired → ((k : ℕ) → cursor ≡ k + 1 → (p ≡ 1 → ⊥) × (w.cursor ≡ k)) → ((b : ℕ) → HasEntry hand b → (p ≡ 1 → ⊥) × (g.life b ≡ Free)) → ((q : ℕ) → q ≤ w.round → who q ≡ g.who q)
-      → ClaimsRule s w.round w.cursor w.free p w.row w.claimed w.head w.born g.life g.stage v.claims → Labels s w.round p w.name g.stage who plan.target → NamesRule s w.round p w.name w.head w.hist w.born w.died g.life who v.read
+      → ClaimsRule s w.round w.cursor w.free p w.row w.claimed w.head w.born g.life g.stage v.claims → Labels s w.round p w.name g.stage who plan.target → NamesRule s w.round p w.name w.head w.hist w.born w.died g.life who v.read → InsideRule s w.free w.row g.life g.stage hand retired
       → Rule s w n (record v { work = update v.work 0 idle; ruling = record v.ruling { phase = p; hand = hand; cursor = cursor; retired = retired; plan = plan } }) (record g { who = who })
-  rephases h p who hand cursor retired plan room early lists known sure free old claims labels names = record {
+  rephases h p who hand cursor retired plan room early lists known sure free old claims labels names inside = record {
     names_apart = r.names_apart;
     claims = claims;
     labels = labels;
@@ -103,6 +107,9 @@ module _ (s : Setup) (w : Words) (n : ℕ) (v : Views) (g : Ghost) (r : Rule s w
     drawn = idle_drawn h p w.cursor w.free w.row;
     draws = λ x j m b q e h. absurd (not_open j m q (sym h ∙ r.claims.none x (early e)));
     crew = crew_free s w.round p v.kind (update v.work 0 idle) g.stage v.ruling.lone (r.crew.rounds.0, room) (λ _ j k. not_work h j k);
+    inside = inside;
+    named = r.named;
+    once = r.once;
     holders = r.holders;
     hand = free;
   }
@@ -171,6 +178,7 @@ module _ (s : Setup) (w : Words) (n : ℕ) (v : Views) (g : Ghost) (r : Rule s w
       (claims_phase 1 (λ o e. omega arith) (λ _. (r.stock.cursor_is 0 c).1 ∙ sym (zero_total (places s) (λ x. draws_of (g.stage x)) (λ x. ap draws_of (r.claims.none x z)))) (λ x j m q h e. absurd (not_open j m q (sym h ∙ r.claims.none x z))) (λ x e. absurd (omega arith)))
       (λ x j m q h e. absurd (not_open j m q (sym h ∙ r.claims.none x z)))
       (names_phase 1 (λ _. omega arith) (λ _. ((λ e. omega arith), λ e. omega arith)) (λ _. omega arith) (λ e. absurd (omega arith)))
+      record { few = r.inside.few; rows = r.inside.rows; blocks = r.inside.blocks; stand_in = r.inside.stand_in; seconds = r.inside.seconds; hand_in = λ b h. absurd h; retired_in = r.inside.retired_in }
 
   -- the second half is planned: by the owner's view each claim has a living block, and each name that the round needs is bisected; so the round in work is the target
   pub plans : (retire : List ℕ) → ((i : ℕ) → HasEntry v.ruling.plan.needs i → HasEntry (v.work 0).known i) → v.ruling.phase ≡ 1 → Home → ((x m : ℕ) (p : Progress) → HasEntry (v.claims 0) (claim x m p) → (b : ℕ) × (p ≡ Living b)) → Rule s w n (record v { work = update v.work 0 idle; ruling = record v.ruling { phase = 2; plan = record v.ruling.plan { retire = retire } } }) (record g { who = g.who })
@@ -184,7 +192,7 @@ module _ (s : Setup) (w : Words) (n : ℕ) (v : Views) (g : Ghost) (r : Rule s w
       })
       (calm_retired ((λ e. omega arith), λ e. omega arith)) (λ k e. ((λ f. absurd (omega arith)), (r.stock.cursor_is k e).1)) (λ b f. ((λ e. absurd (omega arith)), (r.hand b f).1)) (λ _ _. refl)
       (claims_phase 2 (λ o e. omega arith) (λ e. absurd (omega arith)) (λ x j m q e _. lives x m q (subst (λ (i : ℕ). HasEntry (v.claims i) (claim x m q)) (home_claims h x j m q e) (r.claims.holds j x m q e))) (λ x e. absurd (omega arith)))
-      (λ x j m q e f. absurd (omega arith)) (names_phase 2 (λ _. omega arith) (λ l. absurd (l.0 refl)) (λ l. absurd (omega arith)) (λ e. absurd (omega arith)))
+      (λ x j m q e f. absurd (omega arith)) (names_phase 2 (λ _. omega arith) (λ l. absurd (l.0 refl)) (λ l. absurd (omega arith)) (λ e. absurd (omega arith))) r.inside
 
   -- the round is closed: by the owner's view no listed patch is left
   pub closes : ((i : ℕ) → IsListed s v.ruling.plan.retire i → HasEntry (v.work 0).open_ i) → v.ruling.phase ≡ 2 → Home → Rule s w n (record v { work = update v.work 0 idle; ruling = record v.ruling { phase = 3; retired = (v.work 0).retired ++ v.ruling.retired } }) (record g { who = g.who })
@@ -192,11 +200,12 @@ module _ (s : Setup) (w : Words) (n : ℕ) (v : Views) (g : Ghost) (r : Rule s w
       record { same = λ j e. absurd (omega arith); aim = λ _ _. r.plan.aim (omega arith) (omega arith); within = λ i _ _. r.plan.within i (omega arith) (omega arith); whole = λ i _ _. r.plan.whole i (omega arith) (omega arith); done = λ i _ k. ((r.works 0).open_ i (gone i k)).1 }
       (owner_retired h) (λ k e. ((λ f. absurd (omega arith)), (r.stock.cursor_is k e).1)) (λ b f. ((λ e. absurd (omega arith)), (r.hand b f).1)) (λ _ _. refl) (claims_phase 3 (λ o e. o refl) (λ e. absurd (omega arith)) (λ x j m q e f. absurd (omega arith)) (λ x e. absurd (omega arith)))
       (λ x j m q e f. absurd (omega arith)) (names_phase 3 (λ _. omega arith) (λ l. absurd (l.1 refl)) (λ l. absurd (omega arith)) (λ e. absurd (omega arith)))
+      record { few = r.inside.few; rows = r.inside.rows; blocks = r.inside.blocks; stand_in = r.inside.stand_in; seconds = r.inside.seconds; hand_in = r.inside.hand_in; retired_in = λ b t. ⊎_elim ((r.walks 0).retired_in b) (r.inside.retired_in b) (entry_of_both (v.work 0).retired v.ruling.retired b t) }
 
   -- the round is refused
   pub refuses : v.ruling.phase ≡ 1 → Home → Rule s w n (record v { work = update v.work 0 idle; ruling = record v.ruling { phase = 4 } }) (record g { who = g.who })
   refuses one h = rephases h 4 g.who v.ruling.hand v.ruling.cursor v.ruling.retired v.ruling.plan (λ _. r.crew.rounds.1 (omega arith)) (λ e. absurd (omega arith)) (no_lists 4 g.who (inr refl)) (calm_retired ((λ e. omega arith), λ e. omega arith)) (λ k e. ((λ f. absurd (omega arith)), (r.stock.cursor_is k e).1)) (λ b f. ((λ e. absurd (omega arith)), (r.hand b f).1)) (λ _ _. refl) (claims_phase 4 (λ o e. omega arith) (λ e. absurd (omega arith)) (λ x j m q e f. absurd (omega arith)) (λ x e. absurd (omega arith)))
-      (λ x j m q e f. absurd (omega arith)) (names_phase 4 (λ l. absurd (omega arith)) (λ _. ((λ e. omega arith), λ e. omega arith)) (λ l. absurd (omega arith)) (λ e. absurd (omega arith)))
+      (λ x j m q e f. absurd (omega arith)) (names_phase 4 (λ l. absurd (omega arith)) (λ _. ((λ e. omega arith), λ e. omega arith)) (λ l. absurd (omega arith)) (λ e. absurd (omega arith))) r.inside
 
   -- the next round reads as this one, while nothing is born or retired in it
   module _ (q : ℕ) (same_ : (b : ℕ) (t : Bool) (x : ℕ) → chained (g.life b) t ≡ x + 1 → (Covers w.born w.died q b → Covers w.born w.died (q + 1) b) × (Covers w.born w.died (q + 1) b → Covers w.born w.died q b)) (who : ℕ → ℕ) where
@@ -230,7 +239,7 @@ module _ (s : Setup) (w : Words) (n : ℕ) (v : Views) (g : Ghost) (r : Rule s w
         grows = λ i b l e. ap (λ (f : ℕ → ℕ). f i) (update_same g.who d (g.who w.round)) ∙ (sym (ap (λ (f : ℕ → ℕ). f i) (old w.round (omega arith))) ∙ e);
         either = λ i b l e. inl (ap (λ (f : ℕ → ℕ). f i) (update_same g.who d (g.who w.round)) ∙ (sym (ap (λ (f : ℕ → ℕ). f i) (old w.round (omega arith))) ∙ e));
         fresh = λ i z. ap (λ (f : ℕ → ℕ). f i) (update_same g.who d (g.who w.round)) ∙ sym (ap (λ (f : ℕ → ℕ). f i) (old w.round (omega arith)));
-      }
+      } r.inside
     where
       home : Home
       home = r.rules.halves (λ e. omega arith) (λ e. omega arith)
@@ -298,7 +307,7 @@ module _ (s : Setup) (w : Words) (n : ℕ) (v : Views) (g : Ghost) (r : Rule s w
     walks = idle_walks home d 0 w.name w.hist w.born w.died g.life who';
     sure = r.sure;
     goes = λ i. let t = goes_who s w.round w.name w.hist w.born w.died g.life g.who who' (λ q l. old q (omega arith)) (v.read i) (λ q e. r.pins.past i q e) (r.goes i) in
-        record { went = t.went; walk = t.walk; places = t.places; yes_notes = λ k q h. let a = t.yes_notes k q h in let a0 = a.0 in (omega arith, a.1); no_notes = λ k q h. let a = t.no_notes k q h in let a0 = a.0 in (omega arith, a.1) };
+        record { went = t.went; walk = t.walk; sided = t.sided; places = t.places; yes_notes = λ k q h. let a = t.yes_notes k q h in let a0 = a.0 in (omega arith, a.1); no_notes = λ k q h. let a = t.no_notes k q h in let a0 = a.0 in (omega arith, a.1) };
     rules = record { owner = r.rules.owner; one = r.rules.one; workers = r.rules.workers; readers = r.rules.readers; few_readers = r.rules.few_readers; halves = λ _ _. home; clear = λ q h. let t = r.rules.clear q h in let t0 = t.0 in (omega arith, t.1) };
     stock = record { finished = ap (λ (i : ℕ). i + 1) r.stock.finished; cursor_is = λ k e. ((λ f. absurd (omega arith)), (r.stock.cursor_is k e).1); free_is = r.stock.free_is; never = r.stock.never; left = λ q k h. ⊎_elim (λ e. let a : q ≡ w.round = ap (λ (t : ℕ × ℕ). t.0) e in let b : k ≡ w.taken = ap (λ (t : ℕ × ℕ). t.1) e in (omega arith, ap g.pins a ∙ r.pins.now ∙ sym b)) (λ t. let u = r.stock.left q k t in let u0 = u.0 in (omega arith, u.1)) h };
     note = record { undone = r.note.undone; all = r.note.all; placed = r.note.placed; seen = λ x e. absurd (omega arith); quiet = λ e. absurd (omega arith) };
@@ -317,6 +326,9 @@ module _ (s : Setup) (w : Words) (n : ℕ) (v : Views) (g : Ghost) (r : Rule s w
     drawn = idle_drawn home 0 w.cursor w.free w.row;
     draws = λ x j m b q e. absurd (omega arith);
     crew = crew_free s d 0 v.kind (update v.work 0 idle) g.stage v.ruling.lone ((let l = r.crew.rounds.1 (omega arith) in omega arith), λ l. absurd (omega arith)) (λ _ j k. absurd (not_work home j k));
+    inside = record { few = r.inside.few; rows = r.inside.rows; blocks = r.inside.blocks; stand_in = r.inside.stand_in; seconds = r.inside.seconds; hand_in = r.inside.hand_in; retired_in = λ b h. absurd h };
+    named = r.named;
+    once = r.once;
     holders = r.holders;
     hand = λ b f. ((λ e. absurd (omega arith)), (r.hand b f).1);
   }

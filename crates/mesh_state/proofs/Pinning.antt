@@ -20,7 +20,8 @@ use Rattle.mesh_state.specs.Owner.{NoneWent}
 use Rattle.mesh_state.specs.Lists.{HistoryRule}
 use Rattle.mesh_state.proofs.Lists.{history_read}
 use Rattle.mesh_state.specs.Rule.{Rule}
-use Rattle.mesh_state.proofs.FoundAgain.{one_more, chained_stands, placed_chained, standing, none_found, first_block, seen_live}
+use Rattle.mesh_state.proofs.Inside.{label_of, label_one, label_place}
+use Rattle.mesh_state.proofs.FoundAgain.{still_not, at_past, at_one, past_one, one_more, chained_stands, placed_chained, standing, none_found, first_block, seen_live}
 use Rattle.mesh_state.proofs.ChainSteps.{named, older_head, dead_end}
 use Rattle.mesh_state.proofs.Across.{Went, no_pin, zero_or_more, place_one, name_one}
 
@@ -49,6 +50,9 @@ module _ (s : Setup) (w : Words) (n : ℕ) (v : Views) (g : Ghost) (r : Rule s w
     drawn = r.drawn;
     draws = r.draws;
     crew = r.crew;
+    inside = r.inside;
+    named = r.named;
+    once = r.once;
     holders = r.holders;
     hand = r.hand;
   }
@@ -102,7 +106,7 @@ module _ (s : Setup) (w : Words) (n : ℕ) (v : Views) (g : Ghost) (r : Rule s w
       (same_pin j u k refl (⊎_elim (λ t. let e = t.0 in omega arith) (λ e. omega arith) how) (⊎_elim
       (λ t. let l = t.1 in let e = t.0 in let f = few_ready (λ i. (update v.read j u i).ready) (update_cases (λ _ x. x.ready ≤ 1) v.read j u (omega arith) (λ i _. r.pins.bit i)) (update_cases (λ i x. (v.kind i ≡ 2 → ⊥) → x.ready ≡ 0) v.read j u (λ o. absurd (o k)) (λ i _ o. (r.pins.readers i o).1)) in omega arith)
       (λ e. let a = ready_sum j u (inside j k) in let b = r.pins.bound in omega arith) how))
-      r.rules.clear r.stock.left (omega arith) (λ b p h. inr (p, h)) (λ q h. inr (j, h)) record { went = g0.went; walk = g0.walk; places = g0.places; yes_notes = g0.yes_notes; no_notes = g0.no_notes } (told_on j u refl refl (inr refl) (λ q e. inl e))
+      r.rules.clear r.stock.left (omega arith) (λ b p h. inr (p, h)) (λ q h. inr (j, h)) record { went = g0.went; walk = g0.walk; sided = g0.sided; places = g0.places; yes_notes = g0.yes_notes; no_notes = g0.no_notes } (told_on j u refl refl (inr refl) (λ q e. inl e))
 
   -- a pin is taken: the bound holds
   pub pins : (j : ℕ) → v.kind j ≡ 2 → (v.read j).pin ≡ 0 → (v.read j).ready ≡ 1
@@ -123,7 +127,7 @@ module _ (s : Setup) (w : Words) (n : ℕ) (v : Views) (g : Ghost) (r : Rule s w
       }
       (λ q h. let t = r.rules.clear q h in let l = t.0 in (t.0, t.1 ∙ sym (update_other g.pins w.round q (g.pins w.round + 1) (λ (e : q ≡ w.round). omega arith))))
       (λ q i h. let t = r.stock.left q i h in let l = t.0 in (t.0, update_other g.pins w.round q (g.pins w.round + 1) (λ (e : q ≡ w.round). omega arith) ∙ t.1))
-      (omega arith) (λ b p h. absurd h) (λ q h. inl (omega arith)) record { went = λ q b h m. absurd m; walk = λ q h. tt; places = λ q x k h m. absurd m; yes_notes = (r.goes j).yes_notes; no_notes = (r.goes j).no_notes } (told_on j u refl refl (inr refl) (λ q e. inr (omega arith)))
+      (omega arith) (λ b p h. absurd h) (λ q h. inl (omega arith)) record { went = λ q b h m. absurd m; walk = λ q h. tt; sided = λ q x k b t p h. absurd (still_not x k b t h); places = λ q x k h m. absurd m; yes_notes = (r.goes j).yes_notes; no_notes = (r.goes j).no_notes } (told_on j u refl refl (inr refl) (λ q e. inr (omega arith)))
 
   -- a pin is given back
   pub unpins : (j q0 : ℕ) → v.kind j ≡ 2 → (v.read j).pin ≡ q0 + 1
@@ -143,7 +147,7 @@ module _ (s : Setup) (w : Words) (n : ℕ) (v : Views) (g : Ghost) (r : Rule s w
         bound = let a = ready_sum j u (inside j k) in let b = r.pins.bound in omega arith;
       }
       (λ q h. let t = r.rules.clear q h in (t.0, update_other w.released q0 q (w.released q0 + 1) (λ (e : q ≡ q0). no_pin s w n v g r q h j (had ∙ ap (λ (x : ℕ). x + 1) (sym e))) ∙ t.1))
-      r.stock.left (omega arith) (λ b p h. absurd h) (λ q h. absurd (omega arith)) record { went = λ q b h m. absurd m; walk = λ q h. absurd (omega arith); places = λ q x k h m. absurd m; yes_notes = (r.goes j).yes_notes; no_notes = (r.goes j).no_notes } (told_on j u refl refl (inl refl) (λ q e. absurd (omega arith)))
+      r.stock.left (omega arith) (λ b p h. absurd h) (λ q h. absurd (omega arith)) record { went = λ q b h m. absurd m; walk = λ q h. absurd (omega arith); sided = λ q x k b t p h. absurd (still_not x k b t h); places = λ q x k h m. absurd m; yes_notes = (r.goes j).yes_notes; no_notes = (r.goes j).no_notes } (told_on j u refl refl (inl refl) (λ q e. absurd (omega arith)))
 
   -- a walk goes on: the reader's pin stays
   module _ (j q0 : ℕ) (kind : v.kind j ≡ 2) (pinned : (v.read j).pin ≡ q0 + 1) where
@@ -160,18 +164,18 @@ module _ (s : Setup) (w : Words) (n : ℕ) (v : Views) (g : Ghost) (r : Rule s w
     walked went walk notes places = record (v.read j) { went = went; walk = walk; notes = notes; places = places }
 
     walks_on : (went : List ℕ) (walk : Walk) (notes : List Note) (places : List (ℕ × ℕ)) → ((b : ℕ) → HasEntry went b → ((t : Bool) × (x : ℕ) × (stands (g.life b) t ≡ x + 1)) × ((w.died b ≡ 0) ⊎ (q0 < w.died b)))
-        → Walks s w.name w.hist w.born w.died g.life (g.who q0) q0 went walk
+        → Walks s w.name w.hist w.born w.died g.life (g.who q0) q0 went walk → ((x i b : ℕ) (t : Bool) → (walk ≡ At x i b t) ⊎ (walk ≡ Past x i b t) → w.name (member_of b t) ≡ i)
         → ((i q : ℕ) → HasEntry notes record { round = q; name = i; bisected = true } → (q ≤ w.round) × ((b : ℕ) × (g.who q i ≡ b + 1))) → ((i q : ℕ) → HasEntry notes record { round = q; name = i; bisected = false } → (q ≤ w.round) × (g.who q i ≡ 0)) → ((x i : ℕ) → HasEntry places (x, i) → IsPlaceOf s w.name (g.who q0) x i) → ((b : ℕ) → (v.read j).pin ≡ w.round + 1 → HasEntry went b → ((x m : ℕ) → g.life b ≡ Undone x m → ⊥) ⊎ (((v.read j).pin ≡ w.round + 1) × HasEntry (v.read j).went b))
         → Rule s w n (record v { read = update v.read j (walked went walk notes places) }) g
-    walks_on went walk notes places ok here yes_ no_ at fresh = rereads j w.taken w.released g.pins (walked went walk notes places) (same_pin j (walked went walk notes places) kind refl (r.pins.bit j) (let a = ready_sum j (walked went walk notes places) (inside j kind) in let b = r.pins.bound in omega arith))
+    walks_on went walk notes places ok here sd yes_ no_ at fresh = rereads j w.taken w.released g.pins (walked went walk notes places) (same_pin j (walked went walk notes places) kind refl (r.pins.bit j) (let a = ready_sum j (walked went walk notes places) (inside j kind) in let b = r.pins.bound in omega arith))
         r.rules.clear r.stock.left (omega arith) fresh (λ q h. inr (j, h))
-        record { went = λ q b p h. subst (λ (x : ℕ). ((t : Bool) × (y : ℕ) × (stands (g.life b) t ≡ y + 1)) × ((w.died b ≡ 0) ⊎ (x < w.died b))) (same_q q p) (ok b h); walk = λ q p. subst (λ (x : ℕ). Walks s w.name w.hist w.born w.died g.life (g.who x) x went walk) (same_q q p) here; places = λ q x i p h. subst (λ (y : ℕ). IsPlaceOf s w.name (g.who y) x i) (same_q q p) (at x i h); yes_notes = yes_; no_notes = no_ } (told_on j (walked went walk notes places) refl refl (inl refl) (λ q e. inl e))
+        record { went = λ q b p h. subst (λ (x : ℕ). ((t : Bool) × (y : ℕ) × (stands (g.life b) t ≡ y + 1)) × ((w.died b ≡ 0) ⊎ (x < w.died b))) (same_q q p) (ok b h); walk = λ q p. subst (λ (x : ℕ). Walks s w.name w.hist w.born w.died g.life (g.who x) x went walk) (same_q q p) here; sided = λ q x i b t p h. sd x i b t h; places = λ q x i p h. subst (λ (y : ℕ). IsPlaceOf s w.name (g.who y) x i) (same_q q p) (at x i h); yes_notes = yes_; no_notes = no_ } (told_on j (walked went walk notes places) refl refl (inl refl) (λ q e. inl e))
 
     places_ok : (x i : ℕ) → HasEntry (v.read j).places (x, i) → IsPlaceOf s w.name (g.who q0) x i
     places_ok x i h = (r.goes j).places q0 x i pinned h
 
     -- the place of an element that the pass found, or a macro element's
-    pub place_is : (x i : ℕ) → HasEntry (v.read j).places (x, i) ⊎ ((x < s.elements) × (i ≡ s.top x)) → IsPlaceOf s w.name (g.who q0) x i
+    place_is : (x i : ℕ) → HasEntry (v.read j).places (x, i) ⊎ ((x < s.elements) × (i ≡ s.top x)) → IsPlaceOf s w.name (g.who q0) x i
     place_is x i h = ⊎_elim (λ t. places_ok x i t) inl h
 
     went_ok : (b : ℕ) → HasEntry (v.read j).went b → ((t : Bool) × (x : ℕ) × (stands (g.life b) t ≡ x + 1)) × ((w.died b ≡ 0) ⊎ (q0 < w.died b))
@@ -195,25 +199,40 @@ module _ (s : Setup) (w : Words) (n : ℕ) (v : Views) (g : Ghost) (r : Rule s w
         clash : true ≡ false → ⊥
         clash e = cc
 
+    -- the word l is the one that the walk loads next: the LINK of a place that was found, or of a macro element, or the HISTORY word of the block that was passed by
+    abbrev pub IsNext : ℕ → ℕ → Node → Type 0
+    IsNext x k l = ((HasEntry (v.read j).places (x, k) ⊎ ((x < s.elements) × (k ≡ s.top x))) × (l ≡ w.head x)) ⊎ ((b : ℕ) × (t : Bool) × ((v.read j).walk ≡ Past x k b t) × (l ≡ w.hist (member_of b t)))
+
     -- from the place's head, and from the history word of a block that is passed by, the round's block is found
     abbrev pub Leads : ℕ → ℕ → Node → Type 0
     Leads x k l = IsHead w.round w.died g.life x l × IsPlaceOf s w.name (g.who q0) x k × ((c : ℕ) → g.who q0 k ≡ c + 1 → Reaches w.hist w.born w.died g.life q0 x c l)
 
-    pub first_word : (x k : ℕ) → IsPlaceOf s w.name (g.who q0) x k → Leads x k (w.head x)
+    first_word : (x k : ℕ) → IsPlaceOf s w.name (g.who q0) x k → Leads x k (w.head x)
     first_word x k h = let f = r.names.fits q0 can in (
       r.chains.heads x (seen_live s w.name w.name w.head w.hist w.head w.hist w.born w.died w.born w.died g.life g.life (λ _ _ _ _ _. refl) (g.who q0) q0 x k f h),
       h,
       λ c e. let t = f.found k c e in subst (λ (y : ℕ). Reaches w.hist w.born w.died g.life q0 y c (w.head y)) (place_one s w n v g r q0 can t.1 x k t.4 h) t.5,
     )
 
-    pub next_word : (x k b : ℕ) (t : Bool) → (v.read j).walk ≡ Past x k b t → Leads x k (w.hist (member_of b t))
+    next_word : (x k b : ℕ) (t : Bool) → (v.read j).walk ≡ Past x k b t → Leads x k (w.hist (member_of b t))
     next_word x k b t at = let h = subst (Walks s w.name w.hist w.born w.died g.life (g.who q0) q0 (v.read j).went) at ((r.goes j).walk q0 pinned) in
         (older_head (λ _. Unit {0}) (Went w.round w.died v.kind v.work v.read) s.elements w.round w.head w.hist w.born w.died g.life r.chains x (w.born b) (w.hist (member_of b t)) (r.chains.hists b t x h.1), h.2, h.3)
 
+    pub leads : (x k : ℕ) (l : Node) → IsNext x k l → Leads x k l
+    leads x k l (inl t) = subst (Leads x k) (sym t.1) (first_word x k (place_is x k t.0))
+    leads x k l (inr t) = subst (Leads x k) (sym t.3) (next_word x k t.0 t.1 t.2)
+
+    -- a member of the block that the word names has the element's name
+    pub next_named : (x k : ℕ) (l : Node) → IsNext x k l → (c : ℕ) (t : Bool) → l.block ≡ c + 1 → chained (g.life c) t ≡ x + 1 → w.name (member_of c t) ≡ k
+    next_named x k l (inl a) c t e ch = let lab = label_of s w n v g r q0 can x k (place_is x k a.0) in
+        label_one s w.name g.life x (w.name (member_of c t)) k (r.named.heads x c t (label_place s w.name g.life x k lab) (ap (λ (i : Node). i.block) (sym a.1) ∙ e) ch) lab
+    next_named x k l (inr n) c t e ch = let h = subst (Walks s w.name w.hist w.born w.died g.life (g.who q0) q0 (v.read j).went) n.2 ((r.goes j).walk q0 pinned) in
+        r.named.hists n.0 c x n.1 t h.1 (ap (λ (i : Node). i.block) (sym n.3) ∙ e) ch ∙ (r.goes j).sided q0 x k n.0 n.1 pinned (inr n.2)
+
     -- the word stops the walk: the name is not bisected
-    pub ends : (x k : ℕ) (l : Node) → Leads x k l → (l.block ≡ 0) ⊎ ((0 < l.died) × (l.died ≤ q0)) → Rule s w n (record v { read = update v.read j (walked (v.read j).went Still (record { round = q0; name = k; bisected = false } ∷ (v.read j).notes) (v.read j).places) }) g
-    ends x k l f stop = let z : g.who q0 k ≡ 0 = ⊎_elim (λ e. e) (λ t. absurd (none t.0 (f.2 t.0 t.1) stop f.0)) (zero_or_more (g.who q0 k)) in
-        walks_on (v.read j).went Still (record { round = q0; name = k; bisected = false } ∷ (v.read j).notes) (v.read j).places went_ok tt (note_no_yes k) (note_no k z) places_ok (λ b p h. inr (p, h))
+    pub ends : (x k : ℕ) (l : Node) → IsNext x k l → (l.block ≡ 0) ⊎ ((0 < l.died) × (l.died ≤ q0)) → Rule s w n (record v { read = update v.read j (walked (v.read j).went Still (record { round = q0; name = k; bisected = false } ∷ (v.read j).notes) (v.read j).places) }) g
+    ends x k l next stop = let f = leads x k l next in let z : g.who q0 k ≡ 0 = ⊎_elim (λ e. e) (λ t. absurd (none t.0 (f.2 t.0 t.1) stop f.0)) (zero_or_more (g.who q0 k)) in
+        walks_on (v.read j).went Still (record { round = q0; name = k; bisected = false } ∷ (v.read j).notes) (v.read j).places went_ok tt (λ y i b t z. absurd (still_not y i b t z)) (note_no_yes k) (note_no k z) places_ok (λ b p h. inr (p, h))
       where
         none : (c : ℕ) → Reaches w.hist w.born w.died g.life q0 x c l → (l.block ≡ 0) ⊎ ((0 < l.died) × (l.died ≤ q0)) → IsHead w.round w.died g.life x l → ⊥
         none c h (inl e) o = none_found w.hist w.born w.died g.life q0 x c l e h
@@ -221,12 +240,13 @@ module _ (s : Setup) (w : Words) (n : ℕ) (v : Views) (g : Ghost) (r : Rule s w
         none c h (inr e) (inr o) = let dd = o.4 e.0 in let e0 = e.0 in let e1 = e.1 in dead_end (λ _. Unit {0}) (Went w.round w.died v.kind v.work v.read) s.elements w.round w.head w.hist w.born w.died g.life r.chains q0 x c h.0 l o.0 o.1 o.2 o.3 (omega arith) (omega arith) h.1
 
     -- the word leads to a block, and the walk goes there
-    pub goes_to : (x k b : ℕ) (l : Node) → Leads x k l → l.block ≡ b + 1 → (l.died ≡ 0) ⊎ (q0 < l.died) → (t : Bool) × Rule s w n (record v { read = update v.read j (walked (b ∷ (v.read j).went) (At x k b t) (v.read j).notes (v.read j).places) }) g
-    goes_to x k b l f is may = let o = named (λ _. Unit {0}) (Went w.round w.died v.kind v.work v.read) s.elements w.round w.head w.hist w.born w.died g.life r.chains x b l f.0 is in let st = chained_stands (g.life b) o.0 x o.1 in let al = alive may f.0 in (
+    pub goes_to : (x k b : ℕ) (l : Node) → IsNext x k l → l.block ≡ b + 1 → (l.died ≡ 0) ⊎ (q0 < l.died) → (t : Bool) × Rule s w n (record v { read = update v.read j (walked (b ∷ (v.read j).went) (At x k b t) (v.read j).notes (v.read j).places) }) g
+    goes_to x k b l next is may = let f = leads x k l next in let o = named (λ _. Unit {0}) (Went w.round w.died v.kind v.work v.read) s.elements w.round w.head w.hist w.born w.died g.life r.chains x b l f.0 is in let st = chained_stands (g.life b) o.0 x o.1 in let al = alive may f.0 in (
       o.0,
       walks_on (b ∷ (v.read j).went) (At x k b o.0) (v.read j).notes (v.read j).places
           (λ c h. ⊎_elim (λ e. subst (λ (y : ℕ). ((t : Bool) × (x : ℕ) × (stands (g.life y) t ≡ x + 1)) × ((w.died y ≡ 0) ⊎ (q0 < w.died y))) (sym e) ((o.0, x, st), al)) (went_ok c) h)
           (inl refl, st, f.1, λ c e. let h = first_block w.hist w.born w.died g.life q0 x c b l is (f.2 c e) in ⊎_elim inl (λ y. inr (subst (λ (i : Bool). Reaches w.hist w.born w.died g.life q0 x c (w.hist (member_of b i))) (r.chains.sides b h.0 o.0 x h.1 st) y)) h.2)
+          (λ y i c t z. ⊎_elim (λ e. let p = at_one x k b o.0 y i c t e in sym (ap (λ (q : ℕ × Bool). w.name (member_of q.0 q.1)) (λ q. (p.2 q, p.3 q))) ∙ next_named x k l next b o.0 is o.1 ∙ p.1) (λ e. absurd (at_past x k b o.0 y i c t e)) z)
           (λ i q h. (r.goes j).yes_notes i q h) (λ i q h. (r.goes j).no_notes i q h) places_ok
           (λ c p h. ⊎_elim (λ e. inl (λ y m f. let z : 0 ≡ x + 1 = sym (ap (λ (l : Life). chained l o.0) (ap g.life (sym e) ∙ f)) ∙ o.1 in omega arith)) (λ t. inr (p, t)) h),
     )
@@ -241,7 +261,7 @@ module _ (s : Setup) (w : Words) (n : ℕ) (v : Views) (g : Ghost) (r : Rule s w
     finds_it x k b t at p l = let h = subst (Walks s w.name w.hist w.born w.died g.life (g.who q0) q0 (v.read j).went) at ((r.goes j).walk q0 pinned) in
         let c : chained (g.life b) t ≡ x + 1 = ⊎_elim (λ y. placed_chained (g.life b) t x y.0 y.1 y.2 h.1) (λ y. let z = r.chains.undone b y.0 y.1 y.2 in absurd (omega arith)) (standing (g.life b) t x h.1) in
         let u = r.names.sound q0 can b t x c (p, l, (went_ok b h.0).1) in let e = name_one s w n v g r q0 x (w.name (member_of b t)) k u.1 h.2 in
-        walks_on (v.read j).went Still (record { round = q0; name = k; bisected = true } ∷ (v.read j).notes) ((child_place s.elements b t false, s.child k false) ∷ (child_place s.elements b t true, s.child k true) ∷ (v.read j).places) went_ok tt (note_yes k b (ap (g.who q0) (sym e) ∙ u.0)) (note_yes_no k)
+        walks_on (v.read j).went Still (record { round = q0; name = k; bisected = true } ∷ (v.read j).notes) ((child_place s.elements b t false, s.child k false) ∷ (child_place s.elements b t true, s.child k true) ∷ (v.read j).places) went_ok tt (λ y i b t z. absurd (still_not y i b t z)) (note_yes k b (ap (g.who q0) (sym e) ∙ u.0)) (note_yes_no k)
         (λ y i m. ⊎_elim (λ f. kid_at u.0 e false y i f) (λ m2. ⊎_elim (λ f. kid_at u.0 e true y i f) (λ m3. places_ok y i m3) m2) m) (λ c p h. inr (p, h))
       where
         -- a child's place and name
@@ -252,4 +272,5 @@ module _ (s : Setup) (w : Words) (n : ℕ) (v : Views) (g : Ghost) (r : Rule s w
     pub passes : (x k b : ℕ) (t : Bool) → (v.read j).walk ≡ At x k b t → (w.born b ≡ 0) ⊎ (q0 < w.born b) → Rule s w n (record v { read = update v.read j (walked (v.read j).went (Past x k b t) (v.read j).notes (v.read j).places) }) g
     passes x k b t at not = let h = subst (Walks s w.name w.hist w.born w.died g.life (g.who q0) q0 (v.read j).went) at ((r.goes j).walk q0 pinned) in
         walks_on (v.read j).went (Past x k b t) (v.read j).notes (v.read j).places went_ok (h.0, h.1, h.2, λ c e. ⊎_elim (λ y. let z : w.born b ≡ w.born c = ap w.born y.0 in let y0 = y.1.0 in let y1 = y.1.1 in absurd (omega arith)) (λ y. y) (h.3 c e))
+        (λ y i c u z. ⊎_elim (λ e. absurd (at_past y i c u x k b t (sym e))) (λ e. let p = past_one x k b t y i c u e in sym (ap (λ (q : ℕ × Bool). w.name (member_of q.0 q.1)) (λ q. (p.2 q, p.3 q))) ∙ (r.goes j).sided q0 x k b t pinned (inl at) ∙ p.1) z)
         (λ i q u. (r.goes j).yes_notes i q u) (λ i q u. (r.goes j).no_notes i q u) places_ok (λ b p h. inr (p, h))

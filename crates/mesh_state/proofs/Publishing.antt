@@ -19,10 +19,12 @@ use Rattle.mesh_state.specs.Lists.{Holds}
 use Rattle.mesh_state.proofs.Lists.{crew_goes, number_kept, plan_update, target_on, history_who, drawn_update}
 use Rattle.mesh_state.proofs.Lists.{draws_goes, draws_update}
 use Rattle.mesh_state.specs.Rule.{Rule}
+use Rattle.mesh_state.specs.Inside.{ListedOnce}
+use Rattle.mesh_state.proofs.Inside.{inside_goes, once_moved}
 use Rattle.mesh_state.proofs.FoundAgain.{one_more, goes_on, goes_who, workers_on, workers_who, Moves}
 use Rattle.mesh_state.proofs.BlockSteps.{undead, bears}
 use Rattle.mesh_state.proofs.HeldClaims.{not_open, held_one, free_not, placed_one, shape_on, one_user, goes}
-use Rattle.mesh_state.proofs.Across.{Went, is_living, Of, chained_of, low, some_worker, first_half, unmet}
+use Rattle.mesh_state.proofs.Across.{Went, is_living, Of, name_one, chained_of, low, some_worker, first_half, unmet}
 use Rattle.mesh_state.proofs.SureWords.{retired_on, sure_on, block_back, head_back}
 use Rattle.mesh_state.proofs.Bisections as rounds
 
@@ -128,10 +130,9 @@ module _ (s : Setup) (w : Words) (n : ℕ) (v : Views) (g : Ghost) (r : Rule s w
     abbrev stage' : ℕ → Stage
     stage' = update g.stage x (Held j m (Living b))
 
-    -- the pass knows the two names from now on
-    pub publishes : (known : List ℕ) → ((k : ℕ) → HasEntry known k → HasEntry (v.work j).known k ⊎ ((t : Bool) × (y : ℕ) × (chained (Placed x m) t ≡ y + 1) × (k ≡ w.name (member_of b t))))
+    published : (known : List ℕ) → ((k : ℕ) → HasEntry known k → HasEntry (v.work j).known k ⊎ ((t : Bool) × (y : ℕ) × (chained (Placed x m) t ≡ y + 1) × (k ≡ w.name (member_of b t))))
         → Rule s (record w { born = born' }) n (record v { claims = update v.claims j (moved_on (v.claims j) x (Living b)); work = update v.work j (record (v.work j) { known = known }) }) (record g { stage = stage'; who = who' })
-    publishes known right = record {
+    published known right = record {
       names_apart = r.names_apart;
       claims = goes s w.round w.cursor w.free v.ruling.phase w.row w.claimed w.head w.born g.life g.stage v.claims r.claims x j m (Whole b) (Living b) is refl (λ _. (b, refl)) w.head born' g.life
           (at, update_same w.born b d, shape.2, shape.3)
@@ -160,7 +161,7 @@ module _ (s : Setup) (w : Words) (n : ℕ) (v : Views) (g : Ghost) (r : Rule s w
             open_ = λ k h. let t = ((r.works i).open_ k h).0 in let e = one in absurd (omega arith);
             given = λ c k h. let t = ((r.works i).given c k h).0 in let e = one in absurd (omega arith);
           });
-      walks = update_cases (λ i u. WalkRule s w.round v.ruling.phase w.name w.hist born' w.died g.life who' (v.kind i) i u) v.work j (record (v.work j) { known = known }) (let u = walker j in record { still = u.still; only = u.only; half = u.half; absent = u.absent; stood = u.stood; had = u.had; went = u.went; walk = u.walk }) (λ i _. walker i);
+      walks = update_cases (λ i u. WalkRule s w.round v.ruling.phase w.name w.hist born' w.died g.life who' (v.kind i) i u) v.work j (record (v.work j) { known = known }) (let u = walker j in record { still = u.still; only = u.only; half = u.half; at_work = u.at_work; retired_in = u.retired_in; absent = u.absent; stood = u.stood; had = u.had; went = u.went; walk = u.walk; sided = u.sided }) (λ i _. walker i);
       sure = λ i. sure_on s.elements v.ruling.workers v.ruling.workers w.head w.hist w.head w.hist w.born w.died w.name w.row born' w.died w.name w.row g.stage stage' i (v.sure i)
           (λ z h. (head_back s.elements v.ruling.workers g.stage x j m (Whole b) (Living b) is (λ c e. absurd (not_drawn c e)) (λ c e. absurd (not_half c e)) i z h, refl))
           (λ c h. (block_back s.elements v.ruling.workers g.stage x j m (Whole b) (Living b) is (λ c e. absurd (not_drawn c e)) (λ c e. absurd (not_half c e)) i c h, (λ _. refl), refl, λ _. refl))
@@ -183,6 +184,9 @@ module _ (s : Setup) (w : Words) (n : ℕ) (v : Views) (g : Ghost) (r : Rule s w
       drawn = drawn_update v.ruling.phase w.cursor w.free w.row v.kind v.work j (record (v.work j) { known = known }) refl r.drawn;
       draws = draws_update v.ruling.phase v.work stage' j (record (v.work j) { known = known }) refl (draws_goes v.ruling.phase v.work g.stage x j m (Whole b) (Living b) is (λ c e. e) r.draws);
       crew = crew_goes s w.round v.ruling.phase v.kind v.work (update v.work j (record (v.work j) { known = known })) g.stage v.ruling.lone x j m (Living b) kind (number_kept v.work j (record (v.work j) { known = known }) refl) r.crew;
+      inside = inside_goes s w.free w.row g.life g.stage v.ruling.hand v.ruling.retired x j m (Whole b) j (Living b) is r.inside;
+      named = r.named;
+      once = update_cases (λ _ cs. ListedOnce cs) v.claims j (moved_on (v.claims j) x (Living b)) (once_moved (v.claims j) x (Living b) (r.once j)) (λ i _. r.once i);
       holders = λ z i k q h. dite (ℕ_discrete z x) (λ f. ⊎_elim (λ e. inl (sym (held_one j i m k (Living b) q (sym (update_at g.stage x z (Held j m (Living b)) f) ∙ h)).0 ∙ e)) (λ e. inr (ap v.kind (sym (held_one j i m k (Living b) q (sym (update_at g.stage x z (Held j m (Living b)) f) ∙ h)).0) ∙ e)) (r.holders x j m (Whole b) is)) (λ o. r.holders z i k q (sym (update_other g.stage x z (Held j m (Living b)) o) ∙ h));
       hand = λ c h. absurd ((r.hand c h).0 one);
     }
@@ -217,3 +221,13 @@ module _ (s : Setup) (w : Words) (n : ℕ) (v : Views) (g : Ghost) (r : Rule s w
         relabel : (z k : ℕ) (q : Progress) → Label z k q → (a : ℕ) × (s.leads a ≡ 1) × IsPlaceOf s w.name (who' d) z a × (who' w.round a ≡ 0) × ((c : ℕ) → linked q ≡ c + 1 → w.name (member_of c false) ≡ a)
             × ((k ≡ 0) × (s.mate a ≡ 0) ⊎ (y : ℕ) × (i : ℕ) × (k ≡ y + 1) × (s.mate a ≡ i + 1) × IsPlaceOf s w.name (who' d) y (i + 1) × (who' w.round (i + 1) ≡ 0)) × HasEntry v.ruling.plan.target a
         relabel z k q l = (l.0, l.1, here z l.0 (seen_stays z l.0 l.2), old_round l.0 ∙ l.3, l.4, ⊎_elim inl (λ t. inr (t.0, t.1, t.2, t.3, here t.0 (t.1 + 1) (seen_stays t.0 (t.1 + 1) t.4), old_round (t.1 + 1) ∙ t.5)) l.5, l.6)
+
+    -- the pass knows the names that it found at the members' places as bisected from now on
+    pub publishes : (known : List ℕ) → ((k : ℕ) → HasEntry known k → HasEntry (v.work j).known k ⊎ ((y : ℕ) × Of x m y × HasEntry (v.work j).found (y, k)))
+        → Rule s (record w { born = update w.born b (v.work j).round }) n (record v { claims = update v.claims j (moved_on (v.claims j) x (Living b)); work = update v.work j (record (v.work j) { known = known }) }) (record g { stage = stage'; who = who' })
+    publishes known right = subst (λ (e : ℕ). Rule s (record w { born = update w.born b e }) n (record v { claims = update v.claims j (moved_on (v.claims j) x (Living b)); work = update v.work j (record (v.work j) { known = known }) }) (record g { stage = stage'; who = who' })) (sym ((r.walks j).at_work kind))
+        (published known (λ k h. ⊎_elim inl (λ t. let c = side t.0 t.1 in inr (c.0, t.0, c.1, name_one s w n v g r d t.0 k (w.name (member_of b c.0)) ((r.works j).found t.0 k t.2).1 (seen c.0 t.0 (ap (λ (l : Life). chained l c.0) at ∙ c.1)))) (right k h)))
+      where
+        side : (y : ℕ) → Of x m y → (t : Bool) × (chained (Placed x m) t ≡ y + 1)
+        side y (inl e) = (false, ap (λ (i : ℕ). i + 1) (sym e))
+        side y (inr e) = (true, e)

@@ -15,10 +15,12 @@ use Rattle.mesh_state.specs.Chains.{Covers, ChainsRule}
 use Rattle.mesh_state.specs.Bisections.{IsKept}
 use Rattle.mesh_state.specs.Work.{WorkRule, WalkRule}
 use Rattle.mesh_state.specs.Sure.{GuardsBlock}
-use Rattle.mesh_state.specs.Lists.{Holds, IsListed}
-use Rattle.mesh_state.proofs.Lists.{crew_free, plan_update, target_on, history_who, drawn_update}
+use Rattle.mesh_state.specs.Lists.{Holds, IsMember, IsListed}
+use Rattle.mesh_state.proofs.Lists.{member_side, crew_free, plan_update, target_on, history_who, drawn_update}
 use Rattle.mesh_state.proofs.Lists.{draws_update}
 use Rattle.mesh_state.specs.Rule.{Rule}
+use Rattle.mesh_state.proofs.Inside.{below_pool}
+use Rattle.mesh_state.proofs.HeldClaims.{free_not}
 use Rattle.mesh_state.proofs.FoundAgain.{goes_on, goes_who, workers_on, workers_who, Moves}
 use Rattle.mesh_state.proofs.BlockSteps.{kills}
 use Rattle.mesh_state.proofs.Across.{Went, low, some_worker}
@@ -74,10 +76,9 @@ module _ (s : Setup) (w : Words) (n : ℕ) (v : Views) (g : Ghost) (r : Rule s w
     still_open : (i : ℕ) → g.who d i ≡ 0 → now i ≡ 0
     still_open i z = ⊎_elim (λ c. c.4) (λ c. c.0 ∙ z) (rounds.marks_cases M X (w.name (member_of b false)) (w.name (member_of b true)) 0 (g.who d) i)
 
-    -- and its members are known as not bisected from now on
-    pub retires : (names : List ℕ) → ((i : ℕ) → HasEntry names i → HasEntry (v.work j).open_ i ⊎ ((t : Bool) × (y : ℕ) × (chained (g.life b) t ≡ y + 1) × (i ≡ w.name (member_of b t))))
+    retired_now : (names : List ℕ) → ((i : ℕ) → HasEntry names i → HasEntry (v.work j).open_ i ⊎ ((t : Bool) × (y : ℕ) × (chained (g.life b) t ≡ y + 1) × (i ≡ w.name (member_of b t))))
         → (wh : ℕ → ℕ → ℕ) × Rule s (record w { died = update w.died b d }) n (record v { work = update v.work j (record (v.work j) { open_ = names; retired = b ∷ (v.work j).retired }) }) (record g { who = wh })
-    retires names right = (
+    retired_now names right = (
       who',
       record {
         names_apart = r.names_apart;
@@ -101,7 +102,7 @@ module _ (s : Setup) (w : Words) (n : ℕ) (v : Views) (g : Ghost) (r : Rule s w
               open_ = λ i h. let t = (r.works a).open_ i h in (t.0, now_is i (still_open i t.1));
               given = λ c i h. on_given c i ((r.works a).given c i h);
             });
-        walks = update_cases (λ i u. WalkRule s w.round v.ruling.phase w.name w.hist w.born (update w.died b d) g.life who' (v.kind i) i u) v.work j (record (v.work j) { open_ = names; retired = b ∷ (v.work j).retired }) (let u = walker j in record { still = u.still; only = λ o. absurd (o kind); half = u.half; absent = u.absent; stood = u.stood; had = u.had; went = u.went; walk = u.walk }) (λ i _. walker i);
+        walks = update_cases (λ i u. WalkRule s w.round v.ruling.phase w.name w.hist w.born (update w.died b d) g.life who' (v.kind i) i u) v.work j (record (v.work j) { open_ = names; retired = b ∷ (v.work j).retired }) (let u = walker j in record { still = u.still; only = λ o. absurd (o kind); half = u.half; at_work = u.at_work; retired_in = λ c h. ⊎_elim (λ e. subst (λ (i : ℕ). i < s.pool) (sym e) (below_pool s w.free w.row g.life g.stage v.ruling.hand v.ruling.retired r.inside b (λ f. free_not X M (sym f ∙ at)))) (u.retired_in c) h; absent = u.absent; stood = u.stood; had = u.had; went = u.went; walk = u.walk; sided = u.sided }) (λ i _. walker i);
         sure = λ i. sure_on s.elements v.ruling.workers v.ruling.workers w.head w.hist w.head w.hist w.born w.died w.name w.row w.born (update w.died b d) w.name w.row g.stage g.stage i (v.sure i)
             (λ z h. (h, refl))
             (λ c h. absurd (no_block i c h))
@@ -125,6 +126,9 @@ module _ (s : Setup) (w : Words) (n : ℕ) (v : Views) (g : Ghost) (r : Rule s w
         drawn = drawn_update v.ruling.phase w.cursor w.free w.row v.kind v.work j (record (v.work j) { open_ = names; retired = b ∷ (v.work j).retired }) refl r.drawn;
         draws = draws_update v.ruling.phase v.work g.stage j (record (v.work j) { open_ = names; retired = b ∷ (v.work j).retired }) refl r.draws;
         crew = crew_free s w.round v.ruling.phase v.kind (update v.work j (record (v.work j) { open_ = names; retired = b ∷ (v.work j).retired })) g.stage v.ruling.lone r.crew.rounds (λ e. let z = two in absurd (omega arith));
+        inside = r.inside;
+        named = r.named;
+        once = r.once;
         holders = r.holders;
         hand = r.hand;
       },
@@ -175,3 +179,9 @@ module _ (s : Setup) (w : Words) (n : ℕ) (v : Views) (g : Ghost) (r : Rule s w
         no_block : (i c : ℕ) → GuardsBlock v.ruling.workers g.stage i c → ⊥
         no_block i c (inl t) = let a = some_worker s w n v g r j kind in let e = t.1 in omega arith
         no_block i c (inr t) = ⊎_elim (λ h. let q = r.claims.living t.0 i t.1 (Drawn c) h two in not_drawn c q.0 q.1) (λ h. let q = r.claims.living t.0 i t.1 (Half c) h two in not_half c q.0 q.1) t.2
+
+    -- and its members are known as not bisected from now on
+    pub retires : (names : List ℕ) → ((i : ℕ) → HasEntry names i → HasEntry (v.work j).open_ i ⊎ IsMember s k i)
+        → (wh : ℕ → ℕ → ℕ) × Rule s (record w { died = update w.died b (v.work j).round }) n (record v { work = update v.work j (record (v.work j) { open_ = names; retired = b ∷ (v.work j).retired }) }) (record g { who = wh })
+    retires names right = subst (λ (e : ℕ). (wh : ℕ → ℕ → ℕ) × Rule s (record w { died = update w.died b e }) n (record v { work = update v.work j (record (v.work j) { open_ = names; retired = b ∷ (v.work j).retired }) }) (record g { who = wh })) (sym ((r.walks j).at_work kind))
+        (retired_now names (λ i h. ⊎_elim inl (λ t. let c = member_side s w.name k b X M i entry.1 (r.names.patch b X M at) t in inr (c.0, c.1, ap (λ (l : Life). chained l c.0) at ∙ c.2, c.3)) (right i h)))

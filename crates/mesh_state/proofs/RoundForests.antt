@@ -43,7 +43,7 @@ module _ (mesh : Shape) (across : Across) (l : Layout) (passes : ℕ) (tells : T
       (both_true _ _ (eq-eqb _ _ (ap name_code back)) (ap (λ (m : Name). ltb (level mesh m) 24) back ∙ lt-ltb (level mesh n) 24 low))
       (ap (λ (m : Name). ltb m.0 (size mesh)) back ∙ lt-ltb n.0 (size mesh) root)
 
-  child_of : (n : Name) (c : Bool) → n.0 < size mesh → level mesh n < 24 → child_code mesh (name_code n) c ≡ name_code (n.0, c ∷ n.1)
+  pub child_of : (n : Name) (c : Bool) → n.0 < size mesh → level mesh n < 24 → child_code mesh (name_code n) c ≡ name_code (n.0, c ∷ n.1)
   child_of n c root low = let back = code_back n (omega arith) in ⊎_elim (λ t. t.1 ∙ ap (λ (m : Name). name_code (m.0, c ∷ m.1)) back)
       (λ t. ap (λ (b : Bool). cond b (name_code ((name_in (name_code n - 1)).0, c ∷ (name_in (name_code n - 1)).1)) (1 + 31 * 16777216 + (2 * name_code n + digit c) * 536870912)) (coded n root low) ∙ ap (λ (m : Name). name_code (m.0, c ∷ m.1)) back)
       (child_is mesh (name_code n) c)
@@ -190,7 +190,7 @@ module _ (mesh : Shape) (across : Across) (l : Layout) (passes : ℕ) (tells : T
     leads_code k e = (both (is_code mesh k) (owns across (name_in (k - 1))) (digit_one (owner_code mesh across k) e)).0
 
     -- a bisected name is one of the mesh
-    bisected_code : (q : ℕ) → MayRead w.round v.ruling.phase v.read q → (k : ℕ) → Holds (g.who q) k → is_code mesh k ≡ true
+    pub bisected_code : (q : ℕ) → MayRead w.round v.ruling.phase v.read q → (k : ℕ) → Holds (g.who q) k → is_code mesh k ≡ true
     bisected_code q may k h = let f = (r.names.fits q may).found k h.0 h.1 in let p = placed (g.life h.0) f.0 f.1 f.3 in let a = r.names.patch h.0 p.0 p.1 p.2 in by f.0 f.2 (ap (λ (l : Life). chained l f.0) (sym p.2) ∙ f.3) a.0 a.1
       where
         by : (t : Bool) → w.name (member_of h.0 t) ≡ k → (let f = (r.names.fits q may).found k h.0 h.1 in let p = placed (g.life h.0) f.0 f.1 f.3 in chained (Placed p.0 p.1) t ≡ f.1 + 1) → s.leads (w.name (member_of h.0 false)) ≡ 1 → w.name (member_of h.0 true) ≡ s.mate (w.name (member_of h.0 false)) → is_code mesh k ≡ true
@@ -223,13 +223,13 @@ pub least_is_target : LeastIsTarget
 least_is_target mesh across l passes tells = is_target mesh across l passes tells
 
 pub bisected_coded : BisectedCoded
-bisected_coded mesh across l passes tells w n v g r q may k h = let o = of_code mesh k (bisected_code mesh across l passes tells w n v g r q may k h) in let low = o.1 in (name_in (k - 1), o.2, o.1, omega arith, sym o.0)
+bisected_coded mesh across l passes tells w n v (g, r) q may k h = let o = of_code mesh k (bisected_code mesh across l passes tells w n v g r q may k h) in let low = o.1 in (name_in (k - 1), o.2, o.1, omega arith, sym o.0)
 
 pub reads_forests : ReadsForests
-reads_forests mesh across l passes tells w n v g r q may = reads mesh across l passes tells w n v g r q may
+reads_forests mesh across l passes tells w n v (g, r) q may = reads mesh across l passes tells w n v g r q may
 
 -- numbers that are codes of names are the codes of a set of names
-coded_set : (list : List ℕ) → ((k : ℕ) → HasEntry list k → (n : Name) × (depth n ≤ 24) × (k ≡ name_code n)) → (members : Names) × AreCodes members (HasEntry list)
+pub coded_set : (list : List ℕ) → ((k : ℕ) → HasEntry list k → (n : Name) × (depth n ≤ 24) × (k ≡ name_code n)) → (members : Names) × AreCodes members (HasEntry list)
 coded_set [] f = (
   empty,
   record {
@@ -255,7 +255,7 @@ coded_set (k ∷ ks) f =
     )
 
 pub kept_forests : KeptForests
-kept_forests mesh across l passes tells w n v g r q kept = let f = reads mesh across l passes tells w n v g r q (inl kept) set.0 all in (set.0, all, f.0, f.1)
+kept_forests mesh across l passes tells w n v (g, r) q kept = let f = reads mesh across l passes tells w n v g r q (inl kept) set.0 all in (set.0, all, f.0, f.1)
   where
     past : q ≤ w.round
     past = ⊎_elim (λ e. omega arith) (λ t. r.pins.past t.0 q t.1) kept
@@ -264,7 +264,7 @@ kept_forests mesh across l passes tells w n v g r q kept = let f = reads mesh ac
     told = entry_at v.ruling.history q (let k = r.history.rounds in let p = past in omega arith)
 
     set : (members : Names) × AreCodes members (HasEntry told.0)
-    set = coded_set told.0 (λ k h. let t = bisected_coded mesh across l passes tells w n v g r q (inl kept) k ((r.history.forests q told.0 told.1 k).0 h) in (t.0, t.3, t.4))
+    set = coded_set told.0 (λ k h. let t = bisected_coded mesh across l passes tells w n v (g, r) q (inl kept) k ((r.history.forests q told.0 told.1 k).0 h) in (t.0, t.3, t.4))
 
     all : AreCodes set.0 (Holds (g.who q))
     all = record {
@@ -274,4 +274,4 @@ kept_forests mesh across l passes tells w n v g r q kept = let f = reads mesh ac
     }
 
 pub least_when_needed : LeastWhenNeeded
-least_when_needed mesh across l passes tells w n v g r = needed mesh across l passes tells w n v g r
+least_when_needed mesh across l passes tells w n v (g, r) = needed mesh across l passes tells w n v g r

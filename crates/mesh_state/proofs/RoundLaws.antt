@@ -13,32 +13,32 @@ use Rattle.mesh_state.proofs.Across.{Went, half_of}
 use Rattle.mesh_state.proofs.Lists.{bisected_closed, entry_low, entry_at}
 
 pub between : BetweenForests
-between s w n v g r one = (r.plan.aim (omega arith) (omega arith), λ k. ((λ h. (h.0, r.names.grows k h.0 (omega arith) h.1)), λ h. r.plan.within k (omega arith) (omega arith) h))
+between s w n v (g, r) one = (r.plan.aim (omega arith) (omega arith), λ k. ((λ h. (h.0, r.names.grows k h.0 (omega arith) h.1)), λ h. r.plan.within k (omega arith) (omega arith) h))
 
 pub differs : DiffersByPatches
-differs s w n v g r later k = let a : 1 < v.ruling.phase = ⊎_elim (λ e. omega arith) (λ e. omega arith) later in let b : v.ruling.phase < 4 = ⊎_elim (λ e. omega arith) (λ e. omega arith) later in
+differs s w n v (g, r) later k = let a : 1 < v.ruling.phase = ⊎_elim (λ e. omega arith) (λ e. omega arith) later in let b : v.ruling.phase < 4 = ⊎_elim (λ e. omega arith) (λ e. omega arith) later in
     ((λ h. r.plan.within k (omega arith) b h), (λ h. r.plan.whole k a b h), λ e h l. let z = r.plan.done k e h in let y = l.1 in omega arith)
 
 pub closed : BisectedClosed
-closed s w n v g r q may = bisected_closed s w n v g r q may
+closed s w n v (g, r) q may = bisected_closed s w n v g r q may
 
 pub aimed : ClaimsAimed
-aimed s w n v g r j x m p one h = let e = r.claims.held j x m p h in let l = r.labels x j m p e one in (r.claims.bits x ∙ ap bit_of e, (l.0, l.1, l.2, l.3, l.6))
+aimed s w n v (g, r) j x m p one h = let e = r.claims.held j x m p h in let l = r.labels x j m p e one in (r.claims.bits x ∙ ap bit_of e, (l.0, l.1, l.2, l.3, l.6))
 
 pub lists_known : ListsKnown
-lists_known s w n v g r j k = r.plan.same j k
+lists_known s w n v (g, r) j k = r.plan.same j k
 
 pub history_right : HistoryRight
-history_right s w n v g r = (
+history_right s w n v (g, r) = (
   (λ q l. entry_at v.ruling.history q (let k = r.history.rounds in omega arith)),
   λ q names e. (let l = entry_low v.ruling.history q names e in let k = r.history.rounds in omega arith, λ k. r.history.forests q names e k),
 )
 
 pub told_prefix : ToldPrefix
-told_prefix s w n v g r j = let a = r.history.seen j in (r.history.told j, a.0, a.1, (r.history.made j).1)
+told_prefix s w n v (g, r) j = let a = r.history.seen j in (r.history.told j, a.0, a.1, (r.history.made j).1)
 
 pub notes_told : NotesInHistory
-notes_told s w n v g r j k q = (
+notes_told s w n v (g, r) j k q = (
   finished,
   λ names e. (
     (λ h. (r.history.forests q names e k).1 ((r.goes j).yes_notes k q h).1),
@@ -51,20 +51,20 @@ notes_told s w n v g r j k q = (
     finished false h = ((r.goes j).no_notes k q h).0
 
 pub draws_apart : DrawsApart
-draws_apart s w n v g r i j k b c h l = let t = r.drawn.drawn i k b h in let u = r.drawn.drawn j k c l in
+draws_apart s w n v (g, r) i j k b c h l = let t = r.drawn.drawn i k b h in let u = r.drawn.drawn j k c l in
     (r.drawn.apart i j k b c h l, elim (dec_lt k w.free) [ yes a ↦ t.2 a ∙ sym (u.2 a) | no o ↦ t.3 (omega arith) ∙ sym (u.3 (omega arith)) ], t.1, t.2)
 
 pub walks_begin : WalksBegin
-walks_begin s w n v g r q may x k at = seen_live s w.name w.name w.head w.hist w.head w.hist w.born w.died w.born w.died g.life g.life (λ _ _ _ _ _. refl) (g.who q) q x k (r.names.fits q may) at
+walks_begin s w n v (g, r) q may x k at = seen_live s w.name w.name w.head w.hist w.head w.hist w.born w.died w.born w.died g.life g.life (λ _ _ _ _ _. refl) (g.who q) q x k (r.names.fits q may) at
 
 pub chains_stand : ChainsStand
-chains_stand s w n v g r = (
+chains_stand s w n v (g, r) = (
   (λ x b l e. let t = named (λ _. Unit {0}) (Went w.round w.died v.kind v.work v.read) s.elements w.round w.head w.hist w.born w.died g.life r.chains x b (w.head x) (r.chains.heads x l) e in (t.0, chained_stands (g.life b) t.0 x t.1)),
   λ a c x t h e. let o = older_named (λ _. Unit {0}) (Went w.round w.died v.kind v.work v.read) s.elements w.round w.head w.hist w.born w.died g.life r.chains x c (w.born a) (w.hist (member_of a t)) (r.chains.hists a t x h) e in (o.0, chained_stands (g.life c) o.0 x o.1),
 )
 
 pub quiet_round : QuietRound
-quiet_round s w n v g r b x m u = (
+quiet_round s w n v (g, r) b x m u = (
   (λ e j p h. r.note.quiet e j b p h (r.note.all b x m u)),
   (λ y l e. let t = named (λ _. Unit {0}) (Went w.round w.died v.kind v.work v.read) s.elements w.round w.head w.hist w.born w.died g.life r.chains y b (w.head y) (r.chains.heads y l) e in gone t.0 y t.1),
   λ a y t h e. let o = older_named (λ _. Unit {0}) (Went w.round w.died v.kind v.work v.read) s.elements w.round w.head w.hist w.born w.died g.life r.chains y b (w.born a) (w.hist (member_of a t)) (r.chains.hists a t y h) e in gone o.0 y o.1,
@@ -74,7 +74,7 @@ quiet_round s w n v g r b x m u = (
     gone t y c = let z : 0 ≡ y + 1 = sym (ap (λ (l : Life). chained l t) u) ∙ c in omega arith
 
 pub standing_kept : StandingKept
-standing_kept s w n v g r b x t st = (
+standing_kept s w n v (g, r) b x t st = (
   (λ i a l e. free (ap g.life (sym e) ∙ (r.claims.rows i a l).0)),
   (λ h. free (r.hand b h).1),
   λ j y m h. let sh = r.claims.shape y j m (Drawn b) (r.claims.held j y m (Drawn b) h) in let z : 0 ≡ x + 1 = sym (ap (λ (l : Life). stands l t) sh.0) ∙ st in omega arith,
@@ -84,10 +84,10 @@ standing_kept s w n v g r b x t st = (
     free e = let z : 0 ≡ x + 1 = sym (ap (λ (l : Life). stands l t) e) ∙ st in omega arith
 
 pub rounds_left : RoundsLeft
-rounds_left s w n v g r = (r.crew.rounds.0, λ j k. r.crew.rounds.1 (⊎_elim (λ e. omega arith) (λ e. omega arith) (half_of s w n v g r j k)))
+rounds_left s w n v (g, r) = (r.crew.rounds.0, λ j k. r.crew.rounds.1 (⊎_elim (λ e. omega arith) (λ e. omega arith) (half_of s w n v g r j k)))
 
 pub worker_alone : WorkerAlone
-worker_alone s w n v g r j one k z = let t = r.crew.alone j one k z in (t.0, λ i x m p h. t.1 x i m p (r.claims.held i x m p h))
+worker_alone s w n v (g, r) j one k z = let t = r.crew.alone j one k z in (t.0, λ i x m p h. t.1 x i m p (r.claims.held i x m p h))
 
 pub claims_drawn : ClaimsDrawn
-claims_drawn s w n v g r j x m b p one h f = r.draws x j m b p one (r.claims.held j x m p h) f
+claims_drawn s w n v (g, r) j x m b p one h f = r.draws x j m b p one (r.claims.held j x m p h) f

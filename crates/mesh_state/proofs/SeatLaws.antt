@@ -12,16 +12,16 @@ use Rattle.mesh_state.proofs.Across.{half_of, place_one}
 use Rattle.mesh_state.proofs.Lawful.{walks_end}
 
 pub begins_equal : BeginsEqual
-begins_equal s w n v g r k z = r.names.fresh k z
+begins_equal s w n v (g, r) k z = r.names.fresh k z
 
 pub living_claimed : LivingClaimed
 living_claimed = (
-  (λ s w n v g r b x m u e o. let t = r.claims.kept b x m u e o in (r.claims.bits x ∙ ap bit_of t.1, (t.0, r.claims.holds t.0 x m (Living b) t.1))),
-  λ s w n v g r j b x m h. let t = r.claims.shape x j m (Living b) (r.claims.held j x m (Living b) h) in (t.1, t.0, t.2, t.3),
+  (λ s w n v k b x m u e o. let g = k.0 in let r = k.1 in let t = r.claims.kept b x m u e o in (r.claims.bits x ∙ ap bit_of t.1, (t.0, r.claims.holds t.0 x m (Living b) t.1))),
+  λ s w n v k j b x m h. let g = k.0 in let r = k.1 in let t = r.claims.shape x j m (Living b) (r.claims.held j x m (Living b) h) in (t.1, t.0, t.2, t.3),
 )
 
 pub living_blocks : LivingBlocks
-living_blocks s w n v g r b x m u p z l = (
+living_blocks s w n v (g, r) b x m u p z l = (
   r.names.patch b x m u,
   (λ t y c. (heads t y c, is b x m u p z t y c)),
   λ c y i a q d e. let k = is b x m u p z false x (ap (λ (f : Life). chained f false) u) in let j = is c y i a q d false y (ap (λ (f : Life). chained f false) a) in one_more c b (sym j ∙ ap (g.who (w.round + 1)) e ∙ k),
@@ -33,7 +33,7 @@ living_blocks s w n v g r b x m u p z l = (
     -- a block that a HISTORY word leads to is retired
     later : (y : ℕ) (ts : List (ℕ × Bool)) (a : ℕ) (t : Bool) → stands (g.life a) t ≡ y + 1 → Finds w.hist w.born w.died g.life (w.round + 1) y b (w.hist (member_of a t)) ts → ⊥
     later y [] a t h f = absurd f
-    later y (c ∷ ts) a t h f = ⊎_elim (λ e. let d = (walks_end s w n v g r a c.0 y t h f.0).0 in let k : w.died c.0 ≡ w.died b = ap w.died e.0 in omega arith) (λ q. later y ts c.0 c.1 f.1 q) f.2
+    later y (c ∷ ts) a t h f = ⊎_elim (λ e. let d = (walks_end s w n v (g, r) a c.0 y t h f.0).0 in let k : w.died c.0 ≡ w.died b = ap w.died e.0 in omega arith) (λ q. later y ts c.0 c.1 f.1 q) f.2
 
     first : (y : ℕ) (ts : List (ℕ × Bool)) → Finds w.hist w.born w.died g.life (w.round + 1) y b (w.head y) ts → (w.head y).block ≡ b + 1
     first y [] f = absurd f
@@ -44,19 +44,19 @@ living_blocks s w n v g r b x m u p z l = (
         let same = place_one s w n v g r (w.round + 1) (inr (refl, l)) f.1 y (w.name (member_of b t)) f.4 k.1 in first y f.5.0 (subst (λ (i : ℕ). Finds w.hist w.born w.died g.life (w.round + 1) i b (w.head i) f.5.0) same f.5.1)
 
 pub findings_right : FindingsRight
-findings_right s w n v g r j k = let u = r.works j in ((λ x h. u.found x k h), (λ h. u.known k h), (λ h. u.open_ k h), λ b h. let t = u.given b k h in (t.1, t.2.3, t.2.4, t.2.5))
+findings_right s w n v (g, r) j k = let u = r.works j in ((λ x h. u.found x k h), (λ h. u.known k h), (λ h. u.open_ k h), λ b h. let t = u.given b k h in (t.1, t.2.3, t.2.4, t.2.5))
 
 pub finished_findings : FinishedFindings
-finished_findings s w n v g r j k = let u = r.walks j in ((λ h. u.absent k h), (λ x h. u.stood x k h), λ b h. u.had b k h)
+finished_findings s w n v (g, r) j k = let u = r.walks j in ((λ h. u.absent k h), (λ x h. u.stood x k h), λ b h. u.had b k h)
 
 pub workers_went : WorkersWent
-workers_went s w n v g r j b h = let t = ((r.walks j).went b h).0 in (t, λ e. let z : 0 ≡ t.1 + 1 = sym (ap (λ (l : Life). stands l t.0) e) ∙ t.2 in omega arith)
+workers_went s w n v (g, r) j b h = let t = ((r.walks j).went b h).0 in (t, λ e. let z : 0 ≡ t.1 + 1 = sym (ap (λ (l : Life). stands l t.0) e) ∙ t.2 in omega arith)
 
 pub one_half : OneHalf
-one_half s w n v g r j k = ((r.walks j).half k, half_of s w n v g r j k, λ two i x m p h. r.claims.living x i m p (r.claims.held i x m p h) two)
+one_half s w n v (g, r) j k = ((r.walks j).half k, half_of s w n v g r j k, λ two i x m p h. r.claims.living x i m p (r.claims.held i x m p h) two)
 
 pub filled_stays : FilledStays
-filled_stays s w n v g r j x m b h = let e = r.claims.held j x m (Drawn b) h in let u = r.sure j in (
+filled_stays s w n v (g, r) j x m b h = let e = r.claims.held j x m (Drawn b) h in let u = r.sure j in (
   (λ t l f. u.hist_is b t l f (inr (x, m, inl e))),
   (λ t k f. u.name_is b t k f (inr (x, m, inl e))),
   (λ k f. u.died_is b k f (inr (x, m, inl e))),
@@ -64,10 +64,10 @@ filled_stays s w n v g r j x m b h = let e = r.claims.held j x m (Drawn b) h in 
 )
 
 pub loaded_stays : LoadedStays
-loaded_stays s w n v g r j x z b l h f = (r.sure j).head_is z l f (inr (x, z + 1, b, inr (r.claims.held j x (z + 1) (Half b) h, refl)))
+loaded_stays s w n v (g, r) j x z b l h f = (r.sure j).head_is z l f (inr (x, z + 1, b, inr (r.claims.held j x (z + 1) (Half b) h, refl)))
 
 pub owner_sure : OwnerSure
-owner_sure s w n v g r home = let u = r.sure 0 in (
+owner_sure s w n v (g, r) home = let u = r.sure 0 in (
   (λ z l f. u.head_is z l f (inl (refl, home))),
   (λ b t l f. u.hist_is b t l f (inl (refl, home))),
   (λ b t k f. u.name_is b t k f (inl (refl, home))),
@@ -76,21 +76,21 @@ owner_sure s w n v g r home = let u = r.sure 0 in (
 )
 
 pub pins_counted : PinsCounted
-pins_counted s w n v g r = ((λ q k h. sym (r.stock.left q k h).1 ∙ r.pins.count q), (λ q l. (r.pins.later q l).1), r.pins.past, (let a = r.rules.few_readers in let b = r.rules.readers in omega arith), r.pins.bound)
+pins_counted s w n v (g, r) = ((λ q k h. sym (r.stock.left q k h).1 ∙ r.pins.count q), (λ q l. (r.pins.later q l).1), r.pins.past, (let a = r.rules.few_readers in let b = r.rules.readers in omega arith), r.pins.bound)
 
 pub link_words : LinkWords
-link_words s w n v g r x b l e = ⊎_elim
+link_words s w n v (g, r) x b l e = ⊎_elim
     (λ o. let z : 0 ≡ b + 1 = sym (ap (λ (k : Node). k.block) o) ∙ e in absurd (omega arith))
     (λ o. let same : o.0 ≡ b = one_more o.0 b (sym o.2 ∙ e) in subst (λ (i : ℕ). ((t : Bool) × (chained (g.life i) t ≡ x + 1)) × (0 < (w.head x).died → ((w.head x).died ≡ w.died i) × (w.born i < w.died i)) × ((w.head x).died ≡ 0 → (w.died i ≡ 0) ⊎ (w.died i ≡ w.round + 1))) same
     ((o.1, o.3), (λ p. let d = o.4 p in let q = placed (g.life o.0) o.1 x o.3 in (d, (r.chains.dieds o.0 q.0 q.1 q.2 (omega arith)).1)), o.5))
     (r.chains.heads x l)
 
 pub history_words : HistoryWords
-history_words s w n v g r a c x t h e = ⊎_elim
+history_words s w n v (g, r) a c x t h e = ⊎_elim
     (λ o. let z : 0 ≡ c + 1 = sym (ap (λ (k : Node). k.block) o) ∙ e in absurd (omega arith))
     (λ o. let same : o.0 ≡ c = one_more o.0 c (sym (ap (λ (k : Node). k.block) o.2) ∙ e) in subst (λ (i : ℕ). ((u : Bool) × (chained (g.life i) u ≡ x + 1)) × ((w.hist (member_of a t)).died ≡ w.died i) × (0 < w.died i) × (w.born i < w.died i) × (w.died i ≤ w.round) × (0 < w.born a → w.died i < w.born a)) same
     (let q = placed (g.life o.0) o.1 x o.3 in ((o.1, o.3), ap (λ (k : Node). k.died) o.2, o.4, (r.chains.dieds o.0 q.0 q.1 q.2 o.4).1, o.6, o.5)))
     (r.chains.hists a t x h)
 
 pub retired_noted : RetiredNoted
-retired_noted s w n v g r b x m u e = r.retired b x m u e
+retired_noted s w n v (g, r) b x m u e = r.retired b x m u e

@@ -6,10 +6,12 @@ use Rattle.mesh_words.specs.Words.{Words, Node}
 use Rattle.mesh_words.specs.Views.{Views, Work}
 use Rattle.mesh_words.specs.Places.{member_of}
 use Rattle.mesh_words.specs.Entries.{HasEntry}
-use Rattle.mesh_state.specs.Ghosts.{Placed, chained, Ghost}
+use Rattle.mesh_state.specs.Ghosts.{Life, Placed, chained, Ghost}
 use Rattle.mesh_state.specs.Chains.{Covers, Reaches, IsHead}
 use Rattle.mesh_state.specs.Bisections.{IsPlaceOf, MayRead}
+use Rattle.mesh_state.specs.Lists.{IsMember}
 use Rattle.mesh_state.specs.Rule.{Rule}
+use Rattle.mesh_state.proofs.Lists.{member_side}
 use Rattle.mesh_state.proofs.FoundAgain.{placed, none_found, found_covers}
 use Rattle.mesh_state.proofs.ChainSteps.{dead_end}
 use Rattle.mesh_state.proofs.Across.{Went, zero_or_more, place_one}
@@ -34,7 +36,7 @@ module _ (s : Setup) (w : Words) (n : ℕ) (v : Views) (g : Ghost) (r : Rule s w
   opened : (open_ : List ℕ) → ((i : ℕ) → HasEntry open_ i → g.who d i ≡ 0) → Rule s w n (record v { work = update v.work j (record (v.work j) { open_ = open_ }) }) g
   opened open_ ok = reworks s w n v g r j (record (v.work j) { open_ = open_ })
       record { only = λ o. absurd (o kind); found = (r.works j).found; known = (r.works j).known; open_ = λ i h. (two, ok i h); given = (r.works j).given }
-      (let k = r.walks j in record { still = k.still; only = k.only; half = k.half; absent = k.absent; stood = k.stood; had = k.had; went = k.went; walk = k.walk }) refl refl refl refl
+      (let k = r.walks j in record { still = k.still; only = k.only; half = k.half; at_work = k.at_work; retired_in = k.retired_in; absent = k.absent; stood = k.stood; had = k.had; went = k.went; walk = k.walk; sided = k.sided }) refl refl refl refl
 
   opens : (k : ℕ) → g.who d k ≡ 0 → Rule s w n (record v { work = update v.work j (record (v.work j) { open_ = k ∷ u.open_ }) }) g
   opens k z = opened (k ∷ u.open_) (λ i h. ⊎_elim (λ e. ap (g.who d) e ∙ z) (λ t. ((r.works j).open_ i t).1) h)
@@ -58,7 +60,7 @@ module _ (s : Setup) (w : Words) (n : ℕ) (v : Views) (g : Ghost) (r : Rule s w
             (two, first a.0 a.2, (p.0, p.1, p.2, c.0, bo, ⊎_elim inl (λ q. inr (let z = (l (omega arith)).2 in omega arith)) c.2)))
             ((r.works j).given c' i) m;
       }
-      (let k = r.walks j in record { still = k.still; only = k.only; half = k.half; absent = k.absent; stood = k.stood; had = k.had; went = k.went; walk = k.walk }) refl refl refl refl
+      (let k = r.walks j in record { still = k.still; only = k.only; half = k.half; at_work = k.at_work; retired_in = k.retired_in; absent = k.absent; stood = k.stood; had = k.had; went = k.went; walk = k.walk; sided = k.sided }) refl refl refl refl
     where
       -- the leading name is the first member's
       first : (t : Bool) → w.name (member_of b t) ≡ k → w.name (member_of b false) ≡ k
@@ -98,8 +100,9 @@ module _ (s : Setup) (w : Words) (n : ℕ) (v : Views) (g : Ghost) (r : Rule s w
           dead p found (inr o) = let q = placed (g.life o.0) o.1 x o.3 in let e = o.4 p in let l = (r.chains.dieds o.0 q.0 q.1 q.2 (omega arith)).2 in dead_end (λ _. Unit {0}) (Went w.round w.died v.kind v.work v.read) s.elements w.round w.head w.hist w.born w.died g.life r.chains d x c found.0 (w.head x) o.0 o.1 o.2 o.3 (omega arith) l found.1
 
   -- a patch of the retire list that is retired already: its members are not bisected
-  pub opens_given : (b k : ℕ) → HasEntry u.given (b, k) → 0 < w.died b → (names : List ℕ) → ((i : ℕ) → HasEntry names i → HasEntry u.open_ i ⊎ ((t : Bool) × (y : ℕ) × (chained (g.life b) t ≡ y + 1) × (i ≡ w.name (member_of b t)))) → Rule s w n (record v { work = update v.work j (record (v.work j) { open_ = names }) }) g
-  opens_given b k h p names right = opened names (λ i m. ⊎_elim (λ t. ((r.works j).open_ i t).1) (λ t. ap (g.who d) t.3 ∙ open_at t.0 t.1 t.2) (right i m))
+  pub opens_given : (b k : ℕ) → HasEntry u.given (b, k) → 0 < w.died b → (names : List ℕ) → ((i : ℕ) → HasEntry names i → HasEntry u.open_ i ⊎ IsMember s k i) → Rule s w n (record v { work = update v.work j (record (v.work j) { open_ = names }) }) g
+  opens_given b k h p names right = let e = (r.works j).given b k h in let at = e.2.2 in
+      opened names (λ i m. ⊎_elim (λ t. ((r.works j).open_ i t).1) (λ t. let c = member_side s w.name k b e.2.0 e.2.1 i e.1 (r.names.patch b e.2.0 e.2.1 at) t in ap (g.who d) c.3 ∙ open_at c.0 c.1 (ap (λ (l : Life). chained l c.0) at ∙ c.2)) (right i m))
     where
       open_at : (t : Bool) (y : ℕ) → chained (g.life b) t ≡ y + 1 → g.who d (w.name (member_of b t)) ≡ 0
       open_at t y c = let a = ((r.works j).given b k h).2 in let bo = a.4 in let was = (r.names.sound w.round now b t y c (a.3, a.4, ⊎_elim inl (λ z. inr (omega arith)) a.5)).0 in

@@ -9,7 +9,7 @@ use Rattle.mesh_words.specs.Views.{Views}
 use Rattle.mesh_words.specs.Claims.{Progress, Drawn, Half, Whole, claim, moved_on}
 use Rattle.mesh_words.specs.Places.{member_of}
 use Rattle.mesh_words.specs.Entries.{HasEntry, Noted}
-use Rattle.mesh_words.proofs.Functions.{update_at, update_other}
+use Rattle.mesh_words.proofs.Functions.{update_at, update_other, update_cases}
 use Rattle.mesh_state.specs.Ghosts.{Held, Life, Placed, chained, Ghost}
 use Rattle.mesh_state.specs.Chains.{Finds, IsPlace}
 use Rattle.mesh_state.specs.Bisections.{IsPlaceOf, MayRead}
@@ -17,13 +17,15 @@ use Rattle.mesh_state.specs.Sure.{GuardsHead}
 use Rattle.mesh_state.proofs.Lists.{crew_goes}
 use Rattle.mesh_state.proofs.Lists.{draws_goes}
 use Rattle.mesh_state.specs.Rule.{Rule}
+use Rattle.mesh_state.specs.Inside.{IsLabel, ListedOnce}
+use Rattle.mesh_state.proofs.Inside.{inside_goes, label_of, once_moved}
 use Rattle.mesh_state.proofs.FoundAgain.{one_more, chained_stands, seen_live, names_on, goes_on, workers_on, Moves}
 use Rattle.mesh_state.proofs.ChainSteps.{moves_head, chains_head}
 use Rattle.mesh_state.proofs.BlockSteps.{undead}
 use Rattle.mesh_state.proofs.HeldClaims.{not_open, held_one, placed_one, free_not, loose_not, uses, used_life, shape_on, one_user, heads_apart}
 use Rattle.mesh_state.proofs.Across.{Went, some_worker, first_half}
 use Rattle.mesh_state.proofs.SureWords.{sure_on, block_back, head_back, not_kid}
-use Rattle.mesh_state.proofs.Publishing.{Label, member, own_place}
+use Rattle.mesh_state.proofs.Publishing.{Label, member, linked_member, own_place}
 use Rattle.mesh_state.proofs.HeldClaims as held
 
 module _ (s : Setup) (w : Words) (n : ℕ) (v : Views) (g : Ghost) (r : Rule s w n v g) where
@@ -103,6 +105,18 @@ module _ (s : Setup) (w : Words) (n : ℕ) (v : Views) (g : Ghost) (r : Rule s w
       drawn = r.drawn;
       draws = draws_goes v.ruling.phase v.work g.stage x j (y + 1) (Half b) (Whole b) is (λ c e. e) r.draws;
       crew = crew_goes s w.round v.ruling.phase v.kind v.work v.work g.stage v.ruling.lone x j (y + 1) (Whole b) kind (λ _. refl) r.crew;
+      inside = inside_goes s w.free w.row g.life g.stage v.ruling.hand v.ruling.retired x j (y + 1) (Half b) j (Whole b) is r.inside;
+      named = record {
+        heads = λ z c t l e ch. dite (ℕ_discrete z y)
+            (λ f. let same : c ≡ b = one_more c b (sym e ∙ ap (λ (i : Node). i.block) (update_at w.head y z (node (b + 1) 0) f)) in
+            let cb : chained (Placed x (y + 1)) t ≡ y + 1 = sym (ap (λ (i : Life). chained i t) (ap g.life same ∙ shape.0)) ∙ ch ∙ ap (λ (i : ℕ). i + 1) f in
+            let at_y = label_of s w n v g r d (inr (refl, let z = one in omega arith)) y (w.name (member_of b t)) (linked_member s w n v g r x (y + 1) b (Half b) (r.labels x j (y + 1) (Half b) is one) refl (r.names.patch b x (y + 1) shape.0) t y cb).0 in
+            subst (λ (i : ℕ × ℕ). IsLabel s w.name g.life i.0 (w.name (member_of i.1 t))) (λ i. (sym f i, sym same i)) at_y)
+            (λ o. r.named.heads z c t l (sym (ap (λ (i : Node). i.block) (update_other w.head y z (node (b + 1) 0) o)) ∙ e) ch);
+        hists = r.named.hists;
+        patch = r.named.patch;
+      };
+      once = update_cases (λ _ cs. ListedOnce cs) v.claims j (moved_on (v.claims j) x (Whole b)) (once_moved (v.claims j) x (Whole b) (r.once j)) (λ i _. r.once i);
       holders = λ z i c p h. dite (ℕ_discrete z x) (λ f. let t = (held_one j i (y + 1) c (Whole b) p (sym (update_at g.stage x z (Held j (y + 1) (Whole b)) f) ∙ h)).0 in inr (ap v.kind (sym t) ∙ kind)) (λ o. r.holders z i c p (sym (update_other g.stage x z (Held j (y + 1) (Whole b)) o) ∙ h));
       hand = r.hand;
     }

@@ -20,7 +20,8 @@ use Rattle.mesh_state.specs.Sure.{SureRule}
 use Rattle.mesh_state.specs.Readers.{ReaderRule}
 use Rattle.mesh_state.specs.Owner.{NoneWent}
 use Rattle.mesh_state.specs.Rule.{Rule}
-use Rattle.mesh_state.proofs.FoundAgain.{walks_idle}
+use Rattle.mesh_state.specs.Inside.{ListedOnce}
+use Rattle.mesh_state.proofs.FoundAgain.{still_not, walks_idle}
 use Rattle.mesh_state.proofs.Across.{some_worker}
 use Rattle.mesh_words.proofs.Sums.{one_if, none_if}
 use Rattle.mesh_state.specs.Fresh.{idle, blank}
@@ -50,9 +51,9 @@ module _ (s : Setup) (w : Words) (n : ℕ) (v : Views) (g : Ghost) (r : Rule s w
     abbrev kind' : ℕ → ℕ
     kind' = update v.kind n kind
 
-    -- what the new pass knows: a worker's the half and the lists, each the history
+    -- what the new pass knows: a worker's the half, the round and the lists, each the history
     abbrev new_work : ℕ → Work
-    new_work number = record idle { half = v.ruling.phase; number = number; plan = v.ruling.plan }
+    new_work number = record idle { half = v.ruling.phase; round = v.ruling.finished + 1; number = number; plan = v.ruling.plan }
 
     abbrev new_read : List Note → Read
     new_read notes = record (blank notes) { told = v.ruling.history; seen = v.ruling.finished; made = v.ruling.finished }
@@ -75,7 +76,7 @@ module _ (s : Setup) (w : Words) (n : ℕ) (v : Views) (g : Ghost) (r : Rule s w
 
     -- A pass is made: the owner is no longer sure of any word, where it is a pass at work
     pub splits : (number lone : ℕ) → MayJoin number lone → (notes : List Note) → ((k : Note) → HasEntry notes k → HasEntry (v.read 0).notes k)
-        → Rule s w (n + 1) (record v { kind = kind'; claims = update v.claims n []; work = update v.work n (record idle { half = v.ruling.phase; number = number; plan = v.ruling.plan }); sure = update (update v.sure 0 (cond (kind == 2) (v.sure 0) unsure)) n unsure; read = update v.read n (record (blank notes) { told = v.ruling.history; seen = v.ruling.finished; made = v.ruling.finished }); ruling = record v.ruling { workers = workers; readers = readers; lone = lone } }) g
+        → Rule s w (n + 1) (record v { kind = kind'; claims = update v.claims n []; work = update v.work n (record idle { half = v.ruling.phase; round = v.ruling.finished + 1; number = number; plan = v.ruling.plan }); sure = update (update v.sure 0 (cond (kind == 2) (v.sure 0) unsure)) n unsure; read = update v.read n (record (blank notes) { told = v.ruling.history; seen = v.ruling.finished; made = v.ruling.finished }); ruling = record v.ruling { workers = workers; readers = readers; lone = lone } }) g
     splits number lone may notes told = record {
       names_apart = r.names_apart;
       claims = record {
@@ -112,7 +113,7 @@ module _ (s : Setup) (w : Words) (n : ℕ) (v : Views) (g : Ghost) (r : Rule s w
           record { only = λ _ _. (refl, refl, refl, refl); found = λ x i f. absurd f; known = λ i f. absurd f; open_ = λ i f. absurd f; given = λ b i f. absurd f })
           (λ o. subst (λ (u : Work × ℕ). WorkRule s w.round v.ruling.phase w.name w.born w.died g.life (g.who (w.round + 1)) u.1 j u.0) (λ i. (sym (update_other v.work n j (new_work number) o) i, sym (update_other v.kind n j kind o) i)) (r.works j));
       walks = λ j. dite (ℕ_discrete j n)
-          (λ e. subst (λ (u : Work). WalkRule s w.round v.ruling.phase w.name w.hist w.born w.died g.life g.who (kind' j) j u) (sym (update_at v.work n j (new_work number) e)) (walks_idle s w.round v.ruling.phase w.name w.hist w.born w.died g.life g.who (kind' j) j v.ruling.phase number v.ruling.plan (λ _. refl)))
+          (λ e. subst (λ (u : Work). WalkRule s w.round v.ruling.phase w.name w.hist w.born w.died g.life g.who (kind' j) j u) (sym (update_at v.work n j (new_work number) e)) (walks_idle s w.round v.ruling.phase w.name w.hist w.born w.died g.life g.who (kind' j) j v.ruling.phase (v.ruling.finished + 1) number v.ruling.plan (λ _. refl) (λ _. ap (λ (i : ℕ). i + 1) r.stock.finished)))
           (λ o. subst (λ (u : Work × ℕ). WalkRule s w.round v.ruling.phase w.name w.hist w.born w.died g.life g.who u.1 j u.0) (λ i. (sym (update_other v.work n j (new_work number) o) i, sym (update_other v.kind n j kind o) i)) (r.walks j));
       sure = update_cases (λ j u. SureRule s.elements workers w.head w.hist w.born w.died w.name w.row g.stage j u) (update v.sure 0 keep) n unsure
           nothing_sure
@@ -125,7 +126,7 @@ module _ (s : Setup) (w : Words) (n : ℕ) (v : Views) (g : Ghost) (r : Rule s w
             row_is = λ b k f z _. absurd (ne z);
           }) j);
       goes = update_cases (λ _ u. ReaderRule s w.round w.name w.hist w.born w.died g.life g.who u) v.read n (new_read notes)
-          record { went = λ q b p f. absurd f; walk = λ q p. tt; places = λ q x k p f. absurd f; yes_notes = λ k q h. (r.goes 0).yes_notes k q (told _ h); no_notes = λ k q h. (r.goes 0).no_notes k q (told _ h) }
+          record { went = λ q b p f. absurd f; walk = λ q p. tt; sided = λ q x k b t p h. absurd (still_not x k b t h); places = λ q x k p f. absurd f; yes_notes = λ k q h. (r.goes 0).yes_notes k q (told _ h); no_notes = λ k q h. (r.goes 0).no_notes k q (told _ h) }
           (λ j _. r.goes j);
       rules = record {
         owner = (update_other v.kind n 0 kind (λ e. not_first (sym e)) ∙ r.rules.owner.0, omega arith);
@@ -161,6 +162,9 @@ module _ (s : Setup) (w : Words) (n : ℕ) (v : Views) (g : Ghost) (r : Rule s w
             (λ e. let zero_ = sym (ap (λ (u : Work). u.number) (update_at v.work n j (new_work number) e)) ∙ z in let kj = sym (update_at v.kind n j kind e) ∙ k in ⊎_elim (λ a. ⊎_elim (λ b. omega arith) (λ b. omega arith) a.0) (⊎_elim (λ a. let c = a.3 in omega arith) (λ a. let c = a.0 in omega arith)) may)
             (λ o. let kj = sym (update_other v.kind n j kind o) ∙ k in let zero_ = sym (ap (λ (u : Work). u.number) (update_other v.work n j (new_work number) o)) ∙ z in ⊎_elim (λ a. r.crew.none j one (sym a.1 ∙ l) kj zero_) (⊎_elim (λ a. let c = a.3 in omega arith) (λ a. r.crew.none j one a.1 kj zero_)) may);
       };
+      inside = r.inside;
+      named = r.named;
+      once = update_cases (λ _ cs. ListedOnce cs) v.claims n [] tt (λ i _. r.once i);
       holders = λ x j m p h. ⊎_elim inl (λ k. inr (update_other v.kind n j kind (λ (e : j ≡ n). new_claims x m p (h ∙ ap (λ (i : ℕ). Held i m p) e)) ∙ k)) (r.holders x j m p h);
       hand = r.hand;
     }

@@ -6,7 +6,8 @@ use Rattle.mesh_words.specs.Claims.{Progress, Living, Claim, claim}
 use Rattle.mesh_words.specs.Entries.{HasEntry, Noted}
 use Rattle.mesh_words.specs.Places.{member_of, child_place}
 use Rattle.mesh_words.specs.Words.{Node, node}
-use Rattle.mesh_state.specs.Ghosts.{Placed, stands, chained}
+use Rattle.mesh_state.specs.Ghosts.{Placed, stands}
+use Rattle.mesh_state.specs.Lists.{IsMember}
 use Rattle.mesh_state.specs.SquareRun.{square_setup, name0, name1, pinned}
 
 pub lt01 : 0 < 1
@@ -126,9 +127,9 @@ children_of_1 false = inr (inr (inl refl))
 pub children1 : (i : ℕ) → square_setup.mate name0 ≡ i + 1 → (c : Bool) → HasEntry open4 (square_setup.child (i + 1) c)
 children1 i e c = subst (λ (k : ℕ). HasEntry open4 (square_setup.child k c)) e (children_of_1 c)
 
-pub newly : (i : ℕ) → HasEntry (name0 ∷ name1 ∷ open4) i → HasEntry open4 i ⊎ ((t : Bool) × (y : ℕ) × (chained (Placed 0 2) t ≡ y + 1) × (i ≡ pinned.name (member_of 0 t)))
-newly i (inl e) = inr (false, 0, refl, e)
-newly i (inr (inl e)) = inr (true, 1, refl, e)
+pub newly : (i : ℕ) → HasEntry (name0 ∷ name1 ∷ open4) i → HasEntry open4 i ⊎ IsMember square_setup name0 i
+newly i (inl e) = inr (inl e)
+newly i (inr (inl e)) = inr (inr (536870912, refl, e))
 newly i (inr (inr h)) = inl h
 
 -- the owner's notes of links, after both are stamped
@@ -172,9 +173,9 @@ CleanBlock b = HasEntry {A = ℕ} [] b ⊎ (((t c : Bool) → Clean (child_place
 pub clean_blocks : (b : ℕ) → b < 1 → CleanBlock b
 clean_blocks b l = subst CleanBlock (below_one b l) (inr ((λ t c. (node 0 0, kids_noted swept_heads t c, no_block)), inl refl))
 
-pub more_hand : (c : ℕ) → HasEntry (0 ∷ []) c → HasEntry {A = ℕ} [] c ⊎ ((c == 0) ≡ true)
+pub more_hand : (c : ℕ) → HasEntry (0 ∷ []) c → HasEntry {A = ℕ} [] c ⊎ (((c == 0) ≡ true) × (c < 1))
 more_hand c (inr h) = absurd h
-more_hand c (inl e) = inr (ap (λ (z : ℕ). z == 0) e)
+more_hand c (inl e) = inr (ap (λ (z : ℕ). z == 0) e, omega arith)
 
 pub one_row : (i : ℕ) → i < 1 → Noted {A = ℕ} ((0, 0) ∷ []) i 0 × HasEntry {A = ℕ} (0 ∷ []) 0 × Noted {A = ℕ} ((0, 0) ∷ []) 0 0
 one_row i l = (inl (below_one i l, refl), inl refl, inl (refl, refl))

@@ -1,5 +1,5 @@
 -- The square's run, round 1: the patch is claimed, its block is drawn, filled, linked and published.
-use Rattle.std.proofs.Common.{⊎_elim, ◌+◌, ◌++◌, true, false, [], ◌∷◌, refl, inl, inr}
+use Rattle.std.proofs.Common.{⊎_elim, ◌+◌, ℕ, ◌++◌, true, false, [], ◌∷◌, refl, ap, inl, inr}
 use Rattle.mesh_names.specs.Squares.{square}
 use Rattle.mesh_names.specs.Validity.{across_of}
 use Rattle.mesh_names.proofs.Squares.{squares_fit}
@@ -19,7 +19,7 @@ use Rattle.mesh_state.proofs.Phases.{begins, plans, closes, advances}
 use Rattle.mesh_state.proofs.Splitting.{splits}
 use Rattle.mesh_state.proofs.JoiningWorkers.{joins, moved}
 use Rattle.mesh_state.proofs.Loads.{loads_head, notes_placed}
-use Rattle.mesh_state.proofs.WorkerWalks.{notes_top, first_word, work_place, ends}
+use Rattle.mesh_state.proofs.WorkerWalks.{notes_top, ends}
 use Rattle.mesh_state.proofs.Claiming.{claims}
 use Rattle.mesh_state.proofs.Draws.{draws_one}
 use Rattle.mesh_state.proofs.Filling.{fills_hist, fills_name, fills_died, fills_child}
@@ -49,7 +49,7 @@ pub r1 : Rule square_setup (fresh_words 1) 1 v1 g1
 r1 = begins square_setup (fresh_words 1) 1 v0 g0 r0 first_plan [] refl first_aim lt04 refl refl
 
 abbrev pub v2 : Views
-v2 = record v1 { kind = update v1.kind 1 1; claims = update v1.claims 1 []; work = update v1.work 1 (record idle { half = v1.ruling.phase; number = 1; plan = v1.ruling.plan }); sure = update (update v1.sure 0 unsure) 1 unsure; read = update v1.read 1 (record (blank []) { told = v1.ruling.history; seen = v1.ruling.finished; made = v1.ruling.finished }); ruling = record v1.ruling { workers = 1; readers = 0; lone = 0 } }
+v2 = record v1 { kind = update v1.kind 1 1; claims = update v1.claims 1 []; work = update v1.work 1 (record idle { half = v1.ruling.phase; round = v1.ruling.finished + 1; number = 1; plan = v1.ruling.plan }); sure = update (update v1.sure 0 unsure) 1 unsure; read = update v1.read 1 (record (blank []) { told = v1.ruling.history; seen = v1.ruling.finished; made = v1.ruling.finished }); ruling = record v1.ruling { workers = 1; readers = 0; lone = 0 } }
 
 pub r2 : Rule square_setup (fresh_words 1) 2 v2 g1
 r2 = splits square_setup (fresh_words 1) 1 v1 g1 r1 1 1 0 (inl (refl, inl refl, refl, refl)) 1 0 (inr (inr (lt01, refl, refl))) [] (λ k h. absurd h)
@@ -70,13 +70,13 @@ abbrev pub v5 : Views
 v5 = record v4 { work = update v4.work 1 (record (v4.work 1) { went = (v4.work 1).went; walk = Still; found = (v4.work 1).found; known = (v4.work 1).known; absent = name0 ∷ (v4.work 1).absent; stood = (v4.work 1).stood; had = (v4.work 1).had }) }
 
 pub r5 : Rule square_setup (fresh_words 1) 2 v5 g1
-r5 = ends square_setup (fresh_words 1) 2 v4 g1 r4 1 refl 0 name0 (node 0 0) (first_word square_setup (fresh_words 1) 2 v4 g1 r4 1 refl 0 name0 (work_place square_setup (fresh_words 1) 2 v4 g1 r4 1 refl 0 name0 (inl (inr (inl refl))))) (inl refl)
+r5 = ends square_setup (fresh_words 1) 2 v4 g1 r4 1 refl 0 name0 (node 0 0) (inl ((inl (inr (inl refl))), refl)) (inl refl)
 
 abbrev pub v6 : Views
 v6 = record v5 { work = update v5.work 1 (record (v5.work 1) { went = (v5.work 1).went; walk = Still; found = (v5.work 1).found; known = (v5.work 1).known; absent = name1 ∷ (v5.work 1).absent; stood = (v5.work 1).stood; had = (v5.work 1).had }) }
 
 pub r6 : Rule square_setup (fresh_words 1) 2 v6 g1
-r6 = ends square_setup (fresh_words 1) 2 v5 g1 r5 1 refl 1 name1 (node 0 0) (first_word square_setup (fresh_words 1) 2 v5 g1 r5 1 refl 1 name1 (work_place square_setup (fresh_words 1) 2 v5 g1 r5 1 refl 1 name1 (inl (inl refl)))) (inl refl)
+r6 = ends square_setup (fresh_words 1) 2 v5 g1 r5 1 refl 1 name1 (node 0 0) (inl ((inl (inl refl)), refl)) (inl refl)
 
 abbrev pub v7 : Views
 v7 = record v6 { claims = update v6.claims 1 (claim 0 2 Claimed ∷ v6.claims 1); sure = update v6.sure 1 unsure }
@@ -187,10 +187,10 @@ abbrev pub g22 : Ghost
 g22 = record g21 { stage = update g21.stage 0 (Held 1 2 (Living 0)); who = update g21.who (linked1.round + 1) (marks 2 (linked1.name (member_of 0 false)) (linked1.name (member_of 0 true)) (0 + 1) (g21.who (linked1.round + 1))) }
 
 pub r22 : Rule square_setup published 2 v22 g22
-r22 = publishes square_setup linked1 2 v21 g21 r21 1 0 2 0 (inl refl) refl (name0 ∷ []) (λ k h. ⊎_elim (λ e. inr (false, 0, refl, e)) (λ f. absurd f) h)
+r22 = publishes square_setup linked1 2 v21 g21 r21 1 0 2 0 (inl refl) refl (name0 ∷ []) (λ k h. ⊎_elim (λ e. inr (0, inl refl, inr (inl (ap (λ (i : ℕ). (0, i)) e)))) (λ f. absurd f) h)
 
 abbrev pub v23 : Views
-v23 = record v22 { kind = update v22.kind 1 0; claims = update (update v22.claims 0 (v22.claims 0 ++ v22.claims 1)) 1 []; work = update (update v22.work 0 record { half = 0; number = 0; plan = no_plan; drawn = (v22.work 0).drawn ++ (v22.work 1).drawn; found = (v22.work 0).found ++ (v22.work 1).found; known = (v22.work 0).known ++ (v22.work 1).known; open_ = (v22.work 0).open_ ++ (v22.work 1).open_; given = (v22.work 0).given ++ (v22.work 1).given; absent = (v22.work 0).absent ++ (v22.work 1).absent; stood = (v22.work 0).stood ++ (v22.work 1).stood; had = (v22.work 0).had ++ (v22.work 1).had; retired = (v22.work 0).retired ++ (v22.work 1).retired; went = []; walk = Still }) 1 idle; sure = update (update v22.sure 0 unsure) 1 unsure; ruling = record v22.ruling { workers = 0; lone = 0 } }
+v23 = record v22 { kind = update v22.kind 1 0; claims = update (update v22.claims 0 (v22.claims 0 ++ v22.claims 1)) 1 []; work = update (update v22.work 0 record { half = 0; round = 0; number = 0; plan = no_plan; drawn = (v22.work 0).drawn ++ (v22.work 1).drawn; found = (v22.work 0).found ++ (v22.work 1).found; known = (v22.work 0).known ++ (v22.work 1).known; open_ = (v22.work 0).open_ ++ (v22.work 1).open_; given = (v22.work 0).given ++ (v22.work 1).given; absent = (v22.work 0).absent ++ (v22.work 1).absent; stood = (v22.work 0).stood ++ (v22.work 1).stood; had = (v22.work 0).had ++ (v22.work 1).had; retired = (v22.work 0).retired ++ (v22.work 1).retired; went = []; walk = Still }) 1 idle; sure = update (update v22.sure 0 unsure) 1 unsure; ruling = record v22.ruling { workers = 0; lone = 0 } }
 
 abbrev pub g23 : Ghost
 g23 = record g22 { stage = λ x. moved 1 (g22.stage x) }
@@ -223,7 +223,7 @@ pub r26 : Rule square_setup published 2 v26 g25
 r26 = notes_placed square_setup published 2 v25 g25 r25 0 0 2 (inl refl)
 
 abbrev pub v27 : Views
-v27 = record v26 { claims = update v26.claims 0 (ended (v26.claims 0) 0); sure = update v26.sure 0 (v26.sure 0) }
+v27 = record v26 { claims = update v26.claims 0 (ended (v26.claims 0) 0) }
 
 abbrev pub g27 : Ghost
 g27 = record g25 { stage = update g25.stage 0 Open }

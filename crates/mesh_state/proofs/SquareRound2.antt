@@ -12,14 +12,14 @@ use Rattle.mesh_state.proofs.Phases.{begins, plans, closes, advances}
 use Rattle.mesh_state.proofs.Splitting.{splits}
 use Rattle.mesh_state.proofs.JoiningWorkers.{joins, moved}
 use Rattle.mesh_state.proofs.Loads.{loads_head, loads_died, loads_row, loads_cursor, loads_free, notes_ever}
-use Rattle.mesh_state.proofs.WorkerWalks.{first_word, work_place, goes_to, finds_last}
+use Rattle.mesh_state.proofs.WorkerWalks.{goes_to, finds_last}
 use Rattle.mesh_state.proofs.SecondHalf.{gives, opens_head}
 use Rattle.mesh_state.proofs.Retiring.{retires}
 use Rattle.mesh_state.proofs.Pinning.{shows_round, pins}
 use Rattle.mesh_state.proofs.Sweeping.{stops, rewinds}
 use Rattle.mesh_state.proofs.TakingBack.{stamps_head}
 use Rattle.mesh_state.proofs.SquareLists.{both, second_plan, second_aim, both_open, none_stays}
-use Rattle.mesh_state.proofs.SquareNotes.{lt14, both_stamped, children0, children1, en, le01, le11, lt01, lt02, lt03, lt12, many, ne, newly, no_claim, no_head, row_is, three}
+use Rattle.mesh_state.proofs.SquareNotes.{lt14, both_stamped, children0, children1, en, le01, lt01, lt02, lt03, lt12, many, ne, newly, no_claim, no_head, row_is, three}
 use Rattle.mesh_state.proofs.SquareRound1.{g28, r28, v28}
 
 abbrev pub v29 : Views
@@ -47,19 +47,19 @@ pub r32 : Rule square_setup finished1 2 v32 g28
 r32 = notes_ever square_setup finished1 2 v31 g28 r31 1 le01
 
 abbrev pub v33 : Views
-v33 = record v32 { claims = update v32.claims 0 (v32.claims 0); sure = update v32.sure 0 (v32.sure 0); ruling = record v32.ruling { free = 1 } }
+v33 = record v32 { ruling = record v32.ruling { free = 1 } }
 
 pub r33 : Rule square_setup stopped 2 v33 g28
 r33 = stops square_setup finished1 2 v32 g28 r32 refl 1 1 refl refl row_is
 
 abbrev pub v34 : Views
-v34 = record v33 { claims = update v33.claims 0 (v33.claims 0); sure = update v33.sure 0 (v33.sure 0); ruling = record v33.ruling { cursor = 1 } }
+v34 = record v33 { ruling = record v33.ruling { cursor = 1 } }
 
 pub r34 : Rule square_setup rewound 2 v34 g28
 r34 = rewinds square_setup stopped 2 v33 g28 r33 refl refl
 
 abbrev pub v35 : Views
-v35 = record v34 { kind = update v34.kind 2 2; claims = update v34.claims 2 []; work = update v34.work 2 (record idle { half = v34.ruling.phase; number = 1; plan = v34.ruling.plan }); sure = update (update v34.sure 0 (v34.sure 0)) 2 unsure; read = update v34.read 2 (record (blank []) { told = v34.ruling.history; seen = v34.ruling.finished; made = v34.ruling.finished }); ruling = record v34.ruling { workers = 0; readers = 1; lone = 0 } }
+v35 = record v34 { kind = update v34.kind 2 2; claims = update v34.claims 2 []; work = update v34.work 2 (record idle { half = v34.ruling.phase; round = v34.ruling.finished + 1; number = 1; plan = v34.ruling.plan }); sure = update (update v34.sure 0 (v34.sure 0)) 2 unsure; read = update v34.read 2 (record (blank []) { told = v34.ruling.history; seen = v34.ruling.finished; made = v34.ruling.finished }); ruling = record v34.ruling { workers = 0; readers = 1; lone = 0 } }
 
 pub r35 : Rule square_setup rewound 3 v35 g28
 r35 = splits square_setup rewound 2 v34 g28 r34 2 0 1 (inr (refl, le01, refl, refl)) 1 0 (inl (inl refl, refl)) [] (λ k h. absurd h)
@@ -98,42 +98,42 @@ pub r39 : Rule square_setup pinned 3 v39 g39
 r39 = plans square_setup pinned 3 v38 g38 r38 (name0 ∷ []) (λ i h. h) refl refl no_claim
 
 abbrev pub v40 : Views
-v40 = record v39 { kind = update v39.kind 3 1; claims = update v39.claims 3 []; work = update v39.work 3 (record idle { half = v39.ruling.phase; number = 1; plan = v39.ruling.plan }); sure = update (update v39.sure 0 unsure) 3 unsure; read = update v39.read 3 (record (blank []) { told = v39.ruling.history; seen = v39.ruling.finished; made = v39.ruling.finished }); ruling = record v39.ruling { workers = 1; readers = 1; lone = 0 } }
+v40 = record v39 { kind = update v39.kind 3 1; claims = update v39.claims 3 []; work = update v39.work 3 (record idle { half = v39.ruling.phase; round = v39.ruling.finished + 1; number = 1; plan = v39.ruling.plan }); sure = update (update v39.sure 0 unsure) 3 unsure; read = update v39.read 3 (record (blank []) { told = v39.ruling.history; seen = v39.ruling.finished; made = v39.ruling.finished }); ruling = record v39.ruling { workers = 1; readers = 1; lone = 0 } }
 
 pub r40 : Rule square_setup pinned 4 v40 g39
 r40 = splits square_setup pinned 3 v39 g39 r39 1 1 1 (inl (refl, inr refl, refl, refl)) 1 0 (inl (inr refl, refl)) [] (λ k h. absurd h)
 
 pub t41 : Bool
-t41 = (goes_to square_setup pinned 4 v40 g39 r40 3 refl 0 name0 0 (node 1 0) (first_word square_setup pinned 4 v40 g39 r40 3 refl 0 name0 (work_place square_setup pinned 4 v40 g39 r40 3 refl 0 name0 (inr (inr (lt02, refl))))) refl (inl refl)).0
+t41 = (goes_to square_setup pinned 4 v40 g39 r40 3 refl 0 name0 0 (node 1 0) (inl ((inr (inr (lt02, refl))), refl)) refl (inl refl)).0
 
 abbrev pub v41 : Views
 v41 = record v40 { work = update v40.work 3 (record (v40.work 3) { went = 0 ∷ (v40.work 3).went; walk = At 0 name0 0 t41; found = (v40.work 3).found; known = (v40.work 3).known; absent = (v40.work 3).absent; stood = (v40.work 3).stood; had = (v40.work 3).had }) }
 
 pub r41 : Rule square_setup pinned 4 v41 g39
 unfolding t41
-r41 = (goes_to square_setup pinned 4 v40 g39 r40 3 refl 0 name0 0 (node 1 0) (first_word square_setup pinned 4 v40 g39 r40 3 refl 0 name0 (work_place square_setup pinned 4 v40 g39 r40 3 refl 0 name0 (inr (inr (lt02, refl))))) refl (inl refl)).1
+r41 = (goes_to square_setup pinned 4 v40 g39 r40 3 refl 0 name0 0 (node 1 0) (inl ((inr (inr (lt02, refl))), refl)) refl (inl refl)).1
 
 abbrev pub v42 : Views
 v42 = record v41 { work = update v41.work 3 (record (v41.work 3) { went = (v41.work 3).went; walk = Still; found = (v41.work 3).found; known = (v41.work 3).known; absent = (v41.work 3).absent; stood = (child_place 2 0 t41 false, square_setup.child name0 false) ∷ (child_place 2 0 t41 true, square_setup.child name0 true) ∷ (v41.work 3).stood; had = (0, name0) ∷ (v41.work 3).had }) }
 
 pub r42 : Rule square_setup pinned 4 v42 g39
-r42 = finds_last square_setup pinned 4 v41 g39 r41 3 refl 0 name0 0 t41 refl refl lt01 le11
+r42 = finds_last square_setup pinned 4 v41 g39 r41 3 refl 0 name0 0 t41 refl refl lt01 lt12
 
 pub t43 : Bool
-t43 = (goes_to square_setup pinned 4 v42 g39 r42 3 refl 1 name1 0 (node 1 0) (first_word square_setup pinned 4 v42 g39 r42 3 refl 1 name1 (work_place square_setup pinned 4 v42 g39 r42 3 refl 1 name1 (inr (inr (lt12, refl))))) refl (inl refl)).0
+t43 = (goes_to square_setup pinned 4 v42 g39 r42 3 refl 1 name1 0 (node 1 0) (inl ((inr (inr (lt12, refl))), refl)) refl (inl refl)).0
 
 abbrev pub v43 : Views
 v43 = record v42 { work = update v42.work 3 (record (v42.work 3) { went = 0 ∷ (v42.work 3).went; walk = At 1 name1 0 t43; found = (v42.work 3).found; known = (v42.work 3).known; absent = (v42.work 3).absent; stood = (v42.work 3).stood; had = (v42.work 3).had }) }
 
 pub r43 : Rule square_setup pinned 4 v43 g39
 unfolding t43
-r43 = (goes_to square_setup pinned 4 v42 g39 r42 3 refl 1 name1 0 (node 1 0) (first_word square_setup pinned 4 v42 g39 r42 3 refl 1 name1 (work_place square_setup pinned 4 v42 g39 r42 3 refl 1 name1 (inr (inr (lt12, refl))))) refl (inl refl)).1
+r43 = (goes_to square_setup pinned 4 v42 g39 r42 3 refl 1 name1 0 (node 1 0) (inl ((inr (inr (lt12, refl))), refl)) refl (inl refl)).1
 
 abbrev pub v44 : Views
 v44 = record v43 { work = update v43.work 3 (record (v43.work 3) { went = (v43.work 3).went; walk = Still; found = (v43.work 3).found; known = (v43.work 3).known; absent = (v43.work 3).absent; stood = (child_place 2 0 t43 false, square_setup.child name1 false) ∷ (child_place 2 0 t43 true, square_setup.child name1 true) ∷ (v43.work 3).stood; had = (0, name1) ∷ (v43.work 3).had }) }
 
 pub r44 : Rule square_setup pinned 4 v44 g39
-r44 = finds_last square_setup pinned 4 v43 g39 r43 3 refl 1 name1 0 t43 refl refl lt01 le11
+r44 = finds_last square_setup pinned 4 v43 g39 r43 3 refl 1 name1 0 t43 refl refl lt01 lt12
 
 abbrev pub v45 : Views
 v45 = record v44 { work = update v44.work 3 (record (v44.work 3) { given = (0, name0) ∷ (v44.work 3).given }) }
@@ -191,7 +191,7 @@ pub held1 : who_left 1 name1 ≡ 1
 held1 = (r50.walks 3).had 0 name1 (inl refl)
 
 abbrev pub v51 : Views
-v51 = record v50 { kind = update v50.kind 3 0; claims = update (update v50.claims 0 (v50.claims 0 ++ v50.claims 3)) 3 []; work = update (update v50.work 0 record { half = 0; number = 0; plan = no_plan; drawn = (v50.work 0).drawn ++ (v50.work 3).drawn; found = (v50.work 0).found ++ (v50.work 3).found; known = (v50.work 0).known ++ (v50.work 3).known; open_ = (v50.work 0).open_ ++ (v50.work 3).open_; given = (v50.work 0).given ++ (v50.work 3).given; absent = (v50.work 0).absent ++ (v50.work 3).absent; stood = (v50.work 0).stood ++ (v50.work 3).stood; had = (v50.work 0).had ++ (v50.work 3).had; retired = (v50.work 0).retired ++ (v50.work 3).retired; went = []; walk = Still }) 3 idle; sure = update (update v50.sure 0 unsure) 3 unsure; ruling = record v50.ruling { workers = 0; lone = 0 } }
+v51 = record v50 { kind = update v50.kind 3 0; claims = update (update v50.claims 0 (v50.claims 0 ++ v50.claims 3)) 3 []; work = update (update v50.work 0 record { half = 0; round = 0; number = 0; plan = no_plan; drawn = (v50.work 0).drawn ++ (v50.work 3).drawn; found = (v50.work 0).found ++ (v50.work 3).found; known = (v50.work 0).known ++ (v50.work 3).known; open_ = (v50.work 0).open_ ++ (v50.work 3).open_; given = (v50.work 0).given ++ (v50.work 3).given; absent = (v50.work 0).absent ++ (v50.work 3).absent; stood = (v50.work 0).stood ++ (v50.work 3).stood; had = (v50.work 0).had ++ (v50.work 3).had; retired = (v50.work 0).retired ++ (v50.work 3).retired; went = []; walk = Still }) 3 idle; sure = update (update v50.sure 0 unsure) 3 unsure; ruling = record v50.ruling { workers = 0; lone = 0 } }
 
 abbrev pub g51 : Ghost
 g51 = record g50 { stage = λ x. moved 3 (g50.stage x) }
@@ -227,13 +227,13 @@ pub r55 : Rule square_setup retired 4 v55 g52
 r55 = loads_died square_setup retired 4 v54 g52 r54 0 0
 
 abbrev pub v56 : Views
-v56 = record v55 { claims = update v55.claims 0 (v55.claims 0); sure = update v55.sure 0 (record (v55.sure 0) { head = (0, node (0 + 1) (retired.round + 1)) ∷ (v55.sure 0).head }) }
+v56 = record v55 { sure = update v55.sure 0 (record (v55.sure 0) { head = (0, node (0 + 1) (retired.round + 1)) ∷ (v55.sure 0).head }) }
 
 pub r56 : Rule square_setup stamped0 4 v56 g52
 r56 = stamps_head square_setup retired 4 v55 g52 r55 three refl 0 0 0 2 false (inl refl) (λ h. h) refl (inr (en 1 0 lt01, inl (refl, refl))) (inl (refl, refl))
 
 abbrev pub v57 : Views
-v57 = record v56 { claims = update v56.claims 0 (v56.claims 0); sure = update v56.sure 0 (record (v56.sure 0) { head = (1, node (0 + 1) (stamped0.round + 1)) ∷ (v56.sure 0).head }) }
+v57 = record v56 { sure = update v56.sure 0 (record (v56.sure 0) { head = (1, node (0 + 1) (stamped0.round + 1)) ∷ (v56.sure 0).head }) }
 
 pub r57 : Rule square_setup stamped1 4 v57 g52
 r57 = stamps_head square_setup stamped0 4 v56 g52 r56 three refl 1 0 0 2 true (inl refl) (λ h. h) refl (inr (ne 0 1 lt01, inl (refl, refl))) (inl (refl, refl))

@@ -12,7 +12,7 @@ use Rattle.mesh_state.specs.SquareRun.{square_setup, name0, name1, SquareRuns, f
 use Rattle.mesh_state.proofs.Phases.{begins}
 use Rattle.mesh_state.proofs.Splitting.{splits}
 use Rattle.mesh_state.proofs.Loads.{loads_head, loads_hist, loads_cursor, notes_clear}
-use Rattle.mesh_state.proofs.WorkerWalks.{notes_top, first_word, work_place, ends}
+use Rattle.mesh_state.proofs.WorkerWalks.{notes_top, ends}
 use Rattle.mesh_state.proofs.Claiming.{claims}
 use Rattle.mesh_state.proofs.Draws.{draws_one}
 use Rattle.mesh_state.proofs.Pinning.{unpins}
@@ -56,13 +56,13 @@ pub r63 : Rule square_setup unpinned 4 v63 g59
 r63 = loads_hist square_setup unpinned 4 v62 g59 r62 0 1
 
 abbrev pub v64 : Views
-v64 = record v63 { claims = update v63.claims 0 (v63.claims 0); sure = update v63.sure 0 (record (v63.sure 0) { head = (0, node 0 0) ∷ (v63.sure 0).head }) }
+v64 = record v63 { sure = update v63.sure 0 (record (v63.sure 0) { head = (0, node 0 0) ∷ (v63.sure 0).head }) }
 
 pub r64 : Rule square_setup cut0 4 v64 g59
 r64 = cuts_head square_setup unpinned 4 v63 g59 r63 refl 0 0 2 0 2 false (node 0 0) (inr (en 1 0 lt01, inl (refl, refl))) (inl (refl, refl)) (inr (en 1 0 lt01, inl (refl, refl))) lt02 both_clear (inl refl) (λ h. h) refl
 
 abbrev pub v65 : Views
-v65 = record v64 { claims = update v64.claims 0 (v64.claims 0); sure = update v64.sure 0 (record (v64.sure 0) { head = (1, node 0 0) ∷ (v64.sure 0).head }) }
+v65 = record v64 { sure = update v64.sure 0 (record (v64.sure 0) { head = (1, node 0 0) ∷ (v64.sure 0).head }) }
 
 pub r65 : Rule square_setup cut1 4 v65 g59
 r65 = cuts_head square_setup cut0 4 v64 g59 r64 refl 1 0 2 0 2 true (node 0 0) (inr (ne 0 1 lt01, inl (refl, refl))) (inl (refl, refl)) (inl (refl, refl)) lt02 both_clear (inl refl) (λ h. h) refl
@@ -92,7 +92,7 @@ pub r69 : Rule square_setup cut1 4 v69 g59
 r69 = loads_head square_setup cut1 4 v68 g59 r68 0 5
 
 abbrev pub v70 : Views
-v70 = record v69 { claims = update v69.claims 0 (v69.claims 0); sure = update v69.sure 0 (v69.sure 0); ruling = record v69.ruling { hand = 0 ∷ []; undone = []; placed = [] } }
+v70 = record v69 { ruling = record v69.ruling { hand = 0 ∷ []; undone = []; placed = [] } }
 
 abbrev pub g70 : Ghost
 g70 = record g59 { life = λ c. cond (c == 0) Free (g59.life c) }
@@ -101,19 +101,19 @@ pub r70 : Rule square_setup cut1 4 v70 g70
 r70 = frees_all square_setup cut1 4 v69 g59 r69 refl (λ c. c == 0) (0 ∷ []) [] [] refl (λ c h. inl (2, inl (sym (eqb-true c 0 h), refl), lt02, le22, both_clear)) clean_tops clean_blocks more_hand (λ c h. absurd h) (λ c h. absurd h) (λ c x m h. absurd h)
 
 abbrev pub v71 : Views
-v71 = record v70 { claims = update v70.claims 0 (v70.claims 0); sure = update v70.sure 0 (record (v70.sure 0) { born = (0, 0) ∷ (v70.sure 0).born }) }
+v71 = record v70 { sure = update v70.sure 0 (record (v70.sure 0) { born = (0, 0) ∷ (v70.sure 0).born }) }
 
 pub r71 : Rule square_setup unborn 4 v71 g70
 r71 = zeroes square_setup cut1 4 v70 g70 r70 refl 0 (inl refl)
 
 abbrev pub v72 : Views
-v72 = record v71 { claims = update v71.claims 0 (v71.claims 0); sure = update v71.sure 0 (record (v71.sure 0) { row = (0, 0) ∷ (v71.sure 0).row }) }
+v72 = record v71 { sure = update v71.sure 0 (record (v71.sure 0) { row = (0, 0) ∷ (v71.sure 0).row }) }
 
 pub r72 : Rule square_setup laid 4 v72 g70
 r72 = lays square_setup unborn 4 v71 g70 r71 refl 0 0 refl
 
 abbrev pub v73 : Views
-v73 = record v72 { claims = update v72.claims 0 (v72.claims 0); sure = update v72.sure 0 (v72.sure 0); ruling = record v72.ruling { free = 1 + 1 } }
+v73 = record v72 { ruling = record v72.ruling { free = 1 + 1 } }
 
 pub r73 : Rule square_setup opened 4 v73 g70
 r73 = opens_rows square_setup laid 4 v72 g70 r72 refl 1 (λ _. 0) refl one_row (λ i j l m e. same_below_one i j l m)
@@ -134,7 +134,7 @@ pub r75 : Rule square_setup opened 4 v75 g75
 r75 = begins square_setup opened 4 v74 g70 r74 first_plan [] refl first_aim lt24 refl refl
 
 abbrev pub v76 : Views
-v76 = record v75 { kind = update v75.kind 4 1; claims = update v75.claims 4 []; work = update v75.work 4 (record idle { half = v75.ruling.phase; number = 1; plan = v75.ruling.plan }); sure = update (update v75.sure 0 unsure) 4 unsure; read = update v75.read 4 (record (blank []) { told = v75.ruling.history; seen = v75.ruling.finished; made = v75.ruling.finished }); ruling = record v75.ruling { workers = 1; readers = 1; lone = 0 } }
+v76 = record v75 { kind = update v75.kind 4 1; claims = update v75.claims 4 []; work = update v75.work 4 (record idle { half = v75.ruling.phase; round = v75.ruling.finished + 1; number = 1; plan = v75.ruling.plan }); sure = update (update v75.sure 0 unsure) 4 unsure; read = update v75.read 4 (record (blank []) { told = v75.ruling.history; seen = v75.ruling.finished; made = v75.ruling.finished }); ruling = record v75.ruling { workers = 1; readers = 1; lone = 0 } }
 
 pub r76 : Rule square_setup opened 5 v76 g75
 r76 = splits square_setup opened 4 v75 g75 r75 1 1 1 (inl (refl, inl refl, refl, refl)) 1 0 (inr (inr (lt01, refl, refl))) [] (λ k h. absurd h)
@@ -155,13 +155,13 @@ abbrev pub v79 : Views
 v79 = record v78 { work = update v78.work 4 (record (v78.work 4) { went = (v78.work 4).went; walk = Still; found = (v78.work 4).found; known = (v78.work 4).known; absent = name0 ∷ (v78.work 4).absent; stood = (v78.work 4).stood; had = (v78.work 4).had }) }
 
 pub r79 : Rule square_setup opened 5 v79 g75
-r79 = ends square_setup opened 5 v78 g75 r78 4 refl 0 name0 (node 0 0) (first_word square_setup opened 5 v78 g75 r78 4 refl 0 name0 (work_place square_setup opened 5 v78 g75 r78 4 refl 0 name0 (inl (inr (inl refl))))) (inl refl)
+r79 = ends square_setup opened 5 v78 g75 r78 4 refl 0 name0 (node 0 0) (inl ((inl (inr (inl refl))), refl)) (inl refl)
 
 abbrev pub v80 : Views
 v80 = record v79 { work = update v79.work 4 (record (v79.work 4) { went = (v79.work 4).went; walk = Still; found = (v79.work 4).found; known = (v79.work 4).known; absent = name1 ∷ (v79.work 4).absent; stood = (v79.work 4).stood; had = (v79.work 4).had }) }
 
 pub r80 : Rule square_setup opened 5 v80 g75
-r80 = ends square_setup opened 5 v79 g75 r79 4 refl 1 name1 (node 0 0) (first_word square_setup opened 5 v79 g75 r79 4 refl 1 name1 (work_place square_setup opened 5 v79 g75 r79 4 refl 1 name1 (inl (inl refl)))) (inl refl)
+r80 = ends square_setup opened 5 v79 g75 r79 4 refl 1 name1 (node 0 0) (inl ((inl (inl refl)), refl)) (inl refl)
 
 abbrev pub v81 : Views
 v81 = record v80 { claims = update v80.claims 4 (claim 0 2 Claimed ∷ v80.claims 4); sure = update v80.sure 4 unsure }

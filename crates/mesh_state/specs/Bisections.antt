@@ -2,7 +2,7 @@
 use Rattle.std.specs.Prelude.{◌≡◌, ℕ, ◌+◌, ◌<◌, ◌≤◌, Bool, true, false, ◌⊎◌}
 use Rattle.mesh_words.specs.Places.{member_of, child_place}
 use Rattle.mesh_words.specs.Setup.{Setup}
-use Rattle.mesh_words.specs.Views.{Read}
+use Rattle.mesh_words.specs.Views.{resting, second_half, closing, taking_back, Read}
 use Rattle.mesh_words.specs.Words.{Node}
 use Rattle.mesh_state.specs.Ghosts.{Life, Placed, chained}
 use Rattle.mesh_state.specs.Chains.{Covers, Reaches}
@@ -28,7 +28,7 @@ IsKept round read q = (q ≡ round) ⊎ ((j : ℕ) × ((read j).pin ≡ q + 1))
 
 -- a kept round, or, but while it is taken back, the round in work
 abbrev pub MayRead : ℕ → ℕ → (ℕ → Read) → ℕ → Type 0
-MayRead round phase read q = IsKept round read q ⊎ ((q ≡ round + 1) × (phase < 4))
+MayRead round phase read q = IsKept round read q ⊎ ((q ≡ round + 1) × (phase < taking_back))
 
 -- the NAME words of a block are a patch, with a second member exactly where the block has a second place
 abbrev pub IsPatch : Setup → (ℕ → ℕ) → ℕ → ℕ → Type 0
@@ -39,9 +39,9 @@ pub record NamesRule (s : Setup) (round phase : ℕ) (name : ℕ → ℕ) (head 
   pub sound : (q : ℕ) → MayRead round phase read q → IsSound s name born died life (who q) q
   pub patch : (b x m : ℕ) → life b ≡ Placed x m → IsPatch s name b m
   -- blocks are retired in the second half and while the round is closed alone
-  pub calm : (b x m : ℕ) → (phase ≡ 2 → ⊥) × (phase ≡ 3 → ⊥) → life b ≡ Placed x m → died b ≤ round
+  pub calm : (b x m : ℕ) → (phase ≡ second_half → ⊥) × (phase ≡ closing → ⊥) → life b ≡ Placed x m → died b ≤ round
   -- the first half only adds to the last finished round's forest, from which the round begins
-  pub grows : (n b : ℕ) → phase < 2 → who round n ≡ b + 1 → who (round + 1) n ≡ b + 1
+  pub grows : (n b : ℕ) → phase < second_half → who round n ≡ b + 1 → who (round + 1) n ≡ b + 1
   -- and the second half only takes from it
-  pub either : (n b : ℕ) → phase < 4 → who round n ≡ b + 1 → (who (round + 1) n ≡ b + 1) ⊎ (who (round + 1) n ≡ 0)
-  pub fresh : (n : ℕ) → phase ≡ 0 → who (round + 1) n ≡ who round n
+  pub either : (n b : ℕ) → phase < taking_back → who round n ≡ b + 1 → (who (round + 1) n ≡ b + 1) ⊎ (who (round + 1) n ≡ 0)
+  pub fresh : (n : ℕ) → phase ≡ resting → who (round + 1) n ≡ who round n

@@ -1,11 +1,12 @@
 -- The fresh table: round 0 is finished with the empty forest, and free row i names block i.
-use Rattle.std.specs.Prelude.{ℕ, ◌+◌, zero, suc, cond, ltb, List, [], ◌∷◌}
+use Rattle.std.specs.Prelude.{◌≡◌, ℕ, ◌+◌, zero, suc, cond, ltb, List, [], ◌∷◌}
 use Rattle.mesh_names.specs.Triangles.{Shape}
 use Rattle.mesh_names.specs.Partners.{Across, Tells}
 use Rattle.mesh_words.specs.declared.layout.Layout.{Layout}
 use Rattle.mesh_words.specs.Setup.{setup_of}
 use Rattle.mesh_words.specs.Views.{no_plan, Still, Note, Work, Read, Sure, unsure, Views}
-use Rattle.mesh_words.specs.Words.{Words, node}
+use Rattle.mesh_words.specs.FreshWords.{AreFresh}
+use Rattle.mesh_words.specs.Words.{Words, node, words_at}
 use Rattle.mesh_state.specs.Ghosts.{Open, Free, Ghost}
 use Rattle.mesh_state.specs.Rule.{Rule}
 
@@ -21,7 +22,7 @@ noted_below (suc n) f = (n, f n) ∷ noted_below n f
 
 -- a pass that knows nothing of the work
 abbrev pub idle : Work
-idle = record { half = 0; number = 0; plan = no_plan; drawn = []; found = []; known = []; open_ = []; given = []; absent = []; stood = []; had = []; retired = []; went = []; walk = Still }
+idle = record { half = 0; round = 0; number = 0; plan = no_plan; drawn = []; found = []; known = []; open_ = []; given = []; absent = []; stood = []; had = []; retired = []; went = []; walk = Still }
 
 -- a pass without a pin
 abbrev pub blank : List Note → Read
@@ -45,6 +46,10 @@ fresh_views pool = record { kind = fresh_kind; claims = λ _. []; work = λ _. i
 
 abbrev pub fresh_ghost : Ghost
 fresh_ghost = record { stage = λ _. Open; life = λ _. Free; who = λ _ _. 0; pins = λ _. 0 }
+
+-- the law that these are the words of the list of a fresh table
+abbrev pub FreshFromList : Type 0
+FreshFromList = (l : Layout) (words : List ℕ) → AreFresh l words → words_at l words ≡ fresh_words l.pool
 
 -- the law that the fresh table over a mesh meets the rule
 abbrev pub FreshIsLawful : Type 0

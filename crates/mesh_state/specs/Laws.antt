@@ -2,7 +2,7 @@
 use Rattle.std.specs.Prelude.{◌≡◌, ℕ, ◌+◌, ◌*◌, ◌≤◌, ◌<◌, Bool, true, false, List, [], ◌∷◌, length, ◌⊎◌, ◌↔◌}
 use Rattle.mesh_words.specs.Setup.{Setup}
 use Rattle.mesh_words.specs.Words.{Node, Words}
-use Rattle.mesh_words.specs.Views.{Views}
+use Rattle.mesh_words.specs.Views.{first_half, Views}
 use Rattle.mesh_words.specs.Claims.{Progress, claim}
 use Rattle.mesh_state.specs.Claims.{block_of}
 use Rattle.mesh_words.specs.Places.{member_of}
@@ -11,11 +11,11 @@ use Rattle.mesh_words.specs.Sums.{sum_below, one_where}
 use Rattle.mesh_state.specs.Ghosts.{Life, Placed, chained, stands, Free, Ghost}
 use Rattle.mesh_state.specs.Chains.{Reaches}
 use Rattle.mesh_state.specs.Bisections.{IsPlaceOf, MayRead}
-use Rattle.mesh_state.specs.Rule.{Rule}
+use Rattle.mesh_state.specs.Rule.{Lawful}
 
--- so it is in each lawful state; n is the number of seats that were ever made
+-- so it is in each lawful state, with its ghost parts; n is the number of seats that were ever made
 abbrev pub Always : (Setup → Words → ℕ → Views → Ghost → Type 0) → Type 0
-Always P = (s : Setup) (w : Words) (n : ℕ) (v : Views) (g : Ghost) → Rule s w n v g → P s w n v g
+Always P = (s : Setup) (w : Words) (n : ℕ) (v : Views) (lawful : Lawful s w n v) → P s w n v lawful.0
 
 -- so it is of each round that may be read: `who` says which block bisects a name at the round
 abbrev pub AtRounds : (Setup → Words → Ghost → ℕ → (ℕ → ℕ) → Type 0) → Type 0
@@ -31,7 +31,7 @@ OneClaim = Always (λ s w n v g. (i j x y m k b : ℕ) (p q : Progress) → HasE
 
 -- in the first half there are at most as many draws as places
 abbrev pub DrawsBounded : Type 0
-DrawsBounded = Always (λ s w n v g. v.ruling.phase ≡ 1 → w.cursor ≤ s.elements + 4 * s.pool)
+DrawsBounded = Always (λ s w n v g. v.ruling.phase ≡ first_half → w.cursor ≤ s.elements + 4 * s.pool)
 
 -- the rows from CURSOR on and below FREE name free blocks, each once
 abbrev pub FreeRows : Type 0

@@ -3,7 +3,7 @@ use Rattle.std.specs.Prelude.{◌≡◌, ℕ, ◌+◌, ◌<◌, ◌≤◌, Bool,
 use Rattle.mesh_words.specs.Entries.{HasEntry, EntryAt}
 use Rattle.mesh_words.specs.Setup.{Setup}
 use Rattle.mesh_words.specs.Claims.{Progress, Living}
-use Rattle.mesh_words.specs.Views.{Plan, Work, Read}
+use Rattle.mesh_words.specs.Views.{resting, first_half, closing, taking_back, worker, Plan, Work, Read}
 use Rattle.mesh_state.specs.Ghosts.{Stage, Held}
 use Rattle.mesh_state.specs.Claims.{block_of}
 
@@ -24,21 +24,25 @@ pub record IsTarget (s : Setup) (Old : ℕ → Type 0) (p : Plan) : Type 0 where
   pub needs : (n : ℕ) → HasEntry p.needs n → HasEntry p.target n
   pub least : (other : ℕ → ℕ) → IsClosed s (Holds other) → ((n : ℕ) → Old n → Holds other n) → ((n : ℕ) → HasEntry p.needs n → Holds other n) → (n : ℕ) → HasEntry p.target n → Holds other n
 
+-- n is a member of the patch whose first member is k
+abbrev pub IsMember : Setup → ℕ → ℕ → Type 0
+IsMember s k n = (n ≡ k) ⊎ ((i : ℕ) × (s.mate k ≡ i + 1) × (n ≡ i + 1))
+
 -- n is a member of a patch whose first member is listed
 abbrev pub IsListed : Setup → List ℕ → ℕ → Type 0
-IsListed s list n = (k : ℕ) × HasEntry list k × ((n ≡ k) ⊎ ((i : ℕ) × (s.mate k ≡ i + 1) × (n ≡ i + 1)))
+IsListed s list n = (k : ℕ) × HasEntry list k × IsMember s k n
 
 -- the lists of the round in work
 pub record PlanRule (s : Setup) (round phase : ℕ) (who : ℕ → ℕ → ℕ) (kind : ℕ → ℕ) (work : ℕ → Work) (p : Plan) : Type 0 where
   -- each worker's pass has them
-  pub same : (j : ℕ) → kind j ≡ 1 → (work j).plan ≡ p
-  pub aim : 0 < phase → phase < 4 → IsTarget s (Holds (who round)) p
+  pub same : (j : ℕ) → kind j ≡ worker → (work j).plan ≡ p
+  pub aim : resting < phase → phase < taking_back → IsTarget s (Holds (who round)) p
   -- the names that are bisected in the round are of the target
-  pub within : (n : ℕ) → 0 < phase → phase < 4 → Holds (who (round + 1)) n → HasEntry p.target n
+  pub within : (n : ℕ) → resting < phase → phase < taking_back → Holds (who (round + 1)) n → HasEntry p.target n
   -- from the second half on all of the target are, but of patches of the retire list
-  pub whole : (n : ℕ) → 1 < phase → phase < 4 → HasEntry p.target n → Holds (who (round + 1)) n ⊎ IsListed s p.retire n
+  pub whole : (n : ℕ) → first_half < phase → phase < taking_back → HasEntry p.target n → Holds (who (round + 1)) n ⊎ IsListed s p.retire n
   -- of which none is when the round is closed
-  pub done : (n : ℕ) → phase ≡ 3 → IsListed s p.retire n → who (round + 1) n ≡ 0
+  pub done : (n : ℕ) → phase ≡ closing → IsListed s p.retire n → who (round + 1) n ≡ 0
 
 -- the forests of the finished rounds, and what passes were told of them
 pub record HistoryRule (round : ℕ) (who : ℕ → ℕ → ℕ) (read : ℕ → Read) (history : List (List ℕ)) : Type 0 where
@@ -54,21 +58,21 @@ pub record HistoryRule (round : ℕ) (who : ℕ → ℕ → ℕ) (read : ℕ →
 -- the draws of the first half
 pub record DrawnRule (phase cursor free : ℕ) (row : ℕ → ℕ) (kind : ℕ → ℕ) (work : ℕ → Work) : Type 0 where
   -- only workers' passes and the owner have draws
-  pub only : (j : ℕ) → (kind j ≡ 1 → ⊥) → (j ≡ 0 → ⊥) → (work j).drawn ≡ []
+  pub only : (j : ℕ) → (kind j ≡ worker → ⊥) → (j ≡ 0 → ⊥) → (work j).drawn ≡ []
   -- a draw's number is below CURSOR, and below FREE its block is that of the row
-  pub drawn : (j i b : ℕ) → HasEntry (work j).drawn (i, b) → (phase ≡ 1) × (i < cursor) × (i < free → b ≡ row i + 1) × (free ≤ i → b ≡ 0)
+  pub drawn : (j i b : ℕ) → HasEntry (work j).drawn (i, b) → (phase ≡ first_half) × (i < cursor) × (i < free → b ≡ row i + 1) × (free ≤ i → b ≡ 0)
   -- a draw is in one view
   pub apart : (j k i b c : ℕ) → HasEntry (work j).drawn (i, b) → HasEntry (work k).drawn (i, c) → j ≡ k
 
 -- in the first half the block of each claim was got by a draw that the claim's seat has
 abbrev pub DrawnFor : ℕ → (ℕ → Work) → (ℕ → Stage) → Type 0
-DrawnFor phase work stage = (x j m b : ℕ) (p : Progress) → phase ≡ 1 → stage x ≡ Held j m p → block_of p ≡ b + 1 → (i : ℕ) × HasEntry (work j).drawn (i, b + 1)
+DrawnFor phase work stage = (x j m b : ℕ) (p : Progress) → phase ≡ first_half → stage x ≡ Held j m p → block_of p ≡ b + 1 → (i : ℕ) × HasEntry (work j).drawn (i, b + 1)
 
 -- who is at work
 pub record CrewRule (s : Setup) (round phase : ℕ) (kind : ℕ → ℕ) (work : ℕ → Work) (stage : ℕ → Stage) (lone : ℕ) : Type 0 where
   -- a round in work is one of those for which the table was made
-  pub rounds : (round ≤ s.rounds) × (0 < phase → round < s.rounds)
+  pub rounds : (round ≤ s.rounds) × (resting < phase → round < s.rounds)
   -- while a pass of worker 0 is out in the first half, no other worker's is, and each claim without a living block is its own
-  pub alone : (j : ℕ) → phase ≡ 1 → kind j ≡ 1 → (work j).number ≡ 0 → ((i : ℕ) → kind i ≡ 1 → i ≡ j) × ((x i m : ℕ) (p : Progress) → stage x ≡ Held i m p → (i ≡ j) ⊎ ((b : ℕ) × (p ≡ Living b)))
+  pub alone : (j : ℕ) → phase ≡ first_half → kind j ≡ worker → (work j).number ≡ 0 → ((i : ℕ) → kind i ≡ worker → i ≡ j) × ((x i m : ℕ) (p : Progress) → stage x ≡ Held i m p → (i ≡ j) ⊎ ((b : ℕ) × (p ≡ Living b)))
   -- the owner knows where none is out
-  pub none : (j : ℕ) → phase ≡ 1 → lone ≡ 0 → kind j ≡ 1 → (work j).number ≡ 0 → ⊥
+  pub none : (j : ℕ) → phase ≡ first_half → lone ≡ 0 → kind j ≡ worker → (work j).number ≡ 0 → ⊥

@@ -2,26 +2,26 @@
 use Rattle.std.specs.Prelude.{◌≡◌, ℕ, ◌+◌, ◌<◌, ◌≤◌, List, ◌⊎◌}
 use Rattle.mesh_words.specs.Entries.{HasEntry}
 use Rattle.mesh_words.specs.Sums.{sum_below, one_where}
-use Rattle.mesh_words.specs.Views.{Read, Ruling}
+use Rattle.mesh_words.specs.Views.{first_half, second_half, worker, reader, ruler, Read, Ruling}
 use Rattle.mesh_state.specs.Ghosts.{Life, Free, Placed, Undone}
 
 pub record OwnerRule (passes round : ℕ) (released pins : ℕ → ℕ) (n : ℕ) (kind : ℕ → ℕ) (v : Ruling) : Type 0 where
   -- seat 0 is the owner's, and no other
-  pub owner : (kind 0 ≡ 3) × (0 < n)
-  pub one : (j : ℕ) → kind j ≡ 3 → j ≡ 0
+  pub owner : (kind 0 ≡ ruler) × (0 < n)
+  pub one : (j : ℕ) → kind j ≡ ruler → j ≡ 0
   -- it counts the passes that are out
-  pub workers : v.workers ≡ sum_below n (λ j. one_where (kind j) 1)
-  pub readers : v.readers ≡ sum_below n (λ j. one_where (kind j) 2)
+  pub workers : v.workers ≡ sum_below n (λ j. one_where (kind j) worker)
+  pub readers : v.readers ≡ sum_below n (λ j. one_where (kind j) reader)
   pub few_readers : v.readers ≤ passes + 1
   -- workers' passes are out in the two halves alone
-  pub halves : (v.phase ≡ 1 → ⊥) → (v.phase ≡ 2 → ⊥) → v.workers ≡ 0
+  pub halves : (v.phase ≡ first_half → ⊥) → (v.phase ≡ second_half → ⊥) → v.workers ≡ 0
   -- of a clear round each pin was given back
   pub clear : (q : ℕ) → HasEntry v.clear q → (q < round) × (released q ≡ pins q)
 
 -- what the owner knows of the free rows, and of the rounds that were left
 pub record StockRule (round cursor free : ℕ) (row : ℕ → ℕ) (life : ℕ → Life) (pins : ℕ → ℕ) (v : Ruling) : Type 0 where
   pub finished : v.finished ≡ round
-  pub cursor_is : (k : ℕ) → v.cursor ≡ k + 1 → (v.phase ≡ 1 → ⊥) × (cursor ≡ k)
+  pub cursor_is : (k : ℕ) → v.cursor ≡ k + 1 → (v.phase ≡ first_half → ⊥) × (cursor ≡ k)
   pub free_is : (k : ℕ) → v.free ≡ k + 1 → free ≡ k
   -- a block that was never drawn is free, but where it is drawn in the round in work
   pub never : (b : ℕ) → v.ever ≤ b → (life b ≡ Free) ⊎ ((i : ℕ) × (i < cursor) × (i < free) × (row i ≡ b))

@@ -19,6 +19,8 @@ pub record ReaderRule (s : Setup) (round : ℕ) (name : ℕ → ℕ) (hist : ℕ
   -- a block to which the pass went since its pin of q stands somewhere, and was not retired by q
   pub went : (q b : ℕ) → v.pin ≡ q + 1 → HasEntry v.went b → ((t : Bool) × (x : ℕ) × (stands (life b) t ≡ x + 1)) × ((died b ≡ 0) ⊎ (q < died b))
   pub walk : (q : ℕ) → v.pin ≡ q + 1 → Walks s name hist born died life (who q) q v.went v.walk
+  -- the member to which a walk has gone has the element's name
+  pub sided : (q x n b : ℕ) (t : Bool) → v.pin ≡ q + 1 → (v.walk ≡ At x n b t) ⊎ (v.walk ≡ Past x n b t) → name (member_of b t) ≡ n
   pub places : (q x n : ℕ) → v.pin ≡ q + 1 → HasEntry v.places (x, n) → IsPlaceOf s name (who q) x n
   -- its notes are of finished rounds, and right
   pub yes_notes : (n q : ℕ) → HasEntry v.notes record { round = q; name = n; bisected = true } → (q ≤ round) × ((b : ℕ) × (who q n ≡ b + 1))

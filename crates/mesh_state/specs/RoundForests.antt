@@ -11,12 +11,11 @@ use Rattle.mesh_words.specs.declared.layout.Layout.{Layout}
 use Rattle.mesh_words.specs.Entries.{HasEntry}
 use Rattle.mesh_words.specs.NameWords.{name_code}
 use Rattle.mesh_words.specs.Setup.{setup_of}
-use Rattle.mesh_words.specs.Views.{Plan, Views}
+use Rattle.mesh_words.specs.Views.{first_half, Plan, Views}
 use Rattle.mesh_words.specs.Words.{Words}
-use Rattle.mesh_state.specs.Ghosts.{Ghost}
 use Rattle.mesh_state.specs.Bisections.{IsKept, MayRead}
 use Rattle.mesh_state.specs.Lists.{Holds, IsTarget, IsListed}
-use Rattle.mesh_state.specs.Rule.{Rule}
+use Rattle.mesh_state.specs.Rule.{Lawful}
 
 -- the numbers are the codes of the names of the set, each of at most 24 letters
 pub record AreCodes (names : Names) (Coded : ℕ → Type 0) : Type 0 where
@@ -31,7 +30,7 @@ LeastIsTarget = (mesh : Shape) (across : Across) (l : Layout) (passes : ℕ) →
 
 -- so it is of each round that may be read of a table over a mesh
 abbrev pub OverMeshes : (Shape → (ℕ → ℕ) → Type 0) → Type 0
-OverMeshes P = (mesh : Shape) (across : Across) (l : Layout) (passes : ℕ) → Tells mesh across → (w : Words) (n : ℕ) (v : Views) (g : Ghost) → Rule (setup_of mesh across l passes) w n v g → (q : ℕ) → MayRead w.round v.ruling.phase v.read q → P mesh (g.who q)
+OverMeshes P = (mesh : Shape) (across : Across) (l : Layout) (passes : ℕ) → Tells mesh across → (w : Words) (n : ℕ) (v : Views) (lawful : Lawful (setup_of mesh across l passes) w n v) → (q : ℕ) → MayRead w.round v.ruling.phase v.read q → P mesh (lawful.0.who q)
 
 -- the law that each bisected name is the code of a name of the mesh, of a level below 24
 abbrev pub BisectedCoded : Type 0
@@ -41,15 +40,19 @@ BisectedCoded = OverMeshes (λ mesh who. (k : ℕ) → Holds who k → (n : Name
 abbrev pub ReadsForests : Type 0
 ReadsForests = OverMeshes (λ mesh who. (members : Names) → AreCodes members (Holds who) → IsForest mesh members × Conforms mesh members)
 
--- the law that the names that are bisected at a kept round, the last finished one or one of which a pin is out, are the codes of a conforming forest
+-- the law that there is a set of names whose codes are those that are bisected at the round, and it is a conforming forest: at each round that may be read
+abbrev pub ReadableForests : Type 0
+ReadableForests = (mesh : Shape) (across : Across) (l : Layout) (passes : ℕ) → Tells mesh across → (w : Words) (n : ℕ) (v : Views) (lawful : Lawful (setup_of mesh across l passes) w n v) → (q : ℕ) → MayRead w.round v.ruling.phase v.read q → (members : Names) × AreCodes members (Holds (lawful.0.who q)) × IsForest mesh members × Conforms mesh members
+
+-- the same of the kept rounds: the last finished one, and each of which a pin is out
 abbrev pub KeptForests : Type 0
-KeptForests = (mesh : Shape) (across : Across) (l : Layout) (passes : ℕ) → Tells mesh across → (w : Words) (n : ℕ) (v : Views) (g : Ghost) → Rule (setup_of mesh across l passes) w n v g → (q : ℕ) → IsKept w.round v.read q → (members : Names) × AreCodes members (Holds (g.who q)) × IsForest mesh members × Conforms mesh members
+KeptForests = (mesh : Shape) (across : Across) (l : Layout) (passes : ℕ) → Tells mesh across → (w : Words) (n : ℕ) (v : Views) (lawful : Lawful (setup_of mesh across l passes) w n v) → (q : ℕ) → IsKept w.round v.read q → (members : Names) × AreCodes members (Holds (lawful.0.who q)) × IsForest mesh members × Conforms mesh members
 
 -- the law that in the first half, once the names that the round needs are bisected, the bisected names are the least forest that holds these and the last finished round's
 abbrev pub LeastWhenNeeded : Type 0
-LeastWhenNeeded = (mesh : Shape) (across : Across) (l : Layout) (passes : ℕ) → Tells mesh across → (w : Words) (n : ℕ) (v : Views) (g : Ghost) → Rule (setup_of mesh across l passes) w n v g → v.ruling.phase ≡ 1
-    → ((k : ℕ) → HasEntry v.ruling.plan.needs k → Holds (g.who (w.round + 1)) k)
-    → (old needs new : Names) → AreCodes old (Holds (g.who w.round)) → AreCodes needs (HasEntry v.ruling.plan.needs) → AreCodes new (Holds (g.who (w.round + 1))) → IsLeast mesh old needs new
+LeastWhenNeeded = (mesh : Shape) (across : Across) (l : Layout) (passes : ℕ) → Tells mesh across → (w : Words) (n : ℕ) (v : Views) (lawful : Lawful (setup_of mesh across l passes) w n v) → v.ruling.phase ≡ first_half
+    → ((k : ℕ) → HasEntry v.ruling.plan.needs k → Holds (lawful.0.who (w.round + 1)) k)
+    → (old needs new : Names) → AreCodes old (Holds (lawful.0.who w.round)) → AreCodes needs (HasEntry v.ruling.plan.needs) → AreCodes new (Holds (lawful.0.who (w.round + 1))) → IsLeast mesh old needs new
 
 -- the law that the names which the history gets are those of the target after coarsening steps, where the retire list has the codes of the patches that the steps take away
 abbrev pub HistoryCoarsens : Type 0

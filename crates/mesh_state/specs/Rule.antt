@@ -4,7 +4,7 @@ use Rattle.mesh_words.specs.Claims.{Progress}
 use Rattle.mesh_words.specs.Entries.{HasEntry}
 use Rattle.mesh_words.specs.Places.{member_of}
 use Rattle.mesh_words.specs.Setup.{Setup, NamesApart}
-use Rattle.mesh_words.specs.Views.{Views}
+use Rattle.mesh_words.specs.Views.{first_half, worker, Views}
 use Rattle.mesh_words.specs.Words.{Words}
 use Rattle.mesh_state.specs.Ghosts.{Stage, Held, Free, Ghost}
 use Rattle.mesh_state.specs.Chains.{ChainsRule}
@@ -15,11 +15,12 @@ use Rattle.mesh_state.specs.Work.{WorkRule, WalkRule, RetiredKnown}
 use Rattle.mesh_state.specs.Sure.{SureRule}
 use Rattle.mesh_state.specs.Readers.{ReaderRule}
 use Rattle.mesh_state.specs.Lists.{PlanRule, HistoryRule, DrawnRule, DrawnFor, CrewRule}
+use Rattle.mesh_state.specs.Inside.{InsideRule, LabelRule, ListedOnce}
 use Rattle.mesh_state.specs.Owner.{OwnerRule, StockRule, NoteRule}
 
 -- in the first half the members of a claim's patch stand at its places, are not bisected at the last finished round, and the first is of the round's target
 abbrev pub Labels : Setup → ℕ → ℕ → (ℕ → ℕ) → (ℕ → Stage) → (ℕ → ℕ → ℕ) → List ℕ → Type 0
-Labels s round phase name stage who target = (x j m : ℕ) (p : Progress) → stage x ≡ Held j m p → phase ≡ 1 → (n : ℕ) × (s.leads n ≡ 1) × IsPlaceOf s name (who (round + 1)) x n × (who round n ≡ 0) × ((b : ℕ) → linked p ≡ b + 1 → name (member_of b false) ≡ n)
+Labels s round phase name stage who target = (x j m : ℕ) (p : Progress) → stage x ≡ Held j m p → phase ≡ first_half → (n : ℕ) × (s.leads n ≡ 1) × IsPlaceOf s name (who (round + 1)) x n × (who round n ≡ 0) × ((b : ℕ) → linked p ≡ b + 1 → name (member_of b false) ≡ n)
     × ((m ≡ 0) × (s.mate n ≡ 0) ⊎ (y : ℕ) × (k : ℕ) × (m ≡ y + 1) × (s.mate n ≡ k + 1) × IsPlaceOf s name (who (round + 1)) y (k + 1) × (who round (k + 1) ≡ 0)) × HasEntry target n
 
 -- n is the number of seats that were ever made
@@ -43,7 +44,14 @@ pub record Rule (s : Setup) (w : Words) (n : ℕ) (v : Views) (g : Ghost) : Type
   pub drawn : DrawnRule v.ruling.phase w.cursor w.free w.row v.kind v.work
   pub draws : DrawnFor v.ruling.phase v.work g.stage
   pub crew : CrewRule s w.round v.ruling.phase v.kind v.work g.stage v.ruling.lone
+  pub inside : InsideRule s w.free w.row g.life g.stage v.ruling.hand v.ruling.retired
+  pub named : LabelRule s w.name w.head w.hist g.life
+  pub once : (j : ℕ) → ListedOnce (v.claims j)
   -- a claim is the owner's or a worker's
-  pub holders : (x j m : ℕ) (p : Progress) → g.stage x ≡ Held j m p → (j ≡ 0) ⊎ (v.kind j ≡ 1)
+  pub holders : (x j m : ℕ) (p : Progress) → g.stage x ≡ Held j m p → (j ≡ 0) ⊎ (v.kind j ≡ worker)
   -- blocks that the owner knows as free are so, but in the first half
-  pub hand : (b : ℕ) → HasEntry v.ruling.hand b → (v.ruling.phase ≡ 1 → ⊥) × (g.life b ≡ Free)
+  pub hand : (b : ℕ) → HasEntry v.ruling.hand b → (v.ruling.phase ≡ first_half → ⊥) × (g.life b ≡ Free)
+
+-- Words and views are lawful where there are ghost parts with which the rule holds
+abbrev pub Lawful : Setup → Words → ℕ → Views → Type 0
+Lawful s w n v = (g : Ghost) × Rule s w n v g

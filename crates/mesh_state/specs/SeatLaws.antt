@@ -1,5 +1,6 @@
 -- What the rule says of what seats know, and of blocks and claims of the round in work.
 use Rattle.std.specs.Prelude.{◌≡◌, ℕ, ◌+◌, ◌<◌, ◌≤◌, Bool, false, ◌⊎◌}
+use Rattle.mesh_words.specs.Views.{resting, first_half, second_half, closing, taking_back, worker, reader}
 use Rattle.mesh_words.specs.Claims.{Progress, Drawn, Half, Living, claim}
 use Rattle.mesh_words.specs.Entries.{HasEntry, Noted}
 use Rattle.mesh_words.specs.Places.{member_of, child_place}
@@ -13,22 +14,22 @@ use Rattle.mesh_state.specs.Lists.{Holds}
 
 -- before the round's first pass the round in work reads as the last finished one
 abbrev pub BeginsEqual : Type 0
-BeginsEqual = Always (λ s w n v g. (k : ℕ) → v.ruling.phase ≡ 0 → g.who (w.round + 1) k ≡ g.who w.round k)
+BeginsEqual = Always (λ s w n v g. (k : ℕ) → v.ruling.phase ≡ resting → g.who (w.round + 1) k ≡ g.who w.round k)
 
 -- each block that was published in the round in work has its claim in a view, with the bit set, but while the round is closed; and the block of such a claim was, and both links name it
 abbrev pub LivingClaimed : Type 0
-LivingClaimed = Always (λ s w n v g. (b x m : ℕ) → g.life b ≡ Placed x m → w.born b ≡ w.round + 1 → (v.ruling.phase ≡ 3 → ⊥) → (w.claimed x ≡ 1) × ((j : ℕ) × HasEntry (v.claims j) (claim x m (Living b))))
+LivingClaimed = Always (λ s w n v g. (b x m : ℕ) → g.life b ≡ Placed x m → w.born b ≡ w.round + 1 → (v.ruling.phase ≡ closing → ⊥) → (w.claimed x ≡ 1) × ((j : ℕ) × HasEntry (v.claims j) (claim x m (Living b))))
     × Always (λ s w n v g. (j b x m : ℕ) → HasEntry (v.claims j) (claim x m (Living b)) → (w.born b ≡ w.round + 1) × (g.life b ≡ Placed x m) × (w.head x ≡ node (b + 1) 0) × ((y : ℕ) → m ≡ y + 1 → w.head y ≡ node (b + 1) 0))
 
 -- a living block has the names of a patch, which it bisects at the round in work; the LINK of each member names it; and no other block has a name of the patch
 abbrev pub LivingBlocks : Type 0
-LivingBlocks = Always (λ s w n v g. (b x m : ℕ) → g.life b ≡ Placed x m → 0 < w.born b → w.died b ≡ 0 → v.ruling.phase < 4 → IsPatch s w.name b m
+LivingBlocks = Always (λ s w n v g. (b x m : ℕ) → g.life b ≡ Placed x m → 0 < w.born b → w.died b ≡ 0 → v.ruling.phase < taking_back → IsPatch s w.name b m
     × ((t : Bool) (y : ℕ) → chained (g.life b) t ≡ y + 1 → ((w.head y).block ≡ b + 1) × (g.who (w.round + 1) (w.name (member_of b t)) ≡ b + 1))
     × ((c y i : ℕ) → g.life c ≡ Placed y i → 0 < w.born c → w.died c ≡ 0 → w.name (member_of c false) ≡ w.name (member_of b false) → c ≡ b))
 
 -- what a pass found of the round in work is so: places and bisected names in the first half, and in the second names that are not bisected and blocks of patches
 abbrev pub FindingsRight : Type 0
-FindingsRight = Always (λ s w n v g. (j k : ℕ) → ((x : ℕ) → HasEntry (v.work j).found (x, k) → (v.ruling.phase ≡ 1) × IsPlaceOf s w.name (g.who (w.round + 1)) x k) × (HasEntry (v.work j).known k → (v.ruling.phase ≡ 1) × Holds (g.who (w.round + 1)) k) × (HasEntry (v.work j).open_ k → (v.ruling.phase ≡ 2) × (g.who (w.round + 1) k ≡ 0))
+FindingsRight = Always (λ s w n v g. (j k : ℕ) → ((x : ℕ) → HasEntry (v.work j).found (x, k) → (v.ruling.phase ≡ first_half) × IsPlaceOf s w.name (g.who (w.round + 1)) x k) × (HasEntry (v.work j).known k → (v.ruling.phase ≡ first_half) × Holds (g.who (w.round + 1)) k) × (HasEntry (v.work j).open_ k → (v.ruling.phase ≡ second_half) × (g.who (w.round + 1) k ≡ 0))
     × ((b : ℕ) → HasEntry (v.work j).given (b, k) → (w.name (member_of b false) ≡ k) × (0 < w.born b) × (w.born b ≤ w.round) × ((w.died b ≡ 0) ⊎ (w.died b ≡ w.round + 1))))
 
 -- what a pass at work found of the last finished round is so: names that are not bisected, places, and blocks of names
@@ -41,7 +42,7 @@ WorkersWent = Always (λ s w n v g. (j b : ℕ) → HasEntry (v.work j).went b �
 
 -- all workers' passes are of one half, and in the second each claim has a living block
 abbrev pub OneHalf : Type 0
-OneHalf = Always (λ s w n v g. (j : ℕ) → v.kind j ≡ 1 → ((v.work j).half ≡ v.ruling.phase) × ((v.ruling.phase ≡ 1) ⊎ (v.ruling.phase ≡ 2)) × (v.ruling.phase ≡ 2 → (i x m : ℕ) (p : Progress) → HasEntry (v.claims i) (claim x m p) → (b : ℕ) × (p ≡ Living b)))
+OneHalf = Always (λ s w n v g. (j : ℕ) → v.kind j ≡ worker → ((v.work j).half ≡ v.ruling.phase) × ((v.ruling.phase ≡ first_half) ⊎ (v.ruling.phase ≡ second_half)) × (v.ruling.phase ≡ second_half → (i x m : ℕ) (p : Progress) → HasEntry (v.claims i) (claim x m p) → (b : ℕ) × (p ≡ Living b)))
 
 -- until a claim's block is linked whole, what its seat filled into the words of the block, and what it loaded from the members' LINK words or filled into the children's, stands there
 abbrev pub FilledStays : Type 0
@@ -61,7 +62,7 @@ OwnerSure = Always (λ s w n v g. v.ruling.workers ≡ 0 → ((z : ℕ) (l : Nod
 -- pins of a round that was left were given back or are in a view; none is of a later round; and readers and pins are bounded
 abbrev pub PinsCounted : Type 0
 PinsCounted = Always (λ s w n v g. ((q k : ℕ) → HasEntry v.ruling.left (q, k) → k ≡ w.released q + sum_below n (λ j. one_where (v.read j).pin (q + 1))) × ((q : ℕ) → w.round < q → w.released q ≡ 0) × ((j q : ℕ) → (v.read j).pin ≡ q + 1 → q ≤ w.round)
-    × (sum_below n (λ j. one_where (v.kind j) 2) ≤ s.passes + 1) × (w.taken + sum_below n (λ j. (v.read j).ready) ≤ s.limit + s.passes + 1))
+    × (sum_below n (λ j. one_where (v.kind j) reader) ≤ s.passes + 1) × (w.taken + sum_below n (λ j. (v.read j).ready) ≤ s.limit + s.passes + 1))
 
 -- a LINK word names a block of its place: with the block's retired round, or with none where the block is not retired or in the round in work alone
 abbrev pub LinkWords : Type 0

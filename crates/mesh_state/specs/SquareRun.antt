@@ -1,5 +1,5 @@
 -- A run on the square: its two elements are one patch, and the table has one block. Each line changes one word.
-use Rattle.std.specs.Prelude.{◌≡◌, ℕ, ◌+◌, true, false, []}
+use Rattle.std.specs.Prelude.{◌≡◌, ℕ, ◌+◌, true, false, List, [], ◌∷◌, ◌⊎◌, ◌↔◌}
 use Rattle.mesh_names.specs.Squares.{square}
 use Rattle.mesh_names.specs.Validity.{across_of}
 use Rattle.mesh_words.specs.Functions.{update}
@@ -10,8 +10,11 @@ use Rattle.mesh_words.specs.Views.{Views}
 use Rattle.mesh_words.specs.Words.{Words, node}
 use Rattle.mesh_state.specs.Ghosts.{Ghost}
 use Rattle.mesh_state.specs.Bisections.{MayRead}
-use Rattle.mesh_state.specs.Fresh.{fresh_words}
+use Rattle.mesh_state.specs.Fresh.{fresh_words, fresh_views}
+use Rattle.mesh_state.specs.Reading.{StandsAt, Bisects}
 use Rattle.mesh_state.specs.Rule.{Rule}
+use Rattle.mesh_state.specs.States.{State, state}
+use Rattle.mesh_state.specs.Steps.{Run}
 
 -- a table over the square with one block, for four rounds and one reader's pass
 abbrev pub square_setup : Setup
@@ -127,6 +130,45 @@ claimed_again = let w = opened in record w { claimed = update w.claimed 0 1 }
 abbrev pub drawn_again : Words
 drawn_again = let w = claimed_again in record w { cursor = w.cursor + 1 }
 
+-- In another run the round is refused: after the block was published, its BORN becomes 0 again, the links get back what they had, and DIED becomes the round
+abbrev pub unpublished : Words
+unpublished = let w = published in record w { born = update w.born 0 0 }
+
+abbrev pub unlinked1 : Words
+unlinked1 = let w = unpublished in record w { head = update w.head 1 (node 0 0) }
+
+abbrev pub unlinked0 : Words
+unlinked0 = let w = unlinked1 in record w { head = update w.head 0 (node 0 0); claimed = update w.claimed 0 0 }
+
+abbrev pub buried : Words
+buried = let w = unlinked0 in record w { died = update w.died 0 1 }
+
+-- in a third the reader gives its pin back before the second round
+abbrev pub given_back : Words
+given_back = let w = pinned in record w { released = update w.released 1 (w.released 1 + 1) }
+
+-- the words of the run, in order
+abbrev pub run_words : List Words
+run_words = fresh_words 1 ∷ claimed ∷ drawn ∷ history0 ∷ history1 ∷ undead ∷ named0 ∷ named1 ∷ child0 ∷ child1 ∷ child2 ∷ child3 ∷ linked0 ∷ linked1 ∷ published ∷ unclaimed ∷ finished1 ∷ stopped ∷ rewound ∷ pinned ∷ retired ∷ stamped0 ∷ stamped1 ∷ finished2 ∷ unpinned ∷ cut0 ∷ cut1 ∷ unborn ∷ laid ∷ opened ∷ claimed_again ∷ drawn_again ∷ []
+
+-- the states have the listed words, one after the other, each for one state or more: a load, a split or a phase changes no word
+abbrev pub Along : List State → List Words → Type 0
+Along [] ws = ws ≡ []
+Along (a ∷ rest) [] = ⊥
+Along (a ∷ rest) (w ∷ ws) = (a.words ≡ w) × (Along rest ws ⊎ Along rest (w ∷ ws))
+
+-- the law that the run is one: its states come from the fresh one, each by a step from the one before, and have these words
+abbrev pub SquareFollows : Type 0
+SquareFollows = (states : List State) × Run square_setup (state (fresh_words 1) 1 (fresh_views 1)) states × Along (state (fresh_words 1) 1 (fresh_views 1) ∷ states) run_words
+
+-- the law that the other is one too, in which the pass is worker 0's: it is taken back, and a load shows that no pin is out
+abbrev pub SquareRefused : Type 0
+SquareRefused = (states : List State) × Run square_setup (state (fresh_words 1) 1 (fresh_views 1)) states × Along (state (fresh_words 1) 1 (fresh_views 1) ∷ states) (fresh_words 1 ∷ claimed ∷ drawn ∷ history0 ∷ history1 ∷ undead ∷ named0 ∷ named1 ∷ child0 ∷ child1 ∷ child2 ∷ child3 ∷ linked0 ∷ linked1 ∷ published ∷ unpublished ∷ unlinked1 ∷ unlinked0 ∷ buried ∷ [])
+
+-- the law that the third is one too: the reader goes to the block, finds element 0 bisected and its first child not, gives the pin back and is joined
+abbrev pub SquareVisits : Type 0
+SquareVisits = (states : List State) × Run square_setup (state (fresh_words 1) 1 (fresh_views 1)) states × Along (state (fresh_words 1) 1 (fresh_views 1) ∷ states) (fresh_words 1 ∷ claimed ∷ drawn ∷ history0 ∷ history1 ∷ undead ∷ named0 ∷ named1 ∷ child0 ∷ child1 ∷ child2 ∷ child3 ∷ linked0 ∷ linked1 ∷ published ∷ unclaimed ∷ finished1 ∷ stopped ∷ rewound ∷ pinned ∷ given_back ∷ [])
+
 -- the words are those of a lawful state that may be read at the round q, at which both elements are bisected by the block of number k - 1, or neither is, where k is 0
 abbrev pub Reads : Words → ℕ → ℕ → Type 0
 Reads w q k = (n : ℕ) × (v : Views) × (g : Ghost) × Rule square_setup w n v g × MayRead w.round v.ruling.phase v.read q × (g.who q name0 ≡ k) × (g.who q name1 ≡ k)
@@ -149,3 +191,7 @@ pub record SquareRuns : Type 0 where
   pub cut : Reads cut0 2 0 × Reads cut1 2 0
   pub freed : Reads unborn 2 0 × Reads laid 2 0 × Reads opened 2 0
   pub reused : Reads claimed_again 3 0 × Reads drawn_again 3 0
+
+-- the law that what the run's states read is read from their words: by the block of number k - 1 the two elements are bisected, and by no other
+abbrev pub SquareReads : Type 0
+SquareReads = (w : Words) (q k : ℕ) → Reads w q k → (b : ℕ) → (((x : ℕ) × StandsAt w 2 q 0 [] x × Bisects w q x name0 b) ↔ (k ≡ b + 1)) × (((x : ℕ) × StandsAt w 2 q 1 [] x × Bisects w q x name1 b) ↔ (k ≡ b + 1))

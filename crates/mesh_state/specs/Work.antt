@@ -3,7 +3,7 @@ use Rattle.std.specs.Prelude.{◌≡◌, ℕ, ◌+◌, ◌<◌, ◌≤◌, Bool,
 use Rattle.mesh_words.specs.Entries.{HasEntry}
 use Rattle.mesh_words.specs.Places.{member_of}
 use Rattle.mesh_words.specs.Setup.{Setup}
-use Rattle.mesh_words.specs.Views.{Walk, Still, At, Past, Work}
+use Rattle.mesh_words.specs.Views.{first_half, second_half, worker, Walk, Still, At, Past, Work}
 use Rattle.mesh_words.specs.Words.{Node}
 use Rattle.mesh_state.specs.Ghosts.{Life, Placed, stands}
 use Rattle.mesh_state.specs.Chains.{Covers, Reaches}
@@ -12,18 +12,18 @@ use Rattle.mesh_state.specs.Bisections.{IsPlaceOf}
 -- `who` says which blocks bisect names at the round in work
 pub record WorkRule (s : Setup) (round phase : ℕ) (name born died : ℕ → ℕ) (life : ℕ → Life) (who : ℕ → ℕ) (kind : ℕ) (seat : ℕ) (v : Work) : Type 0 where
   -- only workers' passes and the owner know of the work
-  pub only : (kind ≡ 1 → ⊥) → (seat ≡ 0 → ⊥) → (v.found ≡ []) × (v.known ≡ []) × (v.open_ ≡ []) × (v.given ≡ [])
+  pub only : (kind ≡ worker → ⊥) → (seat ≡ 0 → ⊥) → (v.found ≡ []) × (v.known ≡ []) × (v.open_ ≡ []) × (v.given ≡ [])
   -- a place that was found in the first half is its element's, and a name that was found bisected is so
-  pub found : (x n : ℕ) → HasEntry v.found (x, n) → (phase ≡ 1) × IsPlaceOf s name who x n
-  pub known : (n : ℕ) → HasEntry v.known n → (phase ≡ 1) × ((b : ℕ) × (who n ≡ b + 1))
+  pub found : (x n : ℕ) → HasEntry v.found (x, n) → (phase ≡ first_half) × IsPlaceOf s name who x n
+  pub known : (n : ℕ) → HasEntry v.known n → (phase ≡ first_half) × ((b : ℕ) × (who n ≡ b + 1))
   -- a name that was found not bisected in the second half is not
-  pub open_ : (n : ℕ) → HasEntry v.open_ n → (phase ≡ 2) × (who n ≡ 0)
+  pub open_ : (n : ℕ) → HasEntry v.open_ n → (phase ≡ second_half) × (who n ≡ 0)
   -- a block that was found for a patch of the retire list is its block, of a finished round, and is not retired by that
-  pub given : (b k : ℕ) → HasEntry v.given (b, k) → (phase ≡ 2) × (name (member_of b false) ≡ k) × ((x : ℕ) × (m : ℕ) × (life b ≡ Placed x m) × (0 < born b) × (born b ≤ round) × ((died b ≡ 0) ⊎ (died b ≡ round + 1)))
+  pub given : (b k : ℕ) → HasEntry v.given (b, k) → (phase ≡ second_half) × (name (member_of b false) ≡ k) × ((x : ℕ) × (m : ℕ) × (life b ≡ Placed x m) × (0 < born b) × (born b ≤ round) × ((died b ≡ 0) ⊎ (died b ≡ round + 1)))
 
 -- the element n stands at x at the last finished round, or, in the first half, at the round in work
 abbrev pub IsWorkPlace : Setup → ℕ → ℕ → (ℕ → ℕ) → (ℕ → ℕ → ℕ) → ℕ → ℕ → Type 0
-IsWorkPlace s round phase name who x n = ((phase ≡ 1) × IsPlaceOf s name (who (round + 1)) x n) ⊎ IsPlaceOf s name (who round) x n
+IsWorkPlace s round phase name who x n = ((phase ≡ first_half) × IsPlaceOf s name (who (round + 1)) x n) ⊎ IsPlaceOf s name (who round) x n
 
 -- Where a worker's walk is: it stands still; or it has gone to a block's member from the place of a name, whose block at the last finished round, if there is one, is this or is found behind it; or it has passed that block by
 abbrev pub WorkWalks : Setup → ℕ → ℕ → (ℕ → ℕ) → (ℕ → Node) → (ℕ → ℕ) → (ℕ → ℕ) → (ℕ → Life) → (ℕ → ℕ → ℕ) → List ℕ → Walk → Type 0
@@ -34,16 +34,22 @@ WorkWalks s round phase name hist born died life who went (Past x n b t) = HasEn
 -- what the passes at work know of the last finished round, and where they walk
 pub record WalkRule (s : Setup) (round phase : ℕ) (name : ℕ → ℕ) (hist : ℕ → Node) (born died : ℕ → ℕ) (life : ℕ → Life) (who : ℕ → ℕ → ℕ) (kind : ℕ) (seat : ℕ) (v : Work) : Type 0 where
   -- only workers' passes walk, and only they and the owner know of the work
-  pub still : (kind ≡ 1 → ⊥) → (v.went ≡ []) × (v.walk ≡ Still)
-  pub only : (kind ≡ 1 → ⊥) → (seat ≡ 0 → ⊥) → (v.absent ≡ []) × (v.stood ≡ []) × (v.had ≡ []) × (v.retired ≡ [])
+  pub still : (kind ≡ worker → ⊥) → (v.went ≡ []) × (v.walk ≡ Still)
+  pub only : (kind ≡ worker → ⊥) → (seat ≡ 0 → ⊥) → (v.absent ≡ []) × (v.stood ≡ []) × (v.had ≡ []) × (v.retired ≡ [])
   -- a worker's pass knows its half
-  pub half : kind ≡ 1 → v.half ≡ phase
+  pub half : kind ≡ worker → v.half ≡ phase
+  -- and the round in which it works, the one after the last finished
+  pub at_work : kind ≡ worker → v.round ≡ round + 1
+  -- blocks that it retired are below the pool
+  pub retired_in : (b : ℕ) → HasEntry v.retired b → b < s.pool
   pub absent : (n : ℕ) → HasEntry v.absent n → who round n ≡ 0
   pub stood : (x n : ℕ) → HasEntry v.stood (x, n) → IsPlaceOf s name (who round) x n
   pub had : (b n : ℕ) → HasEntry v.had (b, n) → who round n ≡ b + 1
   -- a block to which the pass went stands somewhere, and was not retired by the last finished round
   pub went : (b : ℕ) → HasEntry v.went b → ((t : Bool) × (x : ℕ) × (stands (life b) t ≡ x + 1)) × ((died b ≡ 0) ⊎ (round < died b))
   pub walk : WorkWalks s round phase name hist born died life who v.went v.walk
+  -- the member to which a walk has gone has the element's name
+  pub sided : (x n b : ℕ) (t : Bool) → (v.walk ≡ At x n b t) ⊎ (v.walk ≡ Past x n b t) → name (member_of b t) ≡ n
 
 -- each block that was retired in the round in work is known to have been so by some seat
 abbrev pub RetiredKnown : ℕ → (ℕ → ℕ) → (ℕ → Life) → (ℕ → Work) → List ℕ → Type 0

@@ -8,3 +8,4 @@ pub mod Sums
 pub mod PlaceNumbers
 pub mod Writes
 pub mod CodedNames
+pub mod FreshWords

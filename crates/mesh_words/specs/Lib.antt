@@ -10,3 +10,4 @@ pub mod Words
 pub mod Claims
 pub mod Views
 pub mod Setup
+pub mod FreshWords

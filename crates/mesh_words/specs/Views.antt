@@ -3,6 +3,32 @@ use Rattle.std.specs.Prelude.{ℕ, Bool, List, []}
 use Rattle.mesh_words.specs.Words.{Node}
 use Rattle.mesh_words.specs.Claims.{Claim}
 
+-- the kinds of seat, the owner's the last; one that was joined has the kind 0
+abbrev pub worker : ℕ
+worker = 1
+
+abbrev pub reader : ℕ
+reader = 2
+
+abbrev pub ruler : ℕ
+ruler = 3
+
+-- the phases of a round: at rest before its first pass, the two halves, while it is closed, and while it is taken back
+abbrev pub resting : ℕ
+resting = 0
+
+abbrev pub first_half : ℕ
+first_half = 1
+
+abbrev pub second_half : ℕ
+second_half = 2
+
+abbrev pub closing : ℕ
+closing = 3
+
+abbrev pub taking_back : ℕ
+taking_back = 4
+
 -- a walk stands still, has gone to a block's member from the place of an element with this name, or has passed the block by
 pub data Walk : Type 0 where
   Still : Walk
@@ -23,6 +49,8 @@ no_plan = record { needs = []; target = []; retire = [] }
 pub record Work : Type 0 where
   -- 1 in the first half of the round and 2 in the second
   pub half : ℕ
+  -- the round in work
+  pub round : ℕ
   -- its number among the workers
   pub number : ℕ
   pub plan : Plan

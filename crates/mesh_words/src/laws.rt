@@ -1,4 +1,5 @@
 //! Laws over the definitions alone.
+ghost use Rattle.mesh_words.specs.FreshWords.{FreshWordsListed};
 ghost use Rattle.mesh_words.specs.Layout.{WordsApart, WordsFill, WordsWithin, WritesOne};
 ghost use Rattle.mesh_words.specs.Links.{ClaimSets, LinksRead, LinksSpell};
 ghost use Rattle.mesh_words.specs.NameWords.{NamesRead, NamesSpell};
@@ -7,7 +8,8 @@ ghost use Rattle.mesh_words.specs.Rounds.{RoundsRead, RoundsSpell};
 ghost use Rattle.mesh_words.specs.Setup.{CodesApart};
 ghost use Rattle.mesh_words.specs.Words.{NodesRead, WritesUpdate};
 
-/// Spelling and reading a word are inverse, and the words lie apart and fill the table.
+/// Spelling and reading a word are inverse, the words lie apart and fill the table, and there are
+/// those of a fresh one.
 pub fn laws()
     ensures links_read { LinksRead }
     ensures links_spell { LinksSpell }
@@ -24,4 +26,5 @@ pub fn laws()
     ensures places_numbered { PlacesNumbered }
     ensures nodes_read { NodesRead }
     ensures writes_update { WritesUpdate }
+    ensures fresh_listed { FreshWordsListed }
 {}

@@ -1,10 +1,21 @@
+use Rattle.mesh_state.proofs.FreshList.{fresh_from_list}
 use Rattle.mesh_state.proofs.Fresh.{fresh_is_lawful}
 use Rattle.mesh_state.proofs.Lawful.{blocks_placed, retired_born, walks_short, bounded, one_holder, one_claim, draws_bounded, free_rows, walks_agree, walks_end, parents_bisected, members_together, places_agree, notes_agree, reached_kept, clear_rounds}
 use Rattle.mesh_state.proofs.ClaimLaws.{bits_claimed, second_places, stages_viewed, draws_counted, unborn_blocks, unborn_claimed, target_least}
 use Rattle.mesh_state.proofs.RoundLaws.{between, differs, closed, aimed, lists_known, history_right, told_prefix, notes_told, draws_apart, quiet_round, walks_begin, chains_stand, standing_kept, rounds_left, worker_alone, claims_drawn}
 use Rattle.mesh_state.proofs.SeatLaws.{begins_equal, living_claimed, living_blocks, findings_right, finished_findings, workers_went, one_half, filled_stays, loaded_stays, owner_sure, pins_counted, link_words, history_words, retired_noted}
+use Rattle.mesh_state.proofs.TableLaws.{blocks_in_pool, blocks_viewed, places_in_table, chains_named, elements_named, walk_sides, claims_listed_once}
+use Rattle.mesh_state.proofs.Reading.{words_read}
+use Rattle.mesh_state.proofs.ReadingLaws.{least_read, readable_forests, reads_history, reads_forest, reached_stays}
+use Rattle.mesh_state.proofs.Local.{steps_local}
+use Rattle.mesh_state.proofs.Reuse.{steps_spare}
+use Rattle.mesh_state.proofs.StepsKeep.{next_named, steps_keep}
 use Rattle.mesh_state.proofs.RoundCoarsens.{history_coarsens}
 use Rattle.mesh_state.proofs.RoundForests.{bisected_coded, kept_forests, least_is_target, reads_forests, least_when_needed}
+use Rattle.mesh_state.proofs.SquareFollows.{square_follows}
+use Rattle.mesh_state.proofs.SquareRefused.{square_refused}
+use Rattle.mesh_state.proofs.SquareReads.{square_reads}
+use Rattle.mesh_state.proofs.SquareVisits.{square_visits}
 use Rattle.mesh_state.proofs.SquareRound3.{square_runs}
 use Rattle.mesh_state.proofs.laws.laws.Goals as goal
 
@@ -190,3 +201,69 @@ returns-clause-coded c = bisected_coded
 
 pub returns-clause-kept : goal.returns-clause-kept
 returns-clause-kept c = kept_forests
+
+pub returns-clause-pool : goal.returns-clause-pool
+returns-clause-pool c = blocks_in_pool
+
+pub returns-clause-viewed : goal.returns-clause-viewed
+returns-clause-viewed c = blocks_viewed
+
+pub returns-clause-table : goal.returns-clause-table
+returns-clause-table c = places_in_table
+
+pub returns-clause-named : goal.returns-clause-named
+returns-clause-named c = chains_named
+
+pub returns-clause-elements : goal.returns-clause-elements
+returns-clause-elements c = elements_named
+
+pub returns-clause-sides : goal.returns-clause-sides
+returns-clause-sides c = walk_sides
+
+pub returns-clause-once : goal.returns-clause-once
+returns-clause-once c = claims_listed_once
+
+pub returns-clause-readable : goal.returns-clause-readable
+returns-clause-readable c = readable_forests
+
+pub returns-clause-words : goal.returns-clause-words
+returns-clause-words c = words_read
+
+pub returns-clause-read : goal.returns-clause-read
+returns-clause-read c = reads_history
+
+pub returns-clause-forest : goal.returns-clause-forest
+returns-clause-forest c = reads_forest
+
+pub returns-clause-reached : goal.returns-clause-reached
+returns-clause-reached c = reached_stays
+
+pub returns-clause-steps : goal.returns-clause-steps
+returns-clause-steps c = steps_keep
+
+pub returns-clause-follows : goal.returns-clause-follows
+returns-clause-follows c = square_follows
+
+pub returns-clause-list : goal.returns-clause-list
+returns-clause-list c = fresh_from_list
+
+pub returns-clause-refused : goal.returns-clause-refused
+returns-clause-refused c = square_refused
+
+pub returns-clause-next : goal.returns-clause-next
+returns-clause-next c = next_named
+
+pub returns-clause-least_read : goal.returns-clause-least_read
+returns-clause-least_read c = least_read
+
+pub returns-clause-local : goal.returns-clause-local
+returns-clause-local c = steps_local
+
+pub returns-clause-square_reads : goal.returns-clause-square_reads
+returns-clause-square_reads c = square_reads
+
+pub returns-clause-spare : goal.returns-clause-spare
+returns-clause-spare c = steps_spare
+
+pub returns-clause-visits : goal.returns-clause-visits
+returns-clause-visits c = square_visits

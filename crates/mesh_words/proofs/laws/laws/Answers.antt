@@ -4,6 +4,7 @@ use Rattle.mesh_words.proofs.NameCodes.{names_read, names_spell}
 use Rattle.mesh_words.proofs.CodedNames.{codes_apart}
 use Rattle.mesh_words.proofs.WordPlaces.{words_within, words_apart, words_fill, writes_one}
 use Rattle.mesh_words.proofs.PlaceNumbers.{places_numbered}
+use Rattle.mesh_words.proofs.FreshWords.{fresh_words_listed}
 use Rattle.mesh_words.proofs.Writes.{writes_update}
 use Rattle.mesh_words.proofs.laws.laws.Goals as goal
 
@@ -51,3 +52,6 @@ returns-clause-writes_update c = writes_update
 
 pub returns-clause-codes_apart : goal.returns-clause-codes_apart
 returns-clause-codes_apart c = codes_apart
+
+pub returns-clause-fresh_listed : goal.returns-clause-fresh_listed
+returns-clause-fresh_listed c = fresh_words_listed

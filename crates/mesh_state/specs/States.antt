@@ -1,0 +1,21 @@
+-- A state of the table: its words, how many seats were ever made, and what the seats know.
+use Rattle.std.specs.Prelude.{ℕ}
+use Rattle.mesh_words.specs.Setup.{Setup}
+use Rattle.mesh_words.specs.Views.{Views}
+use Rattle.mesh_words.specs.Words.{Words}
+use Rattle.mesh_state.specs.Rule.{Lawful}
+
+pub record State : Type 0 where
+  pub words : Words
+  pub seats : ℕ
+  pub views : Views
+
+abbrev pub state : Words → ℕ → Views → State
+state w n v = record { words = w; seats = n; views = v }
+
+abbrev pub IsLawful : Setup → State → Type 0
+IsLawful s a = Lawful s a.words a.seats a.views
+
+-- A kind of step: from words, seats and views to the state after it. Its condition speaks of the view of the seat that steps, of the numbers that it is given, and of the numbers that it finds in the words
+abbrev pub Kind : Type 1
+Kind = Setup → Words → ℕ → Views → State → Type 0
