@@ -8,17 +8,15 @@
 ghost use Rattle.std.specs.Prelude.{All, IfOk};
 ghost use Rattle.mesh_names.specs.Marks.{IsWellFormed};
 
+mod grown;
 mod rival;
 
 use adapt_cli::load::{load_macro, load_marks};
-use adapt_cli::rounds::run_rounds;
 use anyhow::{Result, anyhow};
 use compat_check::mesh::MacroMesh;
-use forest_plain::forest::PlainForest;
+use grown::{grow, write_times};
 use mesh_io::MemShelf;
-use mesh_names::name::ElemName;
 use mesh_names::rows::RoundMarks;
-use mesh_writer::text::mesh_text;
 use rival::{Numbers, print_all};
 use std::alloc::{AllocError, Global};
 use std::env;
@@ -75,15 +73,6 @@ fn all_marked(alloc: Global, times: u32) -> Result<Vec<RoundMarks>, AllocError>
     }
 }
 
-// A sum over the bytes by which two texts are told apart.
-fn checksum(text: &[u8]) -> u64 {
-    let mut sum = 0_u64;
-    for byte in text {
-        sum = sum.wrapping_mul(31).wrapping_add(u64::from(*byte));
-    }
-    sum
-}
-
 // The least of the times of five runs, in microseconds, of the text and of its numbers alone.
 fn tell_times(rt: &HostRuntime, alloc: Global, text: u128, numbers: &Numbers) -> Result<()> {
     let mut printed = u128::MAX;
@@ -109,30 +98,14 @@ fn main(rt: HostRuntime) -> Result<()> {
     let side = if size.is_some() { 64 } else { 4 };
     let mesh = grid_mesh(alloc, side)?;
     let rounds = all_marked(alloc, size.unwrap_or(2).clamp(1, 7))?;
-    let mut forest = PlainForest::new(alloc, &mesh, 1_048_576);
-    if run_rounds(alloc, &mut forest, &rounds).is_err() {
-        return Err(anyhow!("a round was refused"));
-    }
-    let Ok(leaves) = forest.leaves() else {
-        return Err(anyhow!("out of memory"));
-    };
-    let mut least = u128::MAX;
-    let mut sum = 0;
-    let mut bytes = 0;
-    for _ in 0..5 {
-        let start = Instant::now(&rt)?;
-        let Ok(text) = mesh_text(&rt, alloc, &mesh, &leaves) else {
-            return Err(anyhow!("out of memory"));
-        };
-        least = least.min(start.elapsed(&rt)?.as_micros());
-        sum = checksum(&text);
-        bytes = text.len();
-    }
+    let (mut forest, values) = grow(alloc, &mesh, &rounds)?;
+    let (leaves, written) = write_times(&rt, alloc, &mesh, &mut forest, &values)?;
     let count = leaves.len();
+    let (bytes, sum) = (written.bytes, written.checksum);
     println!(rt; "{count} leaves, {bytes} bytes, checksum {sum}")?;
     if size.is_some() {
         let numbers = Numbers::of(alloc, &mesh, &leaves)?;
-        tell_times(&rt, alloc, least, &numbers)?;
+        tell_times(&rt, alloc, written.micros, &numbers)?;
     }
     Ok(())
 }

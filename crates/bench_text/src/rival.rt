@@ -16,8 +16,8 @@ pub struct Numbers {
 }
 
 impl Numbers {
-    /// For each leaf one coordinate, which is two for each vertex or a few less, and nine whole
-    /// numbers.
+    /// For each leaf one coordinate, which is two for each vertex or a few less, nine whole numbers
+    /// and a value, which is 0, and for every second leaf the value of a vertex.
     pub fn of(alloc: Global, mesh: &MacroMesh, leaves: &[ElemName]) -> Result<Numbers, AllocError>
         requires { All (IsInMesh (shape_of mesh.now)) leaves.now }
     {
@@ -31,6 +31,12 @@ impl Numbers {
         for _ in 0..9 {
             for place in 0..count {
                 wholes.push(i64::from(place))?;
+            }
+        }
+        for place in 0..count {
+            wholes.push(0)?;
+            if place % 2 == 0 {
+                wholes.push(0)?;
             }
         }
         Ok(Numbers { units, wholes })

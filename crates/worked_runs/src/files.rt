@@ -67,3 +67,30 @@ number of elements: 1
 vertex coordinates: 0 0 1 0 0 1
 element vertices: 0 1 2
 ";
+
+/// The square with values.
+pub const VALUED_SQUARE: &str = "number of vertices: 4
+number of elements: 2
+vertex coordinates: 0 0 1 0 1 1 0 1
+element vertices: 2 0 1 0 2 3
+vertex values: 3 0 -4 0
+element values: -7 0
+";
+
+/// One triangle with values, and a vertex that it does not have.
+pub const VALUED_TRIANGLE: &str = "number of vertices: 4
+number of elements: 1
+vertex coordinates: 0 0 1 0 5 5 0 1
+element vertices: 0 1 3
+vertex values: 1 2 3 4
+element values: 36028797018963968
+";
+
+/// The turned square with values.
+pub const VALUED_TURNED_SQUARE: &str = "number of vertices: 4
+number of elements: 2
+vertex coordinates: 0 0 1 0 1 1 0 1
+element vertices: 2 0 1 2 3 0
+vertex values: 1 10 100 1000
+element values: 11 -5
+";

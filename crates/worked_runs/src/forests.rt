@@ -5,8 +5,8 @@ ghost use Rattle.mesh_names.specs.Marks.{IsWellFormed};
 use crate::files::{SQUARE, TURNED_SQUARE};
 use crate::run::shelf;
 use adapt_cli::load::{load_macro, load_marks};
-use adapt_cli::rounds::run_rounds;
 use compat_check::mesh::MacroMesh;
+use forest_plain::Forest;
 use forest_plain::forest::PlainForest;
 use forest_plain::refusal::RoundRefusal;
 use mesh_names::name::ElemName;
@@ -65,7 +65,9 @@ fn two_rounds_leave_eleven_leaves_in_order(rt: HostRuntime) -> Result<(), Fail> 
     let mesh = mesh_of(alloc, SQUARE)?;
     let rounds = rounds_of(alloc, "1,mark,0,1\n2,mark,0.0,2\n")?;
     let mut forest = PlainForest::new(alloc, &mesh, 65_536);
-    assert!(rt; run_rounds(alloc, &mut forest, &rounds).is_ok());
+    for round in &rounds {
+        assert!(rt; forest.round(round).is_ok());
+    }
     let leaves = forest.leaves().map_err(|_| AllocError)?;
     let want = b"0.000 0.001 0.010 0.011 0.10 0.110 0.111 1.0 1.100 1.101 1.11 ";
     assert!(rt; spelled(alloc, &leaves)?.as_slice() == want.as_slice());

@@ -3,6 +3,8 @@
 //! out from the definitions, by hand and by a model of its own.
 
 #[cfg(test)]
+mod commands;
+#[cfg(test)]
 mod files;
 #[cfg(test)]
 mod forests;
@@ -13,6 +15,10 @@ mod meshes;
 #[cfg(test)]
 mod run;
 #[cfg(test)]
+mod square_texts;
+#[cfg(test)]
 mod tests;
 #[cfg(test)]
 mod texts;
+#[cfg(test)]
+mod values;

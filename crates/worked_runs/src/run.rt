@@ -66,3 +66,42 @@ pub fn run<R: Threads + Sync>(
     held.push(("m".to_string(alloc)?, marks.as_bytes().to_vec(alloc)?))?;
     run_words(rt, alloc, "run q m", MemShelf::new(held, Vec::new(alloc)))
 }
+
+/// Whether a run ends with status 0, writes exactly this text and tells nothing.
+pub fn writes<R: Threads + Sync>(
+    rt: &R,
+    alloc: Global,
+    macro_text: &str,
+    rows: &str,
+    text: &str,
+) -> Result<bool, AllocError> {
+    let ran = run(rt, alloc, macro_text, rows)?;
+    Ok(ran.status == 0 && ran.out.bytes() == text.as_bytes() && ran.err.bytes().is_empty())
+}
+
+/// Whether a run ends with status 0 and a text of which these are the last two lists, a line a value.
+pub fn ends_in_values<R: Threads + Sync>(
+    rt: &R,
+    alloc: Global,
+    macro_text: &str,
+    rows: &str,
+    vertices: &str,
+    elements: &str,
+) -> Result<bool, AllocError> {
+    let ran = run(rt, alloc, macro_text, rows)?;
+    let lists = format!(in alloc; "\n\nvertex values:\n{vertices}\nelement values:\n{elements}")?;
+    Ok(ran.status == 0 && ran.out.bytes().ends_with(lists.as_bytes()))
+}
+
+/// Whether a run ends with this status and tells this, and writes nothing.
+pub fn refuses<R: Threads + Sync>(
+    rt: &R,
+    alloc: Global,
+    macro_text: &str,
+    rows: &str,
+    status: u8,
+    told: &str,
+) -> Result<bool, AllocError> {
+    let ran = run(rt, alloc, macro_text, rows)?;
+    Ok(ran.status == status && ran.err.bytes() == told.as_bytes() && ran.out.bytes().is_empty())
+}
