@@ -1,6 +1,0 @@
-use Rattle.std.proofs.Common.{◌≡◌}
-use Rattle.mesh_writer.specs.Numbers.{macro_keys}
-use Rattle.mesh_writer.proofs.numbering.macro_keys.Given as goal
-
-abbrev pub invariant-loop-number : goal.invariant-loop-number
-invariant-loop-number l = l.keys.items ≡ macro_keys l.number
