@@ -1,6 +1,6 @@
 -- The whole text, piece by piece.
-use Rattle.std.proofs.Common.{◌≡◌, ℕ, suc, ◌<◌, ℤ, pos, true, List, [], ◌∷◌, ◌++◌, map, length, refl, sym, ap, ◌∙◌, subst, arith}
-use Rattle.std.specs.Prelude.{All, Option, codes, slice_index_or, zip}
+use Rattle.std.proofs.Common.{◌≡◌, ℕ, zero, suc, ◌+◌, ◌*◌, ◌<◌, ℤ, pos, true, List, [], ◌∷◌, ◌++◌, map, length, refl, sym, ap, ◌∙◌, subst, arith}
+use Rattle.std.specs.Prelude.{All, Option, None, drop, codes, slice_index_or, zip}
 use Rattle.std.specs.Fmt.{signed_decimal}
 use Rattle.std.specs.List.Sorted.{IsStrictlySortedBy}
 use Rattle.std.proofs.lemmas.List.{ext_get_or, get_or-map, length-map}
@@ -18,9 +18,32 @@ use Rattle.mesh_writer.specs.MeshText.{coordinates_line, macro_element, macro_ve
 use Rattle.mesh_writer.specs.Neighbours.{neighbours, number_or_none}
 use Rattle.mesh_writer.specs.Numbering.{vertices}
 use Rattle.mesh_writer.specs.Numbers.{IsWritten}
-use Rattle.mesh_writer.specs.Others.{AreAcross, AreOthers, row_by}
+use Rattle.mesh_writer.specs.Others.{AreOthers, leaf_at, rows_by}
 use Rattle.mesh_writer.specs.Triples.{numbers}
 use Rattle.mesh_writer.proofs.AcrossLeaves.{across_told}
+
+-- the leaves across the three edges of leaf i
+abbrev row_by : List (Option ℕ) → ℕ → List ℤ
+row_by others i =
+    let told = λ (k : ℕ). leaf_at (slice_index_or others (i * 3 + k) None) in
+    told 0 ∷ told 1 ∷ told 2 ∷ []
+
+-- places come three by three
+rows_at : (count : ℕ) (others : List (Option ℕ)) → length others ≡ count * 3 → (i : ℕ) → i < count → slice_index_or (rows_by others count) i [] ≡ row_by others i
+rows_at zero others many i low = absurd (omega (arith, low))
+rows_at (suc count) [] many i low = absurd (omega (arith, many))
+rows_at (suc count) (a ∷ []) many i low = absurd (omega (arith, many))
+rows_at (suc count) (a ∷ b ∷ []) many i low = absurd (omega (arith, many))
+rows_at (suc count) (a ∷ b ∷ c ∷ others) many zero low = refl
+rows_at (suc count) (a ∷ b ∷ c ∷ others) many (suc i) low =
+    let all = a ∷ b ∷ c ∷ others in
+    let later : (k : ℕ) → suc i * 3 + k ≡ suc (suc (suc (i * 3 + k))) = λ k. omega arith in
+    let further : (k : ℕ) → leaf_at (slice_index_or all (suc i * 3 + k) None) ≡ leaf_at (slice_index_or others (i * 3 + k) None) = λ k. ap (λ (j : ℕ). leaf_at (slice_index_or all j None)) (later k) in
+    rows_at count others (omega (arith, many)) i (omega (arith, low)) ∙ sym (λ j. further 0 j ∷ further 1 j ∷ further 2 j ∷ [])
+
+rows_many : (count : ℕ) (others : List (Option ℕ)) → length (rows_by others count) ≡ count
+rows_many zero others = refl
+rows_many (suc count) others = ap suc (rows_many count (drop 3 others))
 
 row_is : (mesh : Shape) → IsValid mesh → (written : List Vertex) (leaves : List Name) → IsStrictlySortedBy name_cmp leaves → All (IsInMesh mesh) leaves → All (IsWritten mesh written) leaves → (others : List (Option ℕ)) → AreOthers (map (numbers mesh written) leaves) others → (i : ℕ) (d : Name) → i < length leaves → row_by others i ≡ neighbours mesh leaves (slice_index_or leaves i d)
 row_is mesh valid written leaves sorted rooted all others known i d inside =
@@ -28,14 +51,17 @@ row_is mesh valid written leaves sorted rooted all others known i d inside =
     λ j. number_or_none (told Edge0 inside j) ∷ number_or_none (told Edge1 inside j) ∷ number_or_none (told Edge2 inside j) ∷ []
 
 -- the rows of the first other places are the neighbours
-pub rows_are : (mesh : Shape) → IsValid mesh → (written : List Vertex) (leaves : List Name) → IsStrictlySortedBy name_cmp leaves → All (IsInMesh mesh) leaves → All (IsWritten mesh written) leaves → (triples : List (List ℕ)) → triples ≡ map (numbers mesh written) leaves → (rows : List (List ℤ)) → AreAcross triples rows → rows ≡ map (neighbours mesh leaves) leaves
-rows_are mesh valid written leaves sorted rooted all triples is rows across =
-    let known : AreOthers (map (numbers mesh written) leaves) across.others = subst (λ (ts : List (List ℕ)). AreOthers ts across.others) is across.known in
+pub rows_are : (mesh : Shape) → IsValid mesh → (written : List Vertex) (leaves : List Name) → IsStrictlySortedBy name_cmp leaves → All (IsInMesh mesh) leaves → All (IsWritten mesh written) leaves → (triples : List (List ℕ)) → triples ≡ map (numbers mesh written) leaves → (others : List (Option ℕ)) → AreOthers triples others → rows_by others (length leaves) ≡ map (neighbours mesh leaves) leaves
+rows_are mesh valid written leaves sorted rooted all triples is others given =
+    let known : AreOthers (map (numbers mesh written) leaves) others = subst (λ (ts : List (List ℕ)). AreOthers ts others) is given in
     let many : length triples ≡ length leaves = ap length is ∙ length-map leaves (numbers mesh written) in
+    let each : length others ≡ length leaves * 3 = given.each ∙ ap (λ (n : ℕ). n * 3) many in
+    let rows = rows_by others (length leaves) in
+    let count : length rows ≡ length leaves = rows_many (length leaves) others in
     let d : Name = (0, []) in
-    ext_get_or [] rows (map (neighbours mesh leaves) leaves) (across.told.each ∙ many ∙ sym (length-map leaves (neighbours mesh leaves))) (λ i inside.
-    let low : i < length leaves = omega (arith, inside, across.told.each, many) in
-    across.told.row i (omega (arith, low, many)) ∙ row_is mesh valid written leaves sorted rooted all across.others known i d low ∙ sym (get_or-map (neighbours mesh leaves) leaves i d [] low))
+    ext_get_or [] rows (map (neighbours mesh leaves) leaves) (count ∙ sym (length-map leaves (neighbours mesh leaves))) (λ i inside.
+    let low : i < length leaves = omega (arith, inside, count) in
+    rows_at (length leaves) others each i low ∙ row_is mesh valid written leaves sorted rooted all others known i d low ∙ sym (get_or-map (neighbours mesh leaves) leaves i d [] low))
 
 -- lines of items with their values, where the line tells the item or the value alone
 module _ {A X : Type 0} (made : A × ℤ → X) where
@@ -58,6 +84,10 @@ module _ {A X : Type 0} (made : A × ℤ → X) where
 twice : {A B C : Type 0} (f : A → B) (g : B → C) (xs : List A) → map g (map f xs) ≡ map (λ x. g (f x)) xs
 twice f g [] = refl
 twice {A} {B} {C} f g (x ∷ xs) = ap (λ (ys : List C). g (f x) ∷ ys) (twice f g xs)
+
+-- a list of numbers that items tell
+pub by_numbers : {A : Type 0} (told : A → List ℤ) (key now then : List ℕ) (items : List A) → then ≡ now ++ lines_text (list_lines key (λ x. numbers_line (told x)) items) → then ≡ now ++ lines_text (list_lines key numbers_line (map told items))
+by_numbers told key now then items h = h ∙ ap (λ (ls : List (List ℕ)). now ++ lines_text (key ∷ (ls ++ [] ∷ []))) (sym (twice told numbers_line items))
 
 -- the macro text with these written vertices
 abbrev formed : Mesh → List Vertex → List Name → List ℤ → List ℤ → MacroText

@@ -1,5 +1,6 @@
 -- For each edge of a list of triples the first other place with the same edge.
-use Rattle.std.specs.Prelude.{◌≡◌, ℕ, ℤ, ◌+◌, ◌*◌, ◌/◌, ◌<◌, List, [], ◌∷◌, ◌++◌, length, Option, Some, None, option_map, slice_index_or, slice_set}
+use Rattle.std.specs.Prelude.{◌≡◌, ℕ, ℤ, ◌+◌, ◌*◌, ◌/◌, ◌<◌, List, [], ◌∷◌, ◌++◌, length, Option, Some, None, map, option_map, slice_index_or, slice_set}
+use Rattle.std.specs.Simd.{first_chunks}
 use Rattle.mesh_names.specs.Triangles.{Triple}
 use Rattle.compat_check.specs.Places.{Meets}
 use Rattle.mesh_writer.specs.Neighbours.{number_or_none}
@@ -31,18 +32,10 @@ abbrev pub AddsPlace : List (Option ℕ) → Option ℕ → List (Option ℕ) �
 AddsPlace old None new = new ≡ old ++ None ∷ []
 AddsPlace old (Some q) new = then_adds old q (slice_index_or old q None) new
 
--- the leaves of the first other places of a leaf's three edges
-abbrev pub row_by : List (Option ℕ) → ℕ → List ℤ
-row_by others i =
-    let number = λ (k : ℕ). number_or_none (option_map (λ q. q / 3) (slice_index_or others (i * 3 + k) None)) in
-    number 0 ∷ number 1 ∷ number 2 ∷ []
+-- the number of the leaf with the edge at a place, or -1
+abbrev pub leaf_at : Option ℕ → ℤ
+leaf_at place = number_or_none (option_map (λ q. q / 3) place)
 
-pub record AreRows (others : List (Option ℕ)) (count : ℕ) (rows : List (List ℤ)) : Type 0 where
-  pub each : length rows ≡ count
-  pub row : (i : ℕ) → i < count → slice_index_or rows i [] ≡ row_by others i
-
--- the neighbours of triples, from the first other place of each edge
-pub record AreAcross (triples : List Triple) (rows : List (List ℤ)) : Type 0 where
-  pub others : List (Option ℕ)
-  pub known : AreOthers triples others
-  pub told : AreRows others (length triples) rows
+-- the neighbours of so many leaves, from the first other places of their edges, three by three
+abbrev pub rows_by : List (Option ℕ) → ℕ → List (List ℤ)
+rows_by others count = map (map leaf_at) (first_chunks 3 count others)

@@ -14,7 +14,6 @@ mod others;
 mod owners;
 mod pieces;
 pub mod refusal;
-mod rows;
 mod slots;
 #[cfg(test)]
 mod tests;

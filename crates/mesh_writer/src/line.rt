@@ -1,9 +1,10 @@
 //! The lines of a mesh's text.
-ghost use Rattle.std.specs.Prelude.{◌≡◌, ◌++◌, ◌∷◌, ℕ, [], List, OnOk};
+ghost use Rattle.std.specs.Prelude.{◌≡◌, ◌++◌, ◌∷◌, ◌/◌, ℕ, [], List, OnOk, map, option_map, pos};
 ghost use Rattle.std.specs.Fmt.{signed_decimal};
 ghost use Rattle.mesh_io.specs.Decimals.{written_units};
 ghost use Rattle.macro_file.specs.Written.{numbers_line};
 ghost use Rattle.mesh_writer.specs.MeshText.{coordinates_line};
+ghost use Rattle.mesh_writer.specs.Others.{leaf_at as leaf_at_place};
 
 use mesh_io::{put_decimal, put_whole};
 use std::alloc::AllocError;
@@ -21,15 +22,39 @@ pub(crate) trait Line {
         ensures { OnOk result (to.new.items ≡ to.old.items ++ (line self.now ++ 10 ∷ [])) };
 }
 
-/// Three whole numbers.
-impl Line for [i64; 3] {
-    ghost line = { numbers_line };
+/// The numbers of three corners.
+impl Line for [u32; 3] {
+    ghost line = { λ triple. numbers_line (map pos triple) };
 
-    const ROOM: usize = 22;
+    const ROOM: usize = 24;
 
     fn put(&self, to: &mut Vec<u8>) -> Result<(), AllocError> {
         let [first, second, third] = *self;
-        put_three(to, first, second, third)
+        put_three(to, i64::from(first), i64::from(second), i64::from(third))
+    }
+}
+
+/// Three labels.
+impl Line for [i8; 3] {
+    ghost line = { numbers_line };
+
+    const ROOM: usize = 6;
+
+    fn put(&self, to: &mut Vec<u8>) -> Result<(), AllocError> {
+        let [first, second, third] = *self;
+        put_three(to, i64::from(first), i64::from(second), i64::from(third))
+    }
+}
+
+/// The neighbours of a leaf, by the first other places of its three edges.
+impl Line for [Option<u32>; 3] {
+    ghost line = { λ places. numbers_line (map leaf_at_place places) };
+
+    const ROOM: usize = 24;
+
+    fn put(&self, to: &mut Vec<u8>) -> Result<(), AllocError> {
+        let [first, second, third] = *self;
+        put_three(to, leaf_at(first), leaf_at(second), leaf_at(third))
     }
 }
 
@@ -54,6 +79,16 @@ impl Line for i64 {
     fn put(&self, to: &mut Vec<u8>) -> Result<(), AllocError> {
         put_number(to, *self)?;
         put_text(to, "\n")
+    }
+}
+
+// The number of the leaf with the edge at this place, or -1.
+fn leaf_at(place: Option<u32>) -> i64
+    ensures { result ≡ leaf_at_place place }
+{
+    match place {
+        None => -1,
+        Some(place) => i64::from(place / 3),
     }
 }
 

@@ -54,6 +54,24 @@ pub(crate) fn bound(triples: &[[u32; 3]]) -> usize
     bound
 }
 
+/// The most edges that have one vertex as the lesser end.
+pub(crate) fn most_edges(
+    alloc: Global,
+    triples: &[[u32; 3]],
+    bound: usize,
+) -> Result<u32, AllocError>
+    requires { (place : ℕ) → place < length triples.now * 3 → (edge_at triples.now place).0 < bound }
+{
+    let mut counts = vec![in alloc; 0_u32; bound]?;
+    let mut most = 0;
+    for place in 0..triples.len() * 3 {
+        let lesser = edge(triples, place).0 as usize;
+        counts[lesser] = counts[lesser].saturating_add(1);
+        most = most.max(counts[lesser]);
+    }
+    Ok(most)
+}
+
 impl Links {
     /// No edges, for lesser ends below a bound.
     pub(crate) fn new(

@@ -21,7 +21,7 @@ pub struct Numbers {
     pub(crate) keys: Vec<VertexKey>,
     pub(crate) points: Vec<(i64, i64)>,
     pub(crate) triples: Vec<[u32; 3]>,
-    pub(crate) labels: Vec<[i64; 3]>,
+    pub(crate) labels: Vec<[i8; 3]>,
 }
 
 /// The vertices of the mesh over these leaves, in written order. Its only refusal is want of memory.

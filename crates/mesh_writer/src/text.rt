@@ -8,14 +8,13 @@ ghost use Rattle.compat_check.specs.Meshes.{shape_of};
 ghost use Rattle.dof_transfer.specs.Held.{value_of};
 ghost use Rattle.macro_file.specs.Written.{head_lines, lines_text, list_lines};
 ghost use Rattle.mesh_writer.specs.MeshText.{HaveValues, IsMeshText};
-ghost use Rattle.mesh_writer.specs.Others.{AreAcross};
+ghost use Rattle.mesh_writer.specs.Others.{AreOthers};
 
 use crate::line::{Line, put_text};
 use crate::numbering::Numbers;
 use crate::others::other_edges;
 use crate::pieces::put_lines;
 use crate::refusal::WriterRefusal;
-use crate::rows::{neighbour_rows, triple_rows};
 use crate::values::{element_values, vertex_values};
 use compat_check::mesh::MacroMesh;
 use dof_transfer::{ElementValues, VertexValues};
@@ -52,11 +51,11 @@ pub fn mesh_text<R: Threads + Sync>(
     let mut text = Vec::new(alloc);
     put_head(&mut text, known.count(), leaves.len())?;
     put_list(rt, alloc, &mut text, "vertex coordinates:", &known.points)?;
-    let corners = triple_rows(alloc, &known.triples)?;
-    put_list(rt, alloc, &mut text, "element vertices:", &corners)?;
+    put_list(rt, alloc, &mut text, "element vertices:", &known.triples)?;
     put_list(rt, alloc, &mut text, "element boundaries:", &known.labels)?;
-    let across = across(alloc, &known.triples)?;
-    put_list(rt, alloc, &mut text, "element neighbours:", &across)?;
+    let others = others(alloc, &known.triples)?;
+    let (across, _) = others.as_chunks::<3>();
+    put_list(rt, alloc, &mut text, "element neighbours:", across)?;
     let of_vertices = vertex_values(alloc, vertices, &known.keys)?;
     let of_elements = element_values(alloc, elements, leaves)?;
     put_list(rt, alloc, &mut text, "vertex values:", &of_vertices)?;
@@ -64,15 +63,14 @@ pub fn mesh_text<R: Threads + Sync>(
     Ok(text)
 }
 
-// The neighbours of the leaves with these corners.
-fn across(alloc: Global, triples: &[[u32; 3]]) -> Result<Vec<[i64; 3]>, AllocError>
-    ensures { IfOk result (λ rows. AreAcross triples.now rows.items) }
+// For each edge of the leaves with these corners the first other place with the same edge.
+fn others(alloc: Global, triples: &[[u32; 3]]) -> Result<Vec<Option<u32>>, AllocError>
+    ensures { IfOk result (λ others. AreOthers triples.now others.items) }
 {
     if triples.len() > MOST_LEAVES {
         return Err(AllocError);
     }
-    let others = other_edges(alloc, triples)?;
-    neighbour_rows(alloc, &others, triples.len())
+    other_edges(alloc, triples)
 }
 
 // Appends the number in decimal.

@@ -44,14 +44,6 @@ fn child_slots(corners: [u32; 3], middle: u32, side: bool) -> [u32; 3]
     }
 }
 
-// The three labels in 64 bits.
-fn wide(labels: [i8; 3]) -> [i64; 3]
-    ensures { result ≡ labels }
-{
-    let [first, second, third] = labels;
-    [i64::from(first), i64::from(second), i64::from(third)]
-}
-
 impl Walk {
     fn new(alloc: Global, mesh: &MacroMesh) -> Result<Walk, AllocError>
         ensures { IfOk result (IsWalk mesh.now) }
@@ -183,7 +175,7 @@ impl Walk {
 pub(crate) struct Met {
     pub(crate) slots: Slots,
     pub(crate) corners: Vec<[u32; 3]>,
-    pub(crate) labels: Vec<[i64; 3]>,
+    pub(crate) labels: Vec<[i8; 3]>,
 }
 
 /// Walks over the leaves. Where they come in order, each name above them is visited once.
@@ -199,7 +191,7 @@ pub(crate) fn visit(alloc: Global, mesh: &MacroMesh, leaves: &[ElemName]) -> Res
     for leaf in leaves {
         let (slots, row) = walk.leaf(mesh, *leaf)?;
         corners.push(slots)?;
-        labels.push(wide(row))?;
+        labels.push(row)?;
     }
     Ok(Met {
         slots: walk.slots,

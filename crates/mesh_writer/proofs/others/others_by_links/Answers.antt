@@ -1,6 +1,6 @@
 use Rattle.std.proofs.Common.{arith}
 use Rattle.mesh_writer.proofs.FirstOthers.{others_more}
-use Rattle.mesh_writer.proofs.others.other_edges.Goals as goal
+use Rattle.mesh_writer.proofs.others.others_by_links.Goals as goal
 
 pub loop-place-preserved : goal.loop-place-preserved
 loop-place-preserved c =

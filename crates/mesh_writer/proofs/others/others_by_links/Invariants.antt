@@ -1,7 +1,7 @@
 use Rattle.std.proofs.Common.{ℕ, ◌<◌, ◌*◌, length}
 use Rattle.mesh_writer.specs.Links.{AreLinked, edge_at}
 use Rattle.mesh_writer.specs.Others.{AreOthersBelow}
-use Rattle.mesh_writer.proofs.others.other_edges.Given as goal
+use Rattle.mesh_writer.proofs.others.others_by_links.Given as goal
 
 abbrev pub invariant-loop-place : goal.invariant-loop-place
 invariant-loop-place l = record {
