@@ -11,3 +11,4 @@ pub mod MemberLists
 pub mod Compressing
 pub mod VertexKept
 pub mod NamedVertices
+pub mod InOrder

@@ -8,11 +8,11 @@ use Rattle.mesh_names.specs.Names.{Name, name_cmp}
 use Rattle.mesh_names.specs.Order.{name_cmp_total, name_cmp-same}
 use Rattle.dof_transfer.specs.Slots.{Slot, Slots, live_at, readied, forgotten}
 
-abbrev Stored : Type 0
+abbrev pub Stored : Type 0
 Stored = List (Name × Slot)
 
 -- the value of the first pair whose key is q
-abbrev stored_at : Stored → Name → Option Slot
+abbrev pub stored_at : Stored → Name → Option Slot
 stored_at es q = lookup (λ n. is_eq (name_cmp q n)) es
 
 find-lookup : (es : Stored) (q : Name) → find name_cmp q es ≡ stored_at es q

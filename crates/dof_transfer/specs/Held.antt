@@ -1,5 +1,5 @@
 -- What is held of live names: their indices and values, and which indices are used.
-use Rattle.std.specs.Prelude.{length, take, replicate, ◌<◌, ◌≡◌, ◌≢◌, ℕ, ◌*◌, ◌^◌, ◌-◌, ◌≤◌, refl, nat_abs, ℤ, Bool, true, false, not, List, [], ◌∷◌, slice_set, Option, Some, None, option_map}
+use Rattle.std.specs.Prelude.{length, take, replicate, ◌<◌, ◌≡◌, ◌≢◌, ℕ, ◌*◌, ◌^◌, ◌-◌, ◌≤◌, refl, nat_abs, ℤ, Bool, true, false, not, List, [], ◌∷◌, slice_set, Option, Some, None, option_map, pos, unwrap_or}
 use Rattle.std.specs.List.{position_or_len}
 use Rattle.std.specs.Coded.{Coded, code_by, coded×, coded_ℕ, coded_list, coded_bool}
 use Rattle.std.specs.FinMap.{FinMap, code, get, insert, remove}
@@ -20,6 +20,10 @@ held_code = code_by (FinMap name_cmp Entry × List Bool) (coded× (code (coded×
 -- the value of a live name
 abbrev pub value_of : Held → Name → Option ℤ
 value_of held n = option_map (λ (e : Entry). e.value) (get held.live n)
+
+-- the value of a live name, and 0 of any other
+abbrev pub worth_of : Held → Name → ℤ
+worth_of held n = unwrap_or (value_of held n) (pos 0)
 
 -- the index of a live name
 abbrev pub index_of : Held → Name → Option ℕ

@@ -1,5 +1,6 @@
 pub mod Slots
 pub mod Held
+pub mod InOrder
 pub mod Exchanges
 pub mod Ledgers
 pub mod Macros

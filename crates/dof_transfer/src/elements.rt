@@ -1,5 +1,5 @@
 //! Values of elements.
-ghost use Rattle.std.specs.Prelude.{◌≡◌, ◌+◌, ◌^◌, ◌≤◌, nat_abs, All, Some, IfOk, IfSome, IsSome, OnErr, OnOk, length};
+ghost use Rattle.std.specs.Prelude.{◌≡◌, ◌+◌, ◌^◌, ◌≤◌, nat_abs, All, Some, IfOk, IfSome, IsSome, OnErr, OnOk, length, map};
 ghost use Rattle.dof_admin.specs.Administration.{used_count};
 ghost use Rattle.mesh_names.specs.Triangles.{size};
 ghost use Rattle.compat_check.specs.Meshes.{shape_of};
@@ -8,7 +8,7 @@ ghost use Rattle.mesh_names.specs.Names.{Name, depth};
 ghost use Rattle.dof_transfer.specs.ByName.{AreElementValues};
 ghost use Rattle.dof_transfer.specs.Changes.{AreOfForest, AreParents, IsChange};
 ghost use Rattle.dof_transfer.specs.Exchanges.{IsPair, all_members, element_change};
-ghost use Rattle.dof_transfer.specs.Held.{IsSized, IsTidied, SetsValue, index_of, value_of};
+ghost use Rattle.dof_transfer.specs.Held.{IsSized, IsTidied, SetsValue, index_of, value_of, worth_of};
 ghost use Rattle.dof_transfer.specs.Ledgers.{held_of};
 ghost use Rattle.dof_transfer.specs.Macros.{AreMacroElements, HoldsFirst};
 
@@ -61,6 +61,15 @@ impl ElementValues {
             Some(entry) => Some(entry.value),
             None => None,
         }
+    }
+
+    /// The values of elements; one that is no leaf counts as 0. Leaves in order, as those of a mesh are,
+    /// take one pass over what is held in place of a look-up each.
+    pub fn values(&self, alloc: Global, names: &[ElemName]) -> Result<Vec<i64>, TransferRefusal>
+        ensures { IfOk result (λ values. values.items ≡ map (worth_of self.now) names.now) }
+    {
+        let values = self.ledger.values(alloc, names)?;
+        Ok(values)
     }
 
     /// The index of a leaf; `None` exactly where the name is no leaf. Indices of two leaves differ.

@@ -1,10 +1,12 @@
 //! Indices and values by name, in slots that can be made ready beforehand.
-ghost use Rattle.std.specs.Prelude.{◌≡◌, true, Some, None, OnErr, OnOk};
+ghost use Rattle.std.specs.Prelude.{◌≡◌, true, Option, Some, None, OnErr, OnOk};
 ghost use Rattle.std.specs.FinMap as map;
 ghost use Rattle.mesh_names.specs.Names.{Name};
+ghost use Rattle.dof_transfer.specs.InOrder.{KeepsFirst, owner_of};
 ghost use Rattle.dof_transfer.specs.Slots.{forgotten, live_at, moved_slot, readied};
 
 use mesh_names::name::ElemName;
+use mesh_names::patch::VertexKey;
 use std::alloc::{AllocError, Global};
 use std::collections::BTreeMap;
 use std::marker::Model;
@@ -14,6 +16,37 @@ use std::marker::Model;
 pub struct Entry {
     pub index: u32,
     pub value: i64,
+}
+
+/// What may stand for the name of a slot.
+pub(crate) trait Keyed {
+    // The name of the slot.
+    ghost named: { Self → Option Name };
+
+    /// The name of the slot, if there is one.
+    fn slot_name(&self) -> Option<ElemName>
+        ensures { result ≡ named self.now };
+}
+
+/// An element has its own slot.
+impl Keyed for ElemName {
+    ghost named = { λ n. Some n };
+
+    fn slot_name(&self) -> Option<ElemName> {
+        Some(*self)
+    }
+}
+
+/// A midpoint has the slot of its patch's owner, and a macro vertex none.
+impl Keyed for VertexKey {
+    ghost named = { owner_of };
+
+    fn slot_name(&self) -> Option<ElemName> {
+        match *self {
+            VertexKey::Macro(_) => None,
+            VertexKey::Patch(owner) => Some(owner),
+        }
+    }
 }
 
 /// A slot for each of some names. An empty one is ready: what is put into it takes no memory.
@@ -90,6 +123,28 @@ impl Entries {
         if self.get(name).is_none() {
             self.slots.remove(&name);
         }
+    }
+
+    /// Goes once over the slots, and appends the values of those keys, from the one at the list's
+    /// length on, that come in the slots' order.
+    pub(crate) fn append_in_order<K: Keyed>(
+        &self,
+        keys: &[K],
+        values: &mut Vec<i64>,
+    ) -> Result<(), AllocError>
+        ensures { OnOk result (KeepsFirst K.named self.now keys.now values.old.items values.new.items) }
+    {
+        for (name, slot) in self.slots.iter() {
+            let Some(key) = keys.get(values.len()) else {
+                break;
+            };
+            if let Some(entry) = slot
+                && key.slot_name() == Some(*name)
+            {
+                values.push(entry.value)?;
+            }
+        }
+        Ok(())
     }
 
     /// Gives each entry the index that stands at the place of its old one. Takes no memory.

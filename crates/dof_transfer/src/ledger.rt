@@ -1,9 +1,9 @@
 //! What is held of live names, with the administration of their indices.
-ghost use Rattle.std.specs.Prelude.{◌≡◌, ◌+◌, ◌<◌, ◌≤◌, ◌^◌, true, [], IsSome, OnErr, OnOk, length};
+ghost use Rattle.std.specs.Prelude.{◌≡◌, ◌+◌, ◌<◌, ◌≤◌, ◌^◌, true, [], IfOk, IsSome, OnErr, OnOk, length, map};
 ghost use Rattle.std.specs.FinMap.{contains_key, empty, get};
 ghost use Rattle.dof_admin.specs.Administration.{used_count};
 ghost use Rattle.mesh_names.specs.Names.{Name};
-ghost use Rattle.dof_transfer.specs.Held.{IsCompressed, IsSound, IsTidied, SetsValue, given_back, taken, value_of};
+ghost use Rattle.dof_transfer.specs.Held.{IsCompressed, IsSound, IsTidied, SetsValue, given_back, taken, value_of, worth_of};
 ghost use Rattle.dof_transfer.specs.Exchanges.{value_in};
 ghost use Rattle.dof_transfer.specs.Ledgers.{KeepsReady, held_of};
 
@@ -36,6 +36,30 @@ impl Ledger {
         ensures { result ≡ get (held_of self.now).live name }
     {
         self.entries.get(name)
+    }
+
+    // The value of a live name, and 0 of any other.
+    fn worth(&self, name: ElemName) -> i64
+        ensures { result ≡ worth_of (held_of self.now) name }
+    {
+        match self.get(name) {
+            Some(entry) => entry.value,
+            None => 0,
+        }
+    }
+
+    /// The values of names; one that is not live counts as 0. Names in order take one pass over the
+    /// slots.
+    pub(crate) fn values(&self, alloc: Global, names: &[ElemName]) -> Result<Vec<i64>, AllocError>
+        ensures { IfOk result (λ values. values.items ≡ map (worth_of (held_of self.now)) names.now) }
+    {
+        let mut values = Vec::new(alloc);
+        values.try_reserve(names.len())?;
+        self.entries.append_in_order(names, &mut values)?;
+        for place in values.len()..names.len() {
+            values.push(self.worth(names[place]))?;
+        }
+        Ok(values)
     }
 
     /// Makes room for an entry of the name.

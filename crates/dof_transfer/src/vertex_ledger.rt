@@ -1,6 +1,6 @@
 //! What is held of vertices: the macro vertices in a list, and the midpoints by their patches'
 //! owners.
-ghost use Rattle.std.specs.Prelude.{◌≡◌, ◌+◌, ◌^◌, ◌<◌, ◌≤◌, ◌+ℤ◌, nat_abs, true, map, All, IfOk, IsSome, OnErr, OnOk, length, take};
+ghost use Rattle.std.specs.Prelude.{◌≡◌, ◌+◌, ◌^◌, ◌<◌, ◌≤◌, ◌+ℤ◌, nat_abs, true, [], map, All, IfOk, IsSome, OnErr, OnOk, length, take};
 ghost use Rattle.std.specs.FinMap.{contains_key};
 ghost use Rattle.mesh_names.specs.Triangles.{level, size};
 ghost use Rattle.mesh_names.specs.declared.patch.PatchName.{PatchName};
@@ -8,6 +8,7 @@ ghost use Rattle.macro_file.specs.declared.text.MacroVertex.{MacroVertex};
 ghost use Rattle.compat_check.specs.Meshes.{shape_of};
 ghost use Rattle.dof_transfer.specs.Exchanges.{floor_half};
 ghost use Rattle.dof_transfer.specs.Held.{all_given_back};
+ghost use Rattle.dof_transfer.specs.InOrder.{AreFirst};
 ghost use Rattle.dof_transfer.specs.Ledgers.{HasRoom, KeepsReady};
 ghost use Rattle.dof_transfer.specs.VertexLedgers.{vertices_of};
 ghost use Rattle.dof_transfer.specs.VertexValues.{AreMacroVertices, AreMade, AreSmall, IsMade, IsVertexSound, IsVertexTidied, SetsVertex, index_at, owners, value_at, worth};
@@ -83,6 +84,37 @@ impl VertexLedger {
                 None => None,
             },
         }
+    }
+
+    // Appends the values of the macro vertices that come first.
+    fn append_macros(&self, keys: &[VertexKey], values: &mut Vec<i64>) -> Result<(), AllocError>
+        requires small { AreSmall (vertices_of self.now) }
+        requires none { values.old.items ≡ [] }
+        ensures { OnOk result (AreFirst (worth (vertices_of self.now)) keys.now values.new.items) }
+    {
+        for key in keys {
+            let VertexKey::Macro(_) = *key else {
+                break;
+            };
+            values.push(self.worth(*key))?;
+        }
+        Ok(())
+    }
+
+    /// The values of vertices; one that is not live counts as 0. Macro vertices and then midpoints in
+    /// the order of their patches' owners take one pass over the slots.
+    pub(crate) fn values(&self, alloc: Global, keys: &[VertexKey]) -> Result<Vec<i64>, AllocError>
+        requires { AreSmall (vertices_of self.now) }
+        ensures { IfOk result (λ values. values.items ≡ map (worth (vertices_of self.now)) keys.now) }
+    {
+        let mut values = Vec::new(alloc);
+        values.try_reserve(keys.len())?;
+        self.append_macros(keys, &mut values)?;
+        self.ledger.entries.append_in_order(keys, &mut values)?;
+        for place in values.len()..keys.len() {
+            values.push(self.worth(keys[place]))?;
+        }
+        Ok(values)
     }
 
     /// The index of a live vertex.

@@ -1,5 +1,5 @@
 //! Values of vertices.
-ghost use Rattle.std.specs.Prelude.{◌≡◌, ◌+◌, ◌^◌, ◌<◌, ◌≤◌, nat_abs, All, Some, IfOk, IfSome, IsSome, OnErr, OnOk, length};
+ghost use Rattle.std.specs.Prelude.{◌≡◌, ◌+◌, ◌^◌, ◌<◌, ◌≤◌, nat_abs, All, Some, IfOk, IfSome, IsSome, OnErr, OnOk, length, map};
 ghost use Rattle.dof_admin.specs.Administration.{used_count};
 ghost use Rattle.mesh_names.specs.Forests.{IsForest, Names};
 ghost use Rattle.dof_transfer.specs.VertexNames.{AreOfVertices, AreVertexValues, IsTransition};
@@ -8,7 +8,7 @@ ghost use Rattle.mesh_names.specs.declared.patch.PatchName.{PatchName};
 ghost use Rattle.mesh_names.specs.declared.patch.VertexKey.{VertexKey};
 ghost use Rattle.compat_check.specs.Meshes.{shape_of};
 ghost use Rattle.dof_transfer.specs.VertexLedgers.{vertices_of};
-ghost use Rattle.dof_transfer.specs.VertexValues.{AreMacroVertices, IsVertexChange, IsVertexTidied, SetsVertex, index_at, value_at};
+ghost use Rattle.dof_transfer.specs.VertexValues.{AreMacroVertices, IsVertexChange, IsVertexTidied, SetsVertex, index_at, value_at, worth};
 
 use crate::refusal::TransferRefusal;
 use crate::vertex_ledger::VertexLedger;
@@ -55,6 +55,15 @@ impl VertexValues {
         ensures small { IfSome result (λ v. nat_abs v ≤ 2 ^ 31) }
     {
         self.inside.value(key)
+    }
+
+    /// The values of vertices; one that the mesh has not counts as 0. Macro vertices and then midpoints
+    /// in the order of their patches' owners take one pass over what is held in place of a look-up each.
+    pub fn values(&self, alloc: Global, keys: &[VertexKey]) -> Result<Vec<i64>, TransferRefusal>
+        ensures { IfOk result (λ values. values.items ≡ map (worth self.now) keys.now) }
+    {
+        let values = self.inside.values(alloc, keys)?;
+        Ok(values)
     }
 
     /// The index of a vertex; `None` exactly where the mesh has no such vertex. Indices of two
