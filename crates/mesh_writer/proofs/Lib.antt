@@ -11,6 +11,7 @@ mod Gathered
 mod WholeText
 mod WrittenValues
 mod MacroValues
+mod PickedValues
 pub mod OwnerLists
 pub mod Walking
 pub mod SlotOrders

@@ -17,7 +17,8 @@ use Rattle.compat_check.specs.Meshes.{Mesh, shape_of}
 use Rattle.compat_check.specs.Points.{Point, point}
 use Rattle.mesh_writer.specs.Numbering.{corners_of, is_among, macro_vertices, number_of, vertices, with_new}
 use Rattle.mesh_writer.specs.Numbers.{IsKeyOf, IsWritten, place_of}
-use Rattle.mesh_writer.specs.Orders.{AreBelow, IsBelow, first_slots, key_in, number_in, numbered, place_in, point_in, slots_of, with_slots}
+use Rattle.mesh_writer.specs.Orders.{AreBelow, first_slots, number_in, numbered, place_in, slots_of, with_slots}
+use Rattle.mesh_writer.specs.Picks.{IsBelow, key_in, point_in}
 use Rattle.mesh_writer.specs.Slots.{AreSlots, Holds, point_of_key, slot_at}
 use Rattle.mesh_writer.specs.Triples.{numbers}
 use Rattle.mesh_writer.specs.Walks.{HoldLeaf}

@@ -7,5 +7,6 @@ pub mod Triples
 pub mod Owners
 pub mod Slots
 pub mod Walks
+pub mod Picks
 pub mod Orders
 pub mod Links

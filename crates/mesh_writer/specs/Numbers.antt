@@ -9,6 +9,7 @@ use Rattle.mesh_names.specs.declared.patch.VertexKey.TheVariants.{Macro, Patch}
 use Rattle.compat_check.specs.Meshes.{Mesh, shape_of, across_in}
 use Rattle.compat_check.specs.Points.{labels, point}
 use Rattle.mesh_writer.specs.Numbering.{is_among, vertices}
+use Rattle.mesh_writer.specs.Picks.{IsBelow, key_in}
 use Rattle.mesh_writer.specs.Triples.{numbers}
 use Rattle.mesh_writer.specs.declared.numbering.Numbers.{Numbers}
 
@@ -35,9 +36,11 @@ written_in mesh numbers = map (vertex_of mesh) numbers.keys.items
 abbrev pub all_vertices : Mesh → List Name → List Vertex
 all_vertices mesh leaves = vertices (shape_of mesh) (length mesh.vertices) leaves
 
--- the keys are of the mesh, and the points, the numbers of the corners and the labels are those of the written vertices and of the leaves
+-- the keys are of the mesh and in the slots of the known ones, and the points, the numbers of the corners and the labels are those of the written vertices and of the leaves
 pub record AreNumbers (mesh : Mesh) (leaves : List Name) (n : Numbers) : Type 0 where
   pub keys : All (IsKeyOf mesh) n.keys.items
+  pub below : All (IsBelow (length n.known.items)) n.slots.items
+  pub slots : n.keys.items ≡ map (key_in n.known.items) n.slots.items
   pub points : n.points.items ≡ map (point mesh.vertices) (all_vertices mesh leaves)
   pub triples : n.triples.items ≡ map (numbers (shape_of mesh) (all_vertices mesh leaves)) leaves
   pub labels : n.labels.items ≡ map (labels mesh) leaves

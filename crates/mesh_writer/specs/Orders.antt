@@ -1,5 +1,5 @@
 -- Slots in the order in which they first appear, and their numbers.
-use Rattle.std.specs.Prelude.{◌≡◌, ◌<◌, ℕ, zero, suc, ◌+◌, pos, cond, eqb, List, [], ◌∷◌, ◌++◌, length, Option, Some, None, slice_index_or}
+use Rattle.std.specs.Prelude.{◌≡◌, ◌<◌, ℕ, ℤ, zero, suc, ◌+◌, pos, cond, eqb, List, [], ◌∷◌, ◌++◌, length, Option, Some, None, slice_index_or}
 use Rattle.std.specs.Option.{is_some, option_map, unwrap_or}
 use Rattle.mesh_names.specs.declared.patch.VertexKey.{VertexKey}
 use Rattle.mesh_names.specs.declared.patch.VertexKey.TheVariants.{Macro}
@@ -35,9 +35,6 @@ slots_of (t ∷ ts) = slot_at t 0 ∷ slot_at t 1 ∷ slot_at t 2 ∷ slots_of t
 abbrev pub numbered : List ℕ → List ℕ → List ℕ
 numbered order t = number_in (slot_at t 0) order ∷ number_in (slot_at t 1) order ∷ number_in (slot_at t 2) order ∷ []
 
-abbrev pub IsBelow : ℕ → ℕ → Type 0
-IsBelow n s = s < n
-
 -- the three slots are below n
 abbrev pub AreBelow : ℕ → List ℕ → Type 0
 AreBelow n t = (slot_at t 0 < n) × (slot_at t 1 < n) × (slot_at t 2 < n)
@@ -45,9 +42,3 @@ AreBelow n t = (slot_at t 0 < n) × (slot_at t 1 < n) × (slot_at t 2 < n)
 -- each slot is told its place
 abbrev pub IsOrder : Order → Type 0
 IsOrder order = (s : ℕ) → s < length order.numbers.items → slice_index_or order.numbers.items s None ≡ place_in s order.slots.items
-
-abbrev pub key_in : List VertexKey → ℕ → VertexKey
-key_in keys s = slice_index_or keys s (Macro 0)
-
-abbrev pub point_in : List Point → ℕ → Point
-point_in points s = slice_index_or points s (pos 0, pos 0)

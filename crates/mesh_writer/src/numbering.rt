@@ -15,9 +15,11 @@ use mesh_names::patch::VertexKey;
 use std::alloc::{AllocError, Global};
 
 /// The written vertices, by their keys and where they lie, and the leaves, by the numbers of their
-/// corners and the labels of their edges.
+/// corners and the labels of their edges; and the keys by slot, with the slot of each number.
 #[derive(Drop)]
 pub struct Numbers {
+    pub(crate) known: Vec<VertexKey>,
+    pub(crate) slots: Vec<u32>,
     pub(crate) keys: Vec<VertexKey>,
     pub(crate) points: Vec<(i64, i64)>,
     pub(crate) triples: Vec<[u32; 3]>,
@@ -51,12 +53,14 @@ impl Numbers {
         ensures written { IfOk result (λ n. written_in (shape_of mesh.now) n ≡ vertices (shape_of mesh.now) (length mesh.now.vertices) leaves.now) }
     {
         let met = visit(alloc, mesh, leaves)?;
-        let slots = &met.slots;
+        let slots = met.slots;
         let order = Order::of_corners(alloc, mesh.vertex_count(), slots.count(), &met.corners)?;
         let keys = keys_in(alloc, &order.slots, &slots.keys)?;
         let points = points_in(alloc, &order.slots, &slots.points)?;
         let triples = order.triples(alloc, &met.corners)?;
         Ok(Numbers {
+            known: slots.keys,
+            slots: order.slots,
             keys,
             points,
             triples,

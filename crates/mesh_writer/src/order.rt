@@ -2,7 +2,8 @@
 ghost use Rattle.std.specs.Prelude.{◌≡◌, ◌≤◌, ◌<◌, ◌∷◌, [], All, IfOk, OnOk, length, map};
 ghost use Rattle.mesh_names.specs.Triangles.{Triple};
 ghost use Rattle.mesh_names.specs.declared.patch.VertexKey.TheVariants.{Macro};
-ghost use Rattle.mesh_writer.specs.Orders.{AreBelow, IsBelow, IsOrder, first_slots, key_in, number_in, numbered, point_in, slots_of, with_slots};
+ghost use Rattle.mesh_writer.specs.Orders.{AreBelow, IsOrder, first_slots, number_in, numbered, slots_of, with_slots};
+ghost use Rattle.mesh_writer.specs.Picks.{IsBelow, key_in, point_in};
 
 use crate::slots::narrow;
 use mesh_names::patch::VertexKey;

@@ -56,7 +56,7 @@ pub fn mesh_text<R: Threads + Sync>(
     let others = others(alloc, &known.triples)?;
     let (across, _) = others.as_chunks::<3>();
     put_list(rt, alloc, &mut text, "element neighbours:", across)?;
-    let of_vertices = vertex_values(alloc, vertices, &known.keys)?;
+    let of_vertices = vertex_values(alloc, vertices, &known)?;
     let of_elements = element_values(alloc, elements, leaves)?;
     put_list(rt, alloc, &mut text, "vertex values:", &of_vertices)?;
     put_last_list(rt, alloc, &mut text, "element values:", &of_elements)?;

@@ -1,28 +1,43 @@
 //! The values of a mesh's vertices and leaves, in written order.
-ghost use Rattle.std.specs.Prelude.{◌≡◌, All, IfOk, IsSome, Some, map};
+ghost use Rattle.std.specs.Prelude.{◌≡◌, All, IfOk, IsSome, Some, length, map};
 ghost use Rattle.dof_transfer.specs.Held.{value_of};
 ghost use Rattle.dof_transfer.specs.VertexValues.{value_at};
+ghost use Rattle.mesh_writer.specs.Picks.{IsBelow, key_in, value_in};
 
+use crate::numbering::Numbers;
 use dof_transfer::{ElementValues, VertexValues};
 use mesh_names::name::ElemName;
-use mesh_names::patch::VertexKey;
 use std::alloc::{AllocError, Global};
 
-/// The values of the vertices with these keys.
+// The values of these slots.
+fn values_in(alloc: Global, slots: &[u32], values: &[i64]) -> Result<Vec<i64>, AllocError>
+    requires { All (IsBelow (length values.now)) slots.now }
+    ensures { IfOk result (λ picked. picked.items ≡ map (value_in values.now) slots.now) }
+{
+    let mut picked = Vec::new(alloc);
+    picked.try_reserve(slots.len())?;
+    for slot in slots {
+        picked.push(values[*slot as usize])?;
+    }
+    Ok(picked)
+}
+
+/// The values of the written vertices: they are read by slot, which is the order of the patches'
+/// owners, and then put in order.
 pub(crate) fn vertex_values(
     alloc: Global,
     vertices: &VertexValues,
-    keys: &[VertexKey],
+    numbers: &Numbers,
 ) -> Result<Vec<i64>, AllocError>
-    requires { All (λ key. IsSome (value_at vertices.now key)) keys.now }
-    ensures { IfOk result (λ values. map Some values.items ≡ map (value_at vertices.now) keys.now) }
+    requires below { All (IsBelow (length numbers.now.known.items)) numbers.now.slots.items }
+    requires keys { numbers.now.keys.items ≡ map (key_in numbers.now.known.items) numbers.now.slots.items }
+    requires values { All (λ key. IsSome (value_at vertices.now key)) numbers.now.keys.items }
+    ensures { IfOk result (λ values. map Some values.items ≡ map (value_at vertices.now) numbers.now.keys.items) }
 {
-    let mut values = Vec::new(alloc);
-    values.try_reserve(keys.len())?;
-    for key in keys {
-        values.push(vertices.value(*key).unwrap())?;
-    }
-    Ok(values)
+    let Ok(values) = vertices.values(alloc, &numbers.known) else {
+        return Err(AllocError);
+    };
+    values_in(alloc, &numbers.slots, &values)
 }
 
 /// The values of the leaves.
@@ -34,10 +49,8 @@ pub(crate) fn element_values(
     requires { All (λ n. IsSome (value_of elements.now n)) leaves.now }
     ensures { IfOk result (λ values. map Some values.items ≡ map (value_of elements.now) leaves.now) }
 {
-    let mut values = Vec::new(alloc);
-    values.try_reserve(leaves.len())?;
-    for leaf in leaves {
-        values.push(elements.value(*leaf).unwrap())?;
+    match elements.values(alloc, leaves) {
+        Ok(values) => Ok(values),
+        Err(_) => Err(AllocError),
     }
-    Ok(values)
 }

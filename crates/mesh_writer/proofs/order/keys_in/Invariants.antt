@@ -1,5 +1,5 @@
 use Rattle.std.proofs.Common.{◌≡◌, map, take}
-use Rattle.mesh_writer.specs.Orders.{key_in}
+use Rattle.mesh_writer.specs.Picks.{key_in}
 use Rattle.mesh_writer.proofs.order.keys_in.Given as goal
 
 abbrev pub invariant-loop-slot : goal.invariant-loop-slot

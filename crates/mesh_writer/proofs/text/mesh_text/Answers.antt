@@ -20,14 +20,13 @@ use Rattle.mesh_writer.proofs.WholeText.{by_numbers, rows_are, whole_text}
 use Rattle.mesh_writer.proofs.WrittenValues.{as_many, found, keys_have, vertices_found, written_have}
 use Rattle.mesh_writer.proofs.text.mesh_text.Goals as goal
 
-pub vertex_values-requires : goal.vertex_values-requires
-vertex_values-requires g c =
+pub vertex_values-requires-clause-values : goal.vertex_values-requires-clause-values
+vertex_values-requires-clause-values g c =
     let mesh = c.args.mesh.now in
     let held = c.args.vertices.now in
     let laws : Laws mesh = record { only = c.partner_is_only.ensures; pairs = c.partners_pair.ensures; tells = c.element_count-count.ensures.tells } in
-    subst (All (λ key. IsSome (value_at held key))) (sym c.deref-6.ensures.value)
-    (keys_have mesh laws held c.in_ok-known.known.keys.items c.in_ok-known.ensures.numbers.keys
-    (subst (All (HasSome mesh held)) (sym c.in_ok-known.ensures.written) (written_have mesh c.args.leaves.now held c.requires.vertex_values)))
+    keys_have mesh laws held c.in_ok-known.known.keys.items c.in_ok-known.ensures.numbers.keys
+    (subst (All (HasSome mesh held)) (sym c.in_ok-known.ensures.written) (written_have mesh c.args.leaves.now held c.requires.vertex_values))
 
 pub returns : goal.returns
 returns g c =
@@ -41,7 +40,7 @@ returns g c =
     let held = c.args.vertices.now in
     let vs = c.in_ok-of_vertices.of_vertices.items in
     let es = c.in_ok-of_elements.of_elements.items in
-    let vertex_zip = subst (λ w. AllZip (HasAt mesh held) w vs) c.in_ok-known.ensures.written (vertices_found mesh held keys vs numbers.keys (found (value_at held) keys vs (c.in_ok-of_vertices.ensures ∙ ap (map (value_at held)) c.deref-6.ensures.value))) in
+    let vertex_zip = subst (λ w. AllZip (HasAt mesh held) w vs) c.in_ok-known.ensures.written (vertices_found mesh held keys vs numbers.keys (found (value_at held) keys vs c.in_ok-of_vertices.ensures)) in
     let leaf_zip = found (value_of c.args.elements.now) leaves es c.in_ok-of_elements.ensures in
     let triples = c.in_ok-known.known.triples.items in
     let others = c.in_ok-others.others.items in
@@ -72,6 +71,6 @@ returns g c =
           (by_numbers (map pos) (codes "element vertices:") c.put_list.new.text.items c.put_list-2.new.text.items triples (c.in_ok-put_list-2.ensures ∙ ap (λ ts. c.put_list.new.text.items ++ lines_text (list_lines (codes "element vertices:") (λ t. numbers_line (map pos t)) ts)) c.deref-2.ensures.value))
           (c.in_ok-put_list-3.ensures ∙ ap (λ rs. c.put_list-2.new.text.items ++ lines_text (list_lines (codes "element boundaries:") numbers_line rs)) c.deref-3.ensures.value)
           (by_numbers (map leaf_at) (codes "element neighbours:") c.put_list-3.new.text.items c.put_list-4.new.text.items (first_chunks 3 (length leaves) others) (c.in_ok-put_list-4.ensures ∙ ap (λ cs. c.put_list-3.new.text.items ++ lines_text (list_lines (codes "element neighbours:") (λ places. numbers_line (map leaf_at places)) cs)) chunks))
-          (c.in_ok-put_list-5.ensures ∙ ap (λ xs. c.put_list-4.new.text.items ++ lines_text (list_lines (codes "vertex values:") signed_decimal xs)) c.deref-7.ensures.value)
-          (c.in_ok-put_last_list.ensures ∙ ap (λ xs. c.put_list-5.new.text.items ++ lines_text (codes "element values:" ∷ map signed_decimal xs)) c.deref-8.ensures.value);
+          (c.in_ok-put_list-5.ensures ∙ ap (λ xs. c.put_list-4.new.text.items ++ lines_text (list_lines (codes "vertex values:") signed_decimal xs)) c.deref-6.ensures.value)
+          (c.in_ok-put_last_list.ensures ∙ ap (λ xs. c.put_list-5.new.text.items ++ lines_text (codes "element values:" ∷ map signed_decimal xs)) c.deref-7.ensures.value);
     }

@@ -5,7 +5,8 @@ use Rattle.mesh_names.specs.declared.patch.VertexKey.{VertexKey}
 use Rattle.compat_check.specs.Meshes.{shape_of}
 use Rattle.compat_check.specs.Points.{Point, point}
 use Rattle.mesh_writer.specs.Numbers.{IsKeyOf}
-use Rattle.mesh_writer.specs.Orders.{AreBelow, IsBelow, first_slots, key_in, numbered, point_in, slots_of, with_slots}
+use Rattle.mesh_writer.specs.Orders.{AreBelow, first_slots, numbered, slots_of, with_slots}
+use Rattle.mesh_writer.specs.Picks.{IsBelow, key_in, point_in}
 use Rattle.mesh_writer.proofs.Moved.{corners_below, in_order, keys_moved, keys_right, macro_fit, points_below, points_moved, triples_moved, written_moved}
 use Rattle.mesh_writer.proofs.numbering.Numbers.of_leaves.Goals as goal
 
@@ -37,6 +38,8 @@ returns-clause-numbers c =
     let order = c.in_ok-order.order.slots.items in
     record {
       keys = subst (All (IsKeyOf mesh)) (sym (c.in_ok-keys.ensures ∙ (λ i. map (key_in (c.deref-3.ensures.value i)) (c.deref-2.ensures.value i)))) (keys_right mesh slots are order (in_order c.args.mesh.now c.in_ok-met.met.slots c.in_ok-met.ensures.slots c.args.leaves.now c.in_ok-met.met.corners.items c.in_ok-met.ensures.corners c.in_ok-order.order.slots.items (c.in_ok-order.ensures.slots ∙ (λ i. with_slots (first_slots (c.vertex_count.ensures i)) (slots_of (c.deref.ensures.value i))))));
+      below = in_order c.args.mesh.now c.in_ok-met.met.slots c.in_ok-met.ensures.slots c.args.leaves.now c.in_ok-met.met.corners.items c.in_ok-met.ensures.corners c.in_ok-order.order.slots.items (c.in_ok-order.ensures.slots ∙ (λ i. with_slots (first_slots (c.vertex_count.ensures i)) (slots_of (c.deref.ensures.value i))));
+      slots = c.in_ok-keys.ensures ∙ (λ i. map (key_in (c.deref-3.ensures.value i)) (c.deref-2.ensures.value i));
       points = c.in_ok-points.ensures ∙ (λ i. map (point_in (c.deref-5.ensures.value i)) (c.deref-4.ensures.value i)) ∙ points_moved mesh slots are order (in_order c.args.mesh.now c.in_ok-met.met.slots c.in_ok-met.ensures.slots c.args.leaves.now c.in_ok-met.met.corners.items c.in_ok-met.ensures.corners c.in_ok-order.order.slots.items (c.in_ok-order.ensures.slots ∙ (λ i. with_slots (first_slots (c.vertex_count.ensures i)) (slots_of (c.deref.ensures.value i))))) ∙ ap (map (point mesh.vertices)) (written_moved c.args.mesh.now c.in_ok-met.met.slots c.in_ok-met.ensures.slots c.args.leaves.now c.in_ok-met.met.corners.items c.in_ok-met.ensures.corners c.in_ok-order.order.slots.items (c.in_ok-order.ensures.slots ∙ (λ i. with_slots (first_slots (c.vertex_count.ensures i)) (slots_of (c.deref.ensures.value i)))));
       triples = c.in_ok-triples.ensures ∙ ap (map (numbered order)) c.deref-6.ensures.value
           ∙ triples_moved mesh slots are c.args.leaves.now c.in_ok-met.met.corners.items c.in_ok-met.ensures.corners order (c.in_ok-order.ensures.slots ∙ (λ i. with_slots (first_slots (c.vertex_count.ensures i)) (slots_of (c.deref.ensures.value i))));
