@@ -37,3 +37,22 @@ fn the_square_keeps_its_values(rt: HostRuntime) -> Result<(), Fail> {
     assert_eq!(rt; elements.holes(), 0);
     Ok(())
 }
+
+#[test]
+fn values_stand_in_the_order_of_the_list(rt: HostRuntime) -> Result<(), Fail> {
+    let mesh = mesh_of(rt.alloc(), SQUARE)?;
+    let elements = ElementValues::new(rt.alloc(), &mesh)?;
+    let names = [ElemName::top(1), ElemName::top(0), ElemName::top(2)];
+    let values = elements.values(rt.alloc(), &names)?;
+    assert_eq!(rt; values.as_slice(), [0, -7, 0].as_slice());
+    let vertices = VertexValues::new(rt.alloc(), &mesh)?;
+    let keys = [
+        VertexKey::Macro(2),
+        VertexKey::Macro(0),
+        VertexKey::Patch(ElemName::top(0)),
+        VertexKey::Macro(4),
+    ];
+    let values = vertices.values(rt.alloc(), &keys)?;
+    assert_eq!(rt; values.as_slice(), [-4, 3, 0, 0].as_slice());
+    Ok(())
+}

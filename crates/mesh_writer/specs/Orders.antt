@@ -1,9 +1,6 @@
 -- Slots in the order in which they first appear, and their numbers.
-use Rattle.std.specs.Prelude.{◌≡◌, ◌<◌, ℕ, ℤ, zero, suc, ◌+◌, pos, cond, eqb, List, [], ◌∷◌, ◌++◌, length, Option, Some, None, slice_index_or}
+use Rattle.std.specs.Prelude.{◌≡◌, ◌<◌, ℕ, zero, suc, ◌+◌, cond, eqb, List, [], ◌∷◌, ◌++◌, length, Option, Some, None, slice_index_or}
 use Rattle.std.specs.Option.{is_some, option_map, unwrap_or}
-use Rattle.mesh_names.specs.declared.patch.VertexKey.{VertexKey}
-use Rattle.mesh_names.specs.declared.patch.VertexKey.TheVariants.{Macro}
-use Rattle.compat_check.specs.Points.{Point}
 use Rattle.mesh_writer.specs.Slots.{slot_at}
 use Rattle.mesh_writer.specs.declared.order.Order.{Order}
 
