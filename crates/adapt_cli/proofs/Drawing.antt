@@ -1,38 +1,40 @@
 -- Rounds of drawn marks, one after another.
-use Rattle.std.proofs.Common.{◌≡◌, ℕ, zero, suc, ◌+◌, ◌-◌, ◌<◌, ◌≤◌, refl, sym, ap, subst, List, inl, inr, ⊎_elim, arith}
+use Rattle.std.proofs.Common.{◌≡◌, ℕ, zero, suc, ◌+◌, ◌-◌, ◌<◌, ◌≤◌, refl, sym, subst, List, All, inl, inr, ⊎_elim, arith}
 use Rattle.std.specs.Prelude.{Result, Ok, Err, string_bytes}
 use Rattle.mesh_names.specs.Names.{Name}
 use Rattle.mesh_names.specs.Triangles.{level}
+use Rattle.mesh_names.specs.Forests.{IsForest}
 use Rattle.mesh_names.specs.declared.rows.MarkRow.{MarkRow}
 use Rattle.compat_check.specs.Meshes.{Mesh, across_in, shape_of}
 use Rattle.forest_plain.specs.Rounds.{IsRoundRefusal}
 use Rattle.forest_plain.specs.declared.refusal.RoundRefusal.{RoundRefusal}
 use Rattle.mesh_rounds.specs.State.{IsFirst, IsMeshRound, State}
-use Rattle.soak.specs.Rows.{Drawing, after, rows_for}
+use Rattle.soak.specs.Rows.{Drawing, IsDrawn, after, rows_for}
 use Rattle.adapt_words.specs.Words.{SoakWords}
 use Rattle.adapt_cli.specs.FaultTexts.{Fault}
 use Rattle.adapt_cli.specs.Reports.{AreLeaves}
-use Rattle.adapt_cli.specs.Rounds.{Refuses, whole}
-use Rattle.adapt_cli.specs.Soaks.{DrawnTo, DrawsTo, IsGridMesh, IsSoakOutcome, TellsOf}
+use Rattle.adapt_cli.specs.Rounds.{whole}
+use Rattle.adapt_cli.specs.Soaks.{DrawnTo, DrawsTo, IsGridMesh, IsSoakOutcome, Overfills, TellsOf}
 use Rattle.adapt_cli.specs.Stops.{IsRoundStop, StopsBy}
 use Rattle.adapt_cli.specs.declared.fault.Stop.{Stop}
 use Rattle.adapt_cli.specs.declared.fault.Stop.TheVariants.{Refused, Memory, ReadFault}
-use Rattle.adapt_cli.proofs.Outcomes.{refused_status}
+use Rattle.adapt_cli.proofs.FullPools.{all-fine, overfills}
 
 -- a drawn round is refused
-pub draw-stops : (mesh : Mesh) (pool number : ℕ) (drawing : Drawing) (old : State) (list : List Name) (rows : List MarkRow) (refusal : RoundRefusal) (stop : Stop) → AreLeaves mesh old list → rows ≡ rows_for (level (shape_of mesh)) drawing list →
+pub draw-stops : (mesh : Mesh) (pool number : ℕ) (drawing : Drawing) (old : State) (list : List Name) (rows : List MarkRow) (refusal : RoundRefusal) (stop : Stop) → IsForest (shape_of mesh) old.members → AreLeaves mesh old list → All (IsDrawn (level (shape_of mesh)) list) rows → rows ≡ rows_for (level (shape_of mesh)) drawing list →
     IsRoundRefusal (shape_of mesh) (across_in mesh) (whole pool) old.members rows refusal → IsRoundStop number refusal stop → StopsBy (DrawsTo mesh pool 1 number drawing old) stop
-draw-stops mesh pool number drawing old list rows refusal (Refused fault) listed are cause told = (
+draw-stops mesh pool number drawing old list rows refusal (Refused fault) forest listed drawn are cause told = (
   list,
   listed,
   inr (
     (fault.status, string_bytes fault.line),
-    record { refusal = refusal; cause = subst (λ (r : List MarkRow). IsRoundRefusal (shape_of mesh) (across_in mesh) (whole pool) old.members r refusal) are cause; told = told },
+    subst (λ (r : List MarkRow). Overfills mesh pool old.members number r (fault.status, string_bytes fault.line)) are
+        (overfills mesh pool number old.members rows refusal (fault.status, string_bytes fault.line) (all-fine (shape_of mesh) old.members forest list listed rows drawn) cause told),
     refl,
   ),
 )
-draw-stops mesh pool number drawing old list rows refusal Memory listed are cause told = tt
-draw-stops mesh pool number drawing old list rows refusal (ReadFault file) listed are cause told = absurd told
+draw-stops mesh pool number drawing old list rows refusal Memory forest listed drawn are cause told = tt
+draw-stops mesh pool number drawing old list rows refusal (ReadFault file) forest listed drawn are cause told = absurd told
 
 module _ (mesh : Mesh) (pool rounds : ℕ) (begin : Drawing) (first : State) where
   -- what the rounds that are left lead to from here, all of them lead to from the start
@@ -62,7 +64,7 @@ module _ (mesh : Mesh) (pool rounds : ℕ) (begin : Drawing) (first : State) whe
     stops.1,
     ⊎_elim
         (λ (a : (new : State) × IsMeshRound mesh (whole pool) (rows_for (level (shape_of mesh)) drawing stops.0) now new × (Err (fault.status, string_bytes fault.line) ≡ Ok new)). absurd (apart a.2))
-        (λ (b : (f : Fault) × Refuses mesh pool now.members (record { number = made + 1; rows = rows_for (level (shape_of mesh)) drawing stops.0 }) f × (◌≡◌ {A = Result State Fault} (Err (fault.status, string_bytes fault.line)) (Err f))). inr b)
+        (λ (b : (f : Fault) × Overfills mesh pool now.members (made + 1) (rows_for (level (shape_of mesh)) drawing stops.0) f × (◌≡◌ {A = Result State Fault} (Err (fault.status, string_bytes fault.line)) (Err f))). inr b)
         stops.2,
   ))
     where
@@ -74,23 +76,6 @@ module _ (mesh : Mesh) (pool rounds : ℕ) (begin : Drawing) (first : State) whe
     where
       nothing : rounds - made ≡ 0
       nothing = omega (arith, done)
-
--- a drawn round that is refused has status 4 or 5
-pub drawn-status : (mesh : Mesh) (pool left number : ℕ) (drawing : Drawing) (old : State) (fault : Fault) → DrawsTo mesh pool left number drawing old (Err fault) → (3 ≤ fault.0) × (fault.0 ≤ 5)
-drawn-status mesh pool zero number drawing old fault h = absurd (apart h)
-  where
-    apart : {A B : Type 0} {a : A} {b : B} → ◌≡◌ {A = Result A B} (Err b) (Ok a) → ⊥
-    apart q = cc
-drawn-status mesh pool (suc left) number drawing old fault h = ⊎_elim
-    (λ (a : (new : State) × IsMeshRound mesh (whole pool) (rows_for (level (shape_of mesh)) drawing h.0) old new × DrawsTo mesh pool left (number + 1) (after (level (shape_of mesh)) drawing h.0) new (Err fault)). drawn-status mesh pool left (number + 1) (after (level (shape_of mesh)) drawing h.0) a.0 fault a.2)
-    (λ (b : (f : Fault) × Refuses mesh pool old.members (record { number = number; rows = rows_for (level (shape_of mesh)) drawing h.0 }) f × (◌≡◌ {A = Result State Fault} (Err fault) (Err f))).
-    let s = refused_status number b.1.refusal b.0 b.1.told in
-    let same = ap (λ (f : Fault). f.0) (inner b.2) in
-    (omega (arith, s.0, same), omega (arith, s.1, same)))
-    h.2
-  where
-    inner : {A B : Type 0} {a b : B} → ◌≡◌ {A = Result A B} (Err a) (Err b) → a ≡ b
-    inner q = cc
 
 -- a soak that ends
 pub soaks : (soak : SoakWords) (mesh : Mesh) (first last : State) (pool : ℕ) (line : List ℕ) → IsGridMesh soak.grid mesh → IsFirst mesh first → pool ≡ soak.pool → DrawsTo mesh pool soak.rounds 1 (record { state = soak.start; row = 1 }) first (Ok last) → TellsOf mesh soak last line → IsSoakOutcome soak (Ok line)
@@ -104,6 +89,3 @@ soak-stops soak mesh first pool (ReadFault file) grid is_first same stops = absu
 
 pub soak-wants : (soak : SoakWords) (stop : Stop) → stop ≡ Memory → StopsBy (IsSoakOutcome soak) stop
 soak-wants soak stop is = subst (StopsBy (IsSoakOutcome soak)) (sym is) tt
-
-pub soak-status : (soak : SoakWords) (fault : Fault) → IsSoakOutcome soak (Err fault) → (3 ≤ fault.0) × (fault.0 ≤ 5)
-soak-status soak fault h = drawn-status h.0 soak.pool soak.rounds 1 (record { state = soak.start; row = 1 }) h.2 fault h.4

@@ -4,4 +4,6 @@ pub mod Outcomes
 pub mod Parts
 pub mod Endings
 pub mod Texts
+pub mod FullPools
 pub mod Drawing
+pub mod SoakEnds

@@ -80,11 +80,15 @@ marks_line no_memory = None
 abbrev pub Fault : Type 0
 Fault = ℕ × List ℕ
 
+-- the fault of a round that needs more patches than the pool has
+abbrev pub full_pool : ℕ → ℕ → ℕ → Fault
+full_pool round needed pool = (5, joined (codes "adapt: round " ∷ decimal round ∷ codes ": " ∷ decimal needed ∷ codes " patches needed, pool " ∷ decimal pool ∷ codes "\n" ∷ []))
+
 -- what becomes of a round that is refused
 abbrev pub round_fault : ℕ → RoundRefusal → Option Fault
 round_fault round (NotALeaf row) = Some (4, at_row row (codes "not a leaf"))
 round_fault round (LevelTooDeep row level) = Some (4, at_row row (joined (codes "level " ∷ decimal level ∷ codes " is above 24" ∷ [])))
-round_fault round (PoolFull needed kept pool) = Some (5, joined (codes "adapt: round " ∷ decimal round ∷ codes ": " ∷ decimal needed ∷ codes " patches needed, pool " ∷ decimal pool ∷ codes "\n" ∷ []))
+round_fault round (PoolFull needed kept pool) = Some (full_pool round needed pool)
 round_fault round (RoundsUsedUp rounds) = None
 round_fault round Memory = None
 

@@ -5,3 +5,4 @@ pub mod Outcome
 pub mod Soaks
 pub mod Stops
 pub mod Ending
+pub mod SoakEnds

@@ -3,6 +3,7 @@
 
 pub mod ending;
 pub mod fault;
+pub mod laws;
 pub mod load;
 pub mod macro_lines;
 pub mod outcome;

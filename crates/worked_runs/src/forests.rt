@@ -18,13 +18,13 @@ use std::str;
 use std::test::Fail;
 
 /// The mesh of this macro file.
-fn mesh_of(alloc: Global, macro_text: &str) -> Result<MacroMesh, AllocError> {
+pub fn mesh_of(alloc: Global, macro_text: &str) -> Result<MacroMesh, AllocError> {
     let mut shelf = shelf(alloc, &[("q", macro_text)])?;
     load_macro(alloc, &mut shelf, "q").map_err(|_| AllocError)
 }
 
 /// The rounds of these rows.
-fn rounds_of(alloc: Global, rows: &str) -> Result<Vec<RoundMarks>, AllocError>
+pub fn rounds_of(alloc: Global, rows: &str) -> Result<Vec<RoundMarks>, AllocError>
     ensures { IfOk result (λ rounds. All (λ r. All IsWellFormed r.rows.items) rounds.items) }
 {
     let rows = format!(in alloc; "round,what,where,number\n{rows}")?;

@@ -15,6 +15,8 @@ mod meshes;
 #[cfg(test)]
 mod run;
 #[cfg(test)]
+mod soaks;
+#[cfg(test)]
 mod square_texts;
 #[cfg(test)]
 mod tests;

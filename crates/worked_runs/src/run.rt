@@ -14,11 +14,14 @@ pub struct Ran {
     pub err: MemSink,
 }
 
+/// The room of a sink that is ample for a small mesh.
+const ROOM: usize = 1 << 20;
+
 /// A sink with ample room that takes at most this many bytes a call, and fails at these calls.
 pub fn sink(alloc: Global, most: usize, faults: Vec<u64>) -> Result<MemSink, AllocError>
     requires { 1 ≤ most }
 {
-    MemSink::new(alloc, 1 << 20, most, faults).map_err(|_| AllocError)
+    MemSink::new(alloc, ROOM, most, faults).map_err(|_| AllocError)
 }
 
 /// The words, as the program takes them.
@@ -44,10 +47,21 @@ pub fn run_words<R: Threads + Sync>(
     rt: &R,
     alloc: Global,
     line: &str,
+    shelf: MemShelf,
+) -> Result<Ran, AllocError> {
+    run_in_room(rt, alloc, line, shelf, ROOM)
+}
+
+/// Runs the program on these words and files, with so much room for out.
+pub fn run_in_room<R: Threads + Sync>(
+    rt: &R,
+    alloc: Global,
+    line: &str,
     mut shelf: MemShelf,
+    room: usize,
 ) -> Result<Ran, AllocError> {
     let words = words(alloc, line)?;
-    let mut out = sink(alloc, 1 << 20, Vec::new(alloc))?;
+    let mut out = MemSink::new(alloc, room, 1 << 20, Vec::new(alloc)).map_err(|_| AllocError)?;
     let mut err = sink(alloc, 1 << 20, Vec::new(alloc))?;
     let status = adapt(rt, alloc, &words, &mut shelf, &mut out, &mut err, &NoGate);
     Ok(Ran { status, out, err })

@@ -1,10 +1,10 @@
-use Rattle.std.proofs.Common.{List, ℕ, refl, subst, sym, inl, inr}
+use Rattle.std.proofs.Common.{List, ℕ, refl, subst, sym, inl, inr, arith}
 use Rattle.std.specs.Prelude.{Ok, Err, string_bytes}
 use Rattle.adapt_words.specs.Words.{soak, soak_said}
 use Rattle.adapt_cli.specs.Ending.{LineEnds}
 use Rattle.adapt_cli.specs.Soaks.{IsSoakOutcome}
 use Rattle.adapt_cli.specs.Stops.{StopsBy}
-use Rattle.adapt_cli.proofs.Drawing.{soak-status}
+use Rattle.adapt_cli.proofs.SoakEnds.{soak-status}
 use Rattle.adapt_cli.proofs.Parts.{written}
 use Rattle.adapt_cli.proofs.Endings.{ends_wanting, told, written_out}
 use Rattle.adapt_cli.proofs.program.end_soak.Goals as goal
@@ -22,12 +22,12 @@ pub returns-in-Err-Refused : goal.returns-in-Err-Refused
 returns-in-Err-Refused g c source is calm =
     let fault = c.in-Err-Refused.fault in
     let outcome : IsSoakOutcome (soak_said c.args.soak.now) (Err (fault.status, string_bytes fault.line)) = subst (StopsBy (IsSoakOutcome (soak_said c.args.soak.now))) c.in-Err-Refused.field-0-is c.in-Err-Refused.ensures.stopped in
-    let range = soak-status (soak_said c.args.soak.now) (fault.status, string_bytes fault.line) outcome in
+    let five = soak-status (soak_said c.args.soak.now) (fault.status, string_bytes fault.line) outcome in
     told source
     (written (g.O.Sink.holds c.args.out.now) (g.O.Sink.holds c.args.out.now) (g.O.Sink.faults c.args.out.now) (g.O.Sink.faults c.args.out.now))
     (written (g.E.Sink.holds c.args.err.now) (g.E.Sink.holds c.write_line.new.err) (g.E.Sink.faults c.args.err.now) (g.E.Sink.faults c.write_line.new.err))
     (record { same = refl; calm = refl }) (string_bytes fault.line) fault.status c.write_line.result
-    (inr (inr (inl (record { low = range.0; high = range.1; calm = calm; outcome = record { command = soak (soak_said c.args.soak.now); is_command = is; outcome = outcome } }))))
+    (inr (inr (inl (record { low = omega (arith, five); high = omega (arith, five); calm = calm; outcome = record { command = soak (soak_said c.args.soak.now); is_command = is; outcome = outcome } }))))
     (subst (λ (l : List ℕ). LineEnds (written (g.E.Sink.holds c.args.err.now) (g.E.Sink.holds c.write_line.new.err) (g.E.Sink.faults c.args.err.now) (g.E.Sink.faults c.write_line.new.err)) l fault.status c.write_line.result) c.deref-in-Err-Refused.ensures c.write_line.ensures)
 
 pub returns-in-Err-Memory : goal.returns-in-Err-Memory

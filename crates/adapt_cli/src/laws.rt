@@ -1,0 +1,13 @@
+//! Laws over the definitions alone. Each function takes nothing and answers nothing: its
+//! contract is the law.
+ghost use Rattle.adapt_cli.specs.SoakEnds.{FaultsAreFullPools, SoaksEnd};
+
+/// Each fault of a soak is a full pool.
+pub fn faults_are_full_pools()
+    ensures { FaultsAreFullPools }
+{}
+
+/// A soak ends with status 0, 1, 5 or 7, and with 5 for a full pool.
+pub fn soaks_end()
+    ensures { SoaksEnd }
+{}
