@@ -1,0 +1,12 @@
+pub mod SquareNotes
+pub mod SquareLists
+pub mod SquareRound1
+pub mod SquareRound2
+pub mod SquareRound3
+pub mod SquareSteps1
+pub mod SquareSteps2
+pub mod SquareSteps3
+pub mod SquareFollows
+pub mod SquareRefused
+pub mod SquareReads
+pub mod SquareVisits
