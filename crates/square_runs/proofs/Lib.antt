@@ -10,3 +10,12 @@ pub mod SquareFollows
 pub mod SquareRefused
 pub mod SquareReads
 pub mod SquareVisits
+pub mod SquareMoves
+pub mod SquarePair
+pub mod SquareFull
+pub mod SquareUndrawn
+pub mod SquareTwice1
+pub mod SquareTwice2
+pub mod SquareTwice3
+pub mod SquareTwice
+pub mod SquareKinds

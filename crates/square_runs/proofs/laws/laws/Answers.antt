@@ -3,6 +3,10 @@ use Rattle.square_runs.proofs.SquareReads.{square_reads}
 use Rattle.square_runs.proofs.SquareFollows.{square_follows}
 use Rattle.square_runs.proofs.SquareRefused.{square_refused}
 use Rattle.square_runs.proofs.SquareVisits.{square_visits}
+use Rattle.square_runs.proofs.SquareFull.{square_full}
+use Rattle.square_runs.proofs.SquareUndrawn.{square_undrawn}
+use Rattle.square_runs.proofs.SquareTwice.{square_twice}
+use Rattle.square_runs.proofs.SquareKinds.{kinds_occur, reached_lawful}
 use Rattle.square_runs.proofs.laws.laws.Goals as goal
 
 pub returns-clause-square : goal.returns-clause-square
@@ -19,3 +23,18 @@ returns-clause-refused c = square_refused
 
 pub returns-clause-visits : goal.returns-clause-visits
 returns-clause-visits c = square_visits
+
+pub returns-clause-full : goal.returns-clause-full
+returns-clause-full c = square_full
+
+pub returns-clause-undrawn : goal.returns-clause-undrawn
+returns-clause-undrawn c = square_undrawn
+
+pub returns-clause-twice : goal.returns-clause-twice
+returns-clause-twice c = square_twice
+
+pub returns-clause-reached : goal.returns-clause-reached
+returns-clause-reached c = reached_lawful
+
+pub returns-clause-kinds : goal.returns-clause-kinds
+returns-clause-kinds c = kinds_occur
