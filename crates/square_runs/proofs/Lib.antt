@@ -19,3 +19,4 @@ pub mod SquareTwice2
 pub mod SquareTwice3
 pub mod SquareTwice
 pub mod SquareKinds
+pub mod TwiceReads

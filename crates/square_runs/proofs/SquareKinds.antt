@@ -9,7 +9,7 @@ use Rattle.mesh_state.proofs.Fresh.{fresh_is_lawful}
 use Rattle.mesh_steps.specs.States.{State, state, IsLawful}
 use Rattle.mesh_steps.specs.Steps.{Run}
 use Rattle.mesh_steps.proofs.StepsKeep.{steps_keep}
-use Rattle.square_runs.specs.SquareKinds.{square_with, fresh_state, last_of, IsReached, ReachedLawful, KindsOccur}
+use Rattle.square_runs.specs.SquareKinds.{square_with, fresh_state, last_of, RunsTo, RunsLawful, KindsOccur}
 use Rattle.square_runs.specs.SquareRun as one
 use Rattle.square_runs.specs.SquareFull as full_words
 use Rattle.square_runs.specs.SquareTwice as pair
@@ -30,7 +30,7 @@ use Rattle.square_runs.proofs.SquareTwice2 as twice2
 use Rattle.square_runs.proofs.SquareTwice3 as twice3
 
 -- the first n of the states are a run too
-abbrev first : ℕ → List State → List State
+abbrev pub first : ℕ → List State → List State
 first zero xs = []
 first (suc n) [] = []
 first (suc n) (x ∷ xs) = x ∷ first n xs
@@ -40,15 +40,15 @@ run_first s a zero states r = tt
 run_first s a (suc n) [] r = tt
 run_first s a (suc n) (b ∷ bs) (step, r) = (step, run_first s b n bs r)
 
-reach : (pool : ℕ) (states : List State) → Run (square_with pool) (fresh_state pool) states → (n : ℕ) → IsReached pool (last_of (fresh_state pool) (first n states))
+pub reach : (pool : ℕ) (states : List State) → Run (square_with pool) (fresh_state pool) states → (n : ℕ) → RunsTo pool (last_of (fresh_state pool) (first n states))
 reach pool states r n = (first n states, run_first (square_with pool) (fresh_state pool) n states r, refl)
 
 ends_lawful : (s : Setup) (a : State) (states : List State) → IsLawful s a → Run s a states → IsLawful s (last_of a states)
 ends_lawful s a [] lawful r = lawful
 ends_lawful s a (b ∷ bs) lawful (step, r) = ends_lawful s b bs (steps_keep s a b step lawful) r
 
-pub reached_lawful : ReachedLawful
-reached_lawful pool a (states, r, e) = subst (IsLawful (square_with pool)) e (ends_lawful (square_with pool) (fresh_state pool) states (fresh_ghost, fresh_is_lawful square (across_of square) (squares_fit.0).2 (record { rounds = 4; elements = 2; pool = pool }) 1) r)
+pub runs_lawful : RunsLawful
+runs_lawful pool a (states, r, e) = subst (IsLawful (square_with pool)) e (ends_lawful (square_with pool) (fresh_state pool) states (fresh_ghost, fresh_is_lawful square (across_of square) (squares_fit.0).2 (record { rounds = 4; elements = 2; pool = pool }) 1) r)
 
 pub kinds_occur : KindsOccur
 kinds_occur = record {

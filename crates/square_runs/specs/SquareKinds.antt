@@ -25,16 +25,16 @@ last_of a [] = a
 last_of a (b ∷ bs) = last_of b bs
 
 -- a run leads from the fresh table with so many blocks to the state
-abbrev pub IsReached : ℕ → State → Type 0
-IsReached pool a = (states : List State) × Run (square_with pool) (fresh_state pool) states × (last_of (fresh_state pool) states ≡ a)
+abbrev pub RunsTo : ℕ → State → Type 0
+RunsTo pool a = (states : List State) × Run (square_with pool) (fresh_state pool) states × (last_of (fresh_state pool) states ≡ a)
 
 -- the law that each such state is lawful
-abbrev pub ReachedLawful : Type 0
-ReachedLawful = (pool : ℕ) (a : State) → IsReached pool a → IsLawful (square_with pool) a
+abbrev pub RunsLawful : Type 0
+RunsLawful = (pool : ℕ) (a : State) → RunsTo pool a → IsLawful (square_with pool) a
 
 -- a run leads to a state from which a step of this kind is taken
 abbrev pub Occurs : ℕ → Kind → Type 0
-Occurs pool K = (a b : State) × IsReached pool a × K (square_with pool) a.words a.seats a.views b
+Occurs pool K = (a b : State) × RunsTo pool a × K (square_with pool) a.words a.seats a.views b
 
 -- the law that each kind of step occurs, with one block or with two
 pub record KindsOccur : Type 0 where

@@ -1,10 +1,14 @@
 -- A second run on the square, with two blocks: the patch is bisected, retired, and bisected again while its old block is still behind the new one, until that is cut out. Each line changes one word.
-use Rattle.std.specs.Prelude.{◌+◌, true, false, List, [], ◌∷◌}
+use Rattle.std.specs.Prelude.{ℕ, ◌+◌, ◌≤◌, true, false, List, [], ◌∷◌, ◌↔◌}
+use Rattle.mesh_names.specs.Names.{Name, depth}
+use Rattle.mesh_words.specs.Entries.{HasEntry}
 use Rattle.mesh_words.specs.Functions.{update}
+use Rattle.mesh_words.specs.NameWords.{name_code}
 use Rattle.mesh_words.specs.Places.{member_of, child_place}
 use Rattle.mesh_words.specs.Setup.{Setup}
 use Rattle.mesh_words.specs.Words.{Words, node}
 use Rattle.mesh_state.specs.Fresh.{fresh_words}
+use Rattle.mesh_reading.specs.Reading.{IsRead}
 use Rattle.mesh_steps.specs.States.{State}
 use Rattle.mesh_steps.specs.Steps.{Run}
 use Rattle.square_runs.specs.SquareRun.{name0, name1, Along}
@@ -159,3 +163,17 @@ twice_words = fresh_words 2 ∷ claimed ∷ drawn ∷ history0 ∷ history1 ∷ 
 -- the law that the run is one: its states come from the fresh one, each by a step from the one before, and have these words
 abbrev pub SquareTwice : Type 0
 SquareTwice = (states : List State) × Run pair_setup (fresh_state 2) states × Along (fresh_state 2 ∷ states) twice_words
+
+-- exactly the listed names are read from the words at the round q
+abbrev pub ReadsNames : Words → ℕ → List ℕ → Type 0
+ReadsNames w q names = (n : Name) → IsRead w 2 q n ↔ ((depth n ≤ 24) × HasEntry names (name_code n))
+
+-- the law of what is read in its states at finished rounds: the cuts change nothing of it
+pub record TwiceReads : Type 0 where
+  pub finished1 : ReadsNames finished1 1 (name0 ∷ name1 ∷ [])
+  pub stamped : ReadsNames stamped1 1 (name0 ∷ name1 ∷ [])
+  pub finished2 : ReadsNames finished2 2 []
+  pub linked_again : ReadsNames linked3 2 []
+  pub published_again : ReadsNames published_again 2 []
+  pub finished3 : ReadsNames finished3 2 [] × ReadsNames finished3 3 (name0 ∷ name1 ∷ [])
+  pub cut : ReadsNames cut1 2 [] × ReadsNames cut1 3 (name0 ∷ name1 ∷ [])

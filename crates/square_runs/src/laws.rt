@@ -1,8 +1,8 @@
 //! Laws over the definitions alone.
 ghost use Rattle.square_runs.specs.SquareFull.{SquareFull, SquareUndrawn};
-ghost use Rattle.square_runs.specs.SquareKinds.{KindsOccur, ReachedLawful};
+ghost use Rattle.square_runs.specs.SquareKinds.{KindsOccur, RunsLawful};
 ghost use Rattle.square_runs.specs.SquareRun.{SquareFollows, SquareReads, SquareRefused, SquareRuns, SquareVisits};
-ghost use Rattle.square_runs.specs.SquareTwice.{SquareTwice};
+ghost use Rattle.square_runs.specs.SquareTwice.{SquareTwice, TwiceReads};
 
 /// There are runs of steps on the square, from the claim of its patch to the second draw of its block,
 /// and what is read in their states; each kind of step occurs in one, and each state is lawful.
@@ -15,6 +15,7 @@ pub fn laws()
     ensures full { SquareFull }
     ensures undrawn { SquareUndrawn }
     ensures twice { SquareTwice }
-    ensures reached { ReachedLawful }
+    ensures twice_reads { TwiceReads }
+    ensures lawful { RunsLawful }
     ensures kinds { KindsOccur }
 {}

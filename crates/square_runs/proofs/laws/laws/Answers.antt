@@ -6,7 +6,8 @@ use Rattle.square_runs.proofs.SquareVisits.{square_visits}
 use Rattle.square_runs.proofs.SquareFull.{square_full}
 use Rattle.square_runs.proofs.SquareUndrawn.{square_undrawn}
 use Rattle.square_runs.proofs.SquareTwice.{square_twice}
-use Rattle.square_runs.proofs.SquareKinds.{kinds_occur, reached_lawful}
+use Rattle.square_runs.proofs.TwiceReads.{twice_reads}
+use Rattle.square_runs.proofs.SquareKinds.{kinds_occur, runs_lawful}
 use Rattle.square_runs.proofs.laws.laws.Goals as goal
 
 pub returns-clause-square : goal.returns-clause-square
@@ -33,8 +34,11 @@ returns-clause-undrawn c = square_undrawn
 pub returns-clause-twice : goal.returns-clause-twice
 returns-clause-twice c = square_twice
 
-pub returns-clause-reached : goal.returns-clause-reached
-returns-clause-reached c = reached_lawful
+pub returns-clause-lawful : goal.returns-clause-lawful
+returns-clause-lawful c = runs_lawful
 
 pub returns-clause-kinds : goal.returns-clause-kinds
 returns-clause-kinds c = kinds_occur
+
+pub returns-clause-twice_reads : goal.returns-clause-twice_reads
+returns-clause-twice_reads c = twice_reads
