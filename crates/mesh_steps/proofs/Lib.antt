@@ -20,3 +20,4 @@ pub mod TakingBack
 pub mod StepsKeep
 pub mod Local
 pub mod Reuse
+pub mod Onward

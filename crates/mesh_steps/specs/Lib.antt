@@ -8,3 +8,4 @@ pub mod SweepSteps
 pub mod Steps
 pub mod Local
 pub mod Reuse
+pub mod Onward

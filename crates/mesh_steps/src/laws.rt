@@ -3,12 +3,21 @@ ghost use Rattle.mesh_steps.specs.WalkLaws.{NextNamed};
 ghost use Rattle.mesh_steps.specs.Steps.{StepsKeep};
 ghost use Rattle.mesh_steps.specs.Local.{StepsLocal};
 ghost use Rattle.mesh_steps.specs.Reuse.{StepsSpare};
+ghost use Rattle.mesh_steps.specs.Onward.{ClaimsGoBack, ClaimsGoOn, PassesJoined, PassesMade, PinsGoOn, ReadersGoOn, SinglesGoOn, WorkersGoOn};
 
-/// Each step of any seat leads from a lawful state to a lawful one; what it changes; and that it leaves
-/// alone the blocks to which walks go.
+/// Each step of any seat leads from a lawful state to a lawful one; what it changes; that it leaves
+/// alone the blocks to which walks go; and that no seat is stuck.
 pub fn laws()
     ensures next { NextNamed }
     ensures steps { StepsKeep }
     ensures local { StepsLocal }
     ensures spare { StepsSpare }
+    ensures workers { WorkersGoOn }
+    ensures readers { ReadersGoOn }
+    ensures pins { PinsGoOn }
+    ensures made { PassesMade }
+    ensures joined { PassesJoined }
+    ensures claims { ClaimsGoOn }
+    ensures singles { SinglesGoOn }
+    ensures back { ClaimsGoBack }
 {}

@@ -1,6 +1,7 @@
 use Rattle.mesh_steps.proofs.StepsKeep.{next_named, steps_keep}
 use Rattle.mesh_steps.proofs.Local.{steps_local}
 use Rattle.mesh_steps.proofs.Reuse.{steps_spare}
+use Rattle.mesh_steps.proofs.Onward.{workers_go_on, readers_go_on, pins_go_on, passes_made, passes_joined, claims_go_on, singles_go_on, claims_go_back}
 use Rattle.mesh_steps.proofs.laws.laws.Goals as goal
 
 pub returns-clause-next : goal.returns-clause-next
@@ -14,3 +15,27 @@ returns-clause-local c = steps_local
 
 pub returns-clause-spare : goal.returns-clause-spare
 returns-clause-spare c = steps_spare
+
+pub returns-clause-workers : goal.returns-clause-workers
+returns-clause-workers c = workers_go_on
+
+pub returns-clause-readers : goal.returns-clause-readers
+returns-clause-readers c = readers_go_on
+
+pub returns-clause-pins : goal.returns-clause-pins
+returns-clause-pins c = pins_go_on
+
+pub returns-clause-made : goal.returns-clause-made
+returns-clause-made c = passes_made
+
+pub returns-clause-joined : goal.returns-clause-joined
+returns-clause-joined c = passes_joined
+
+pub returns-clause-claims : goal.returns-clause-claims
+returns-clause-claims c = claims_go_on
+
+pub returns-clause-singles : goal.returns-clause-singles
+returns-clause-singles c = singles_go_on
+
+pub returns-clause-back : goal.returns-clause-back
+returns-clause-back c = claims_go_back
