@@ -21,3 +21,4 @@ pub mod StepsKeep
 pub mod Local
 pub mod Reuse
 pub mod Onward
+pub mod OnwardRounds

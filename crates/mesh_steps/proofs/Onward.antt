@@ -23,7 +23,7 @@ use Rattle.mesh_steps.specs.WalkSteps.{WorkNext, ReadNext}
 use Rattle.mesh_steps.proofs.StepsKeep.{next_named}
 
 -- a fact of the new value of the function
-here : {A : Type 0} (P : A → Type 0) (f : ℕ → A) (j : ℕ) (a : A) → P a → P (update f j a j)
+pub here : {A : Type 0} (P : A → Type 0) (f : ℕ → A) (j : ℕ) (a : A) → P a → P (update f j a j)
 here P f j a p = subst P (sym (update_same f j a)) p
 
 children : (s : Setup) (xs : List (ℕ × ℕ)) (k c : ℕ) (t : Bool) → HasChildren s ((child_place s.elements c t false, s.child k false) ∷ (child_place s.elements c t true, s.child k true) ∷ xs) k c t

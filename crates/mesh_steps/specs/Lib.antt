@@ -9,3 +9,4 @@ pub mod Steps
 pub mod Local
 pub mod Reuse
 pub mod Onward
+pub mod OnwardRounds

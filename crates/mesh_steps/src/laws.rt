@@ -4,6 +4,7 @@ ghost use Rattle.mesh_steps.specs.Steps.{StepsKeep};
 ghost use Rattle.mesh_steps.specs.Local.{StepsLocal};
 ghost use Rattle.mesh_steps.specs.Reuse.{StepsSpare};
 ghost use Rattle.mesh_steps.specs.Onward.{ClaimsGoBack, ClaimsGoOn, PassesJoined, PassesMade, PinsGoOn, ReadersGoOn, SinglesGoOn, WorkersGoOn};
+ghost use Rattle.mesh_steps.specs.OnwardRounds.{FillsGoOn, LoadsGoOn, NotesGoOn, RetiringGoesOn, RoundsGoOn, RowsGoOn};
 
 /// Each step of any seat leads from a lawful state to a lawful one; what it changes; that it leaves
 /// alone the blocks to which walks go; and that no seat is stuck.
@@ -20,4 +21,10 @@ pub fn laws()
     ensures claims { ClaimsGoOn }
     ensures singles { SinglesGoOn }
     ensures back { ClaimsGoBack }
+    ensures loads { LoadsGoOn }
+    ensures fills { FillsGoOn }
+    ensures retiring { RetiringGoesOn }
+    ensures rounds { RoundsGoOn }
+    ensures notes { NotesGoOn }
+    ensures rows { RowsGoOn }
 {}

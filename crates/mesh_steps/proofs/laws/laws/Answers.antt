@@ -2,6 +2,7 @@ use Rattle.mesh_steps.proofs.StepsKeep.{next_named, steps_keep}
 use Rattle.mesh_steps.proofs.Local.{steps_local}
 use Rattle.mesh_steps.proofs.Reuse.{steps_spare}
 use Rattle.mesh_steps.proofs.Onward.{workers_go_on, readers_go_on, pins_go_on, passes_made, passes_joined, claims_go_on, singles_go_on, claims_go_back}
+use Rattle.mesh_steps.proofs.OnwardRounds.{loads_go_on, fills_go_on, retiring_goes_on, rounds_go_on, notes_go_on, rows_go_on}
 use Rattle.mesh_steps.proofs.laws.laws.Goals as goal
 
 pub returns-clause-next : goal.returns-clause-next
@@ -39,3 +40,21 @@ returns-clause-singles c = singles_go_on
 
 pub returns-clause-back : goal.returns-clause-back
 returns-clause-back c = claims_go_back
+
+pub returns-clause-loads : goal.returns-clause-loads
+returns-clause-loads c = loads_go_on
+
+pub returns-clause-fills : goal.returns-clause-fills
+returns-clause-fills c = fills_go_on
+
+pub returns-clause-retiring : goal.returns-clause-retiring
+returns-clause-retiring c = retiring_goes_on
+
+pub returns-clause-rounds : goal.returns-clause-rounds
+returns-clause-rounds c = rounds_go_on
+
+pub returns-clause-notes : goal.returns-clause-notes
+returns-clause-notes c = notes_go_on
+
+pub returns-clause-rows : goal.returns-clause-rows
+returns-clause-rows c = rows_go_on
