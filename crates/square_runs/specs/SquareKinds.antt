@@ -10,7 +10,7 @@ use Rattle.mesh_steps.specs.PinSteps.{LoadRound, PinStep, UnpinStep, ReadEnds, R
 use Rattle.mesh_steps.specs.OwnerSteps.{NoteClear, LoadCursor, LoadFree, NoteEver, NoteFree, LoadReleased, NoteQuiet, NotePlaces, SplitStep, JoinWorker, JoinReader, BeginStep, PlanStep, CloseStep, RefuseStep, RestoreStep, AdvanceStep}
 use Rattle.mesh_steps.specs.SweepSteps.{StampStep, UnclaimStep, CutLink, CutHistory, FreeStep, ZeroStep, StopStep, RewindStep, RowStep, OpenStep, UnbearStep, UnlinkSecond, UnlinkFirst, BuryStep, UndrawStep}
 use Rattle.mesh_steps.specs.States.{Kind, State, state, IsLawful}
-use Rattle.mesh_steps.specs.Steps.{Run}
+use Rattle.mesh_steps.specs.Steps.{Run, Step}
 
 -- a table over the square with so many blocks, for four rounds and one reader's pass, and its fresh state
 abbrev pub square_with : ℕ → Setup
@@ -32,9 +32,9 @@ RunsTo pool a = (states : List State) × Run (square_with pool) (fresh_state poo
 abbrev pub RunsLawful : Type 0
 RunsLawful = (pool : ℕ) (a : State) → RunsTo pool a → IsLawful (square_with pool) a
 
--- a run leads to a state from which a step of this kind is taken
+-- a run leads to a state from which a step of this kind is taken, which is one of the steps
 abbrev pub Occurs : ℕ → Kind → Type 0
-Occurs pool K = (a b : State) × RunsTo pool a × K (square_with pool) a.words a.seats a.views b
+Occurs pool K = (a b : State) × RunsTo pool a × K (square_with pool) a.words a.seats a.views b × Step (square_with pool) a b
 
 -- the law that each kind of step occurs, with one block or with two
 pub record KindsOccur : Type 0 where
