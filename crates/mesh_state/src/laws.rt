@@ -1,8 +1,8 @@
 //! Laws over the definitions alone.
-ghost use Rattle.mesh_state.specs.Laws.{BlocksPlaced, ClearRounds, DrawsBounded, FreeRows, MembersTogether, NotesAgree, OneClaim, OneHolder, ParentsBisected, PinsBounded, PlacesAgree, ReachedKept, RetiredBorn, WalksAgree, WalksEnd, WalksShort};
+ghost use Rattle.mesh_state.specs.Laws.{BlocksPlaced, ClearRounds, CoversBisect, DrawsBounded, FreeRows, MembersTogether, NotesAgree, OneClaim, OneHolder, ParentsBisected, PinsBounded, PlacesAgree, ReachedKept, RetiredBorn, WalksAgree, WalksEnd, WalksShort};
 ghost use Rattle.mesh_state.specs.ClaimLaws.{BitsClaimed, DrawsCounted, SecondPlaces, StagesViewed, TargetLeast, UnbornBlocks, UnbornClaimed};
 ghost use Rattle.mesh_state.specs.RoundLaws.{BetweenForests, BisectedClosed, ChainsStand, ClaimsAimed, ClaimsDrawn, DiffersByPatches, DrawsApart, HistoryRight, ListsKnown, NotesInHistory, QuietRound, RoundsLeft, StandingKept, ToldPrefix, WalksBegin, WorkerAlone};
-ghost use Rattle.mesh_state.specs.SeatLaws.{BeginsEqual, FilledStays, FindingsRight, FinishedFindings, HistoryWords, LinkWords, LivingBlocks, LivingClaimed, LoadedStays, OneHalf, OwnerSure, PinsCounted, RetiredNoted, WorkersWent};
+ghost use Rattle.mesh_state.specs.SeatLaws.{BeginsEqual, BlocksKnown, FilledStays, FindingsRight, FinishedFindings, HistoryWords, LinkWords, LivingBlocks, LivingClaimed, LoadedStays, NumbersKnown, OneHalf, OwnerSure, PinsCounted, PinsOut, RetiredNoted, WorkersWent};
 ghost use Rattle.mesh_state.specs.TableLaws.{BlocksInPool, BlocksViewed, ChainsNamed, ClaimsListedOnce, ElementsNamed, PlacesInTable, WalkSides};
 ghost use Rattle.mesh_state.specs.Fresh.{FreshFromList, FreshIsLawful};
 
@@ -23,6 +23,7 @@ pub fn laws()
     ensures rows { FreeRows }
     ensures walks { WalksAgree }
     ensures placed { BlocksPlaced }
+    ensures covers { CoversBisect }
     ensures ends { WalksEnd }
     ensures born { RetiredBorn }
     ensures short { WalksShort }
@@ -59,6 +60,9 @@ pub fn laws()
     ensures loaded { LoadedStays }
     ensures sure { OwnerSure }
     ensures pinned { PinsCounted }
+    ensures out { PinsOut }
+    ensures numbers { NumbersKnown }
+    ensures blocks { BlocksKnown }
     ensures links { LinkWords }
     ensures histories { HistoryWords }
     ensures retired { RetiredNoted }

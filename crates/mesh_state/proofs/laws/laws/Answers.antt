@@ -1,7 +1,7 @@
-use Rattle.mesh_state.proofs.Lawful.{bounded, one_holder, one_claim, draws_bounded, free_rows, walks_agree, blocks_placed, walks_end, retired_born, walks_short, parents_bisected, members_together, places_agree, notes_agree, reached_kept, clear_rounds}
+use Rattle.mesh_state.proofs.Lawful.{bounded, one_holder, one_claim, draws_bounded, free_rows, walks_agree, blocks_placed, walks_end, retired_born, walks_short, parents_bisected, members_together, places_agree, notes_agree, reached_kept, clear_rounds, covers_bisect}
 use Rattle.mesh_state.proofs.ClaimLaws.{bits_claimed, second_places, stages_viewed, draws_counted, unborn_blocks, unborn_claimed, target_least}
 use Rattle.mesh_state.proofs.RoundLaws.{between, differs, closed, aimed, lists_known, history_right, told_prefix, notes_told, draws_apart, claims_drawn, quiet_round, walks_begin, chains_stand, standing_kept, rounds_left, worker_alone}
-use Rattle.mesh_state.proofs.SeatLaws.{begins_equal, living_claimed, living_blocks, findings_right, finished_findings, workers_went, one_half, filled_stays, loaded_stays, owner_sure, pins_counted, link_words, history_words, retired_noted}
+use Rattle.mesh_state.proofs.SeatLaws.{begins_equal, living_claimed, living_blocks, findings_right, finished_findings, workers_went, one_half, filled_stays, loaded_stays, owner_sure, pins_counted, link_words, history_words, retired_noted, pins_out, numbers_known, blocks_known}
 use Rattle.mesh_state.proofs.TableLaws.{blocks_in_pool, blocks_viewed, places_in_table, chains_named, elements_named, walk_sides, claims_listed_once}
 use Rattle.mesh_state.proofs.FreshList.{fresh_from_list}
 use Rattle.mesh_state.proofs.Fresh.{fresh_is_lawful}
@@ -192,3 +192,15 @@ returns-clause-list c = fresh_from_list
 
 pub returns-clause-fresh : goal.returns-clause-fresh
 returns-clause-fresh c = fresh_is_lawful
+
+pub returns-clause-covers : goal.returns-clause-covers
+returns-clause-covers c = covers_bisect
+
+pub returns-clause-out : goal.returns-clause-out
+returns-clause-out c = pins_out
+
+pub returns-clause-numbers : goal.returns-clause-numbers
+returns-clause-numbers c = numbers_known
+
+pub returns-clause-blocks : goal.returns-clause-blocks
+returns-clause-blocks c = blocks_known
