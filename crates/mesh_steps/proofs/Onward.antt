@@ -2,7 +2,7 @@
 use Rattle.std.proofs.Common.{◌≡◌, ℕ, zero, suc, ◌+◌, ◌<◌, ◌≤◌, Bool, true, false, List, [], ◌∷◌, ◌⊎◌, refl, sym, ap, ◌∙◌, subst, inl, inr, ⊎_elim, arith}
 use mathlib.Core.Logic.{dite}
 use native.Mathlib.Decide.{ℕ_discrete, dec_lt}
-use Rattle.mesh_words.specs.Setup.{Setup}
+use Rattle.mesh_words.specs.Setup.{Setup, setup_of}
 use Rattle.mesh_words.specs.Claims.{Progress, Claimed, Failed, Drawn, Half, Whole, Living, Claim, claim, moved_on, ended}
 use Rattle.mesh_words.specs.Entries.{HasEntry, Noted}
 use Rattle.mesh_words.specs.Functions.{update}
@@ -10,15 +10,16 @@ use Rattle.mesh_words.specs.Places.{member_of, child_place}
 use Rattle.mesh_words.specs.Words.{Node, node, Words}
 use Rattle.mesh_words.specs.Views.{Views, Work, Read, Plan, Note, Still, At, Past}
 use Rattle.mesh_words.specs.Sums.{one_where}
-use Rattle.mesh_words.proofs.Functions.{update_same, update_other}
+use Rattle.mesh_words.proofs.Functions.{update_same, update_at, update_other}
 use Rattle.mesh_words.proofs.Entries.{entry_right}
 use Rattle.mesh_words.proofs.Sums.{summand, one_if}
 use Rattle.mesh_state.specs.Ghosts.{Placed, stands}
 use Rattle.mesh_state.specs.Claims.{block_of}
 use Rattle.mesh_state.proofs.Across.{some_worker, half_of}
 use Rattle.mesh_state.proofs.HeldClaims.{moved_on_here, ended_has}
+use Rattle.mesh_steps.specs.States.{State}
 use Rattle.mesh_steps.specs.Steps.{ByClaimStep, ByDrawStep, ByFullStep, ByLinkFirst, ByPublishStep, ByWorkEnds, ByWorkGoes, ByWorkFinds, ByWorkHad, ByWorkPasses, ByLoadRound, ByPinStep, ByUnpinStep, ByReadEnds, ByReadGoes, ByReadFinds, ByReadPasses, BySplitStep, ByJoinWorker, ByJoinReader, ByUnclaimStep, ByUndrawStep, ByUnlinkFirst, ByUnlinkSecond, ByUnbearStep}
-use Rattle.mesh_steps.specs.Onward.{Onward, HasChildren, IsEnded, WorkersGoOn, ReadersGoOn, PinsGoOn, PassesMade, PassesJoined, ClaimsGoOn, SinglesGoOn, ClaimsGoBack}
+use Rattle.mesh_steps.specs.Onward.{Onward, HasChildren, IsEnded, WorkersGoOn, ReadersGoOn, PinsGoOn, ReadyBelow, PinsFit, PassesMade, PassesJoined, ClaimsGoOn, SinglesGoOn, ClaimsGoBack}
 use Rattle.mesh_steps.specs.WalkSteps.{WorkNext, ReadNext}
 use Rattle.mesh_steps.proofs.StepsKeep.{next_named}
 
@@ -126,6 +127,20 @@ pins_go_on s w n v (g, r) j kind = (
   (λ low. (_, ByLoadRound (j, kind, 1, inl (refl, low), refl), here (λ (u : Read). (u.ready ≡ 1) × (u.seen ≡ w.round)) v.read j _ (refl, refl))),
   (λ none ready. (_, ByPinStep (j, kind, none, ready, refl), here (λ (u : Read). (u.pin ≡ w.round + 1) × (u.seen ≡ w.round)) v.read j _ (refl, refl))),
   λ q pin. (_, ByUnpinStep (j, q, kind, pin, refl), (here (λ (u : Read). u.pin ≡ 0) v.read j _ refl, update_same w.released q (w.released q + 1))),
+)
+
+pub ready_below : ReadyBelow
+ready_below s w n v b j (i, kind, ready, shown, e) one = dite (ℕ_discrete j i)
+    (λ same. ⊎_elim (λ t. inr t.1) (λ none. let f = sym (is_ready j) ∙ one in let h : ready ≡ 1 = sym (ap (λ (u : Read). u.ready) (update_at v.read i j _ same)) ∙ f in absurd (omega arith)) shown)
+    (λ other. inl (sym (ap (λ (u : Read). u.ready) (update_other v.read i j _ other)) ∙ sym (is_ready j) ∙ one))
+  where
+    is_ready : (k : ℕ) → (b.views.read k).ready ≡ (update v.read i (record (v.read i) { ready = ready; seen = w.round }) k).ready
+    is_ready k = ap (λ (a : State). (a.views.read k).ready) e
+
+pub pins_fit : PinsFit
+pins_fit mesh across l passes w n v lawful = (
+  (λ j kind low. let t = (pins_go_on (setup_of mesh across l passes) w n v lawful j kind).0 low in (t.0, t.1, t.2.0)),
+  λ few. let a = lawful.1.pins.bound in let b : passes < 2147483648 = few in let c : w.taken < 4294967296 = omega arith in c,
 )
 
 -- a worker's pass is made

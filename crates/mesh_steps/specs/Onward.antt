@@ -1,14 +1,19 @@
 -- That no seat is stuck: which steps there are from a lawful state, and what the seat knows after them.
-use Rattle.std.specs.Prelude.{◌≡◌, ℕ, ◌+◌, ◌<◌, ◌≤◌, Bool, true, false, List, ◌⊎◌}
+use Rattle.std.specs.Prelude.{◌≡◌, ℕ, ◌+◌, ◌^◌, ◌<◌, ◌≤◌, Bool, true, false, List, ◌⊎◌}
+use Rattle.mesh_names.specs.Triangles.{Shape}
+use Rattle.mesh_names.specs.Partners.{Across}
+use Rattle.mesh_words.specs.declared.layout.Layout.{Layout}
 use Rattle.mesh_words.specs.Claims.{Progress, Claimed, Failed, Drawn, Half, Whole, Living, Claim, claim}
 use Rattle.mesh_words.specs.Entries.{HasEntry, Noted}
 use Rattle.mesh_words.specs.Places.{member_of, child_place}
-use Rattle.mesh_words.specs.Setup.{Setup}
+use Rattle.mesh_words.specs.Setup.{Setup, setup_of}
 use Rattle.mesh_words.specs.Views.{first_half, second_half, closing, taking_back, worker, reader, Note, Still, At, Past, Work, Read, Views}
 use Rattle.mesh_words.specs.Words.{Node, node, Words}
 use Rattle.mesh_state.specs.Laws.{Always}
+use Rattle.mesh_state.specs.Rule.{Lawful}
 use Rattle.mesh_steps.specs.States.{State, state}
 use Rattle.mesh_steps.specs.Steps.{Step}
+use Rattle.mesh_steps.specs.PinSteps.{LoadRound}
 use Rattle.mesh_steps.specs.WalkSteps.{WorkNext, ReadNext}
 
 -- a step leads from here to a state of which P holds
@@ -41,6 +46,15 @@ abbrev pub PinsGoOn : Type 0
 PinsGoOn = Always (λ s w n v g. (j : ℕ) → v.kind j ≡ reader → (w.taken < s.limit → Onward s w n v (λ b. ((b.views.read j).ready ≡ 1) × ((b.views.read j).seen ≡ w.round)))
     × ((v.read j).pin ≡ 0 → (v.read j).ready ≡ 1 → Onward s w n v (λ b. ((b.views.read j).pin ≡ w.round + 1) × ((b.views.read j).seen ≡ w.round)))
     × ((q : ℕ) → (v.read j).pin ≡ q + 1 → Onward s w n v (λ b. ((b.views.read j).pin ≡ 0) × (b.words.released q ≡ w.released q + 1))))
+
+-- the law that a load of ROUND makes a pass ready only where it shows fewer pins than the limit
+abbrev pub ReadyBelow : Type 0
+ReadyBelow = (s : Setup) (w : Words) (n : ℕ) (v : Views) (b : State) (j : ℕ) → LoadRound s w n v b → (b.views.read j).ready ≡ 1 → ((v.read j).ready ≡ 1) ⊎ (w.taken < s.limit)
+
+-- the law of the limit of a table over a mesh: a reader's pass can be ready where fewer than 1048576 pins are taken, and pins fit the lower half of ROUND
+abbrev pub PinsFit : Type 0
+PinsFit = (mesh : Shape) (across : Across) (l : Layout) (passes : ℕ) (w : Words) (n : ℕ) (v : Views) → Lawful (setup_of mesh across l passes) w n v →
+    ((j : ℕ) → v.kind j ≡ reader → w.taken < 1048576 → Onward (setup_of mesh across l passes) w n v (λ b. (b.views.read j).ready ≡ 1)) × (passes < 2 ^ 31 → w.taken < 2 ^ 32)
 
 -- the law that passes are made: a reader's beside as many as the table is for, and a worker's in both halves beside any others but worker 0's in the first half; worker 0's there where no other is out and each claim has its living block
 abbrev pub PassesMade : Type 0

@@ -3,7 +3,7 @@ ghost use Rattle.mesh_steps.specs.WalkLaws.{NextNamed};
 ghost use Rattle.mesh_steps.specs.Steps.{StepsKeep};
 ghost use Rattle.mesh_steps.specs.Local.{StepsLocal};
 ghost use Rattle.mesh_steps.specs.Reuse.{StepsSpare};
-ghost use Rattle.mesh_steps.specs.Onward.{ClaimsGoBack, ClaimsGoOn, PassesJoined, PassesMade, PinsGoOn, ReadersGoOn, SinglesGoOn, WorkersGoOn};
+ghost use Rattle.mesh_steps.specs.Onward.{ClaimsGoBack, ClaimsGoOn, PassesJoined, PassesMade, PinsFit, PinsGoOn, ReadersGoOn, ReadyBelow, SinglesGoOn, WorkersGoOn};
 ghost use Rattle.mesh_steps.specs.OnwardRounds.{FillsGoOn, LoadsGoOn, NotesGoOn, RetiringGoesOn, RoundsGoOn, RowsGoOn};
 
 /// Each step of any seat leads from a lawful state to a lawful one; what it changes; that it leaves
@@ -16,6 +16,8 @@ pub fn laws()
     ensures workers { WorkersGoOn }
     ensures readers { ReadersGoOn }
     ensures pins { PinsGoOn }
+    ensures ready { ReadyBelow }
+    ensures fit { PinsFit }
     ensures made { PassesMade }
     ensures joined { PassesJoined }
     ensures claims { ClaimsGoOn }

@@ -1,7 +1,7 @@
 use Rattle.mesh_steps.proofs.StepsKeep.{next_named, steps_keep}
 use Rattle.mesh_steps.proofs.Local.{steps_local}
 use Rattle.mesh_steps.proofs.Reuse.{steps_spare}
-use Rattle.mesh_steps.proofs.Onward.{workers_go_on, readers_go_on, pins_go_on, passes_made, passes_joined, claims_go_on, singles_go_on, claims_go_back}
+use Rattle.mesh_steps.proofs.Onward.{workers_go_on, readers_go_on, pins_go_on, ready_below, pins_fit, passes_made, passes_joined, claims_go_on, singles_go_on, claims_go_back}
 use Rattle.mesh_steps.proofs.OnwardRounds.{loads_go_on, fills_go_on, retiring_goes_on, rounds_go_on, notes_go_on, rows_go_on}
 use Rattle.mesh_steps.proofs.laws.laws.Goals as goal
 
@@ -58,3 +58,9 @@ returns-clause-notes c = notes_go_on
 
 pub returns-clause-rows : goal.returns-clause-rows
 returns-clause-rows c = rows_go_on
+
+pub returns-clause-ready : goal.returns-clause-ready
+returns-clause-ready c = ready_below
+
+pub returns-clause-fit : goal.returns-clause-fit
+returns-clause-fit c = pins_fit
