@@ -1,7 +1,7 @@
 //! Laws over the definitions alone.
 ghost use Rattle.mesh_state.specs.Laws.{BlocksPlaced, ClearRounds, CoversBisect, DrawsBounded, FreeRows, MembersTogether, NotesAgree, OneClaim, OneHolder, ParentsBisected, PinsBounded, PlacesAgree, ReachedKept, RetiredBorn, WalksAgree, WalksEnd, WalksShort};
 ghost use Rattle.mesh_state.specs.ClaimLaws.{BitsClaimed, DrawsCounted, SecondPlaces, StagesViewed, TargetLeast, UnbornBlocks, UnbornClaimed};
-ghost use Rattle.mesh_state.specs.RoundLaws.{BetweenForests, BisectedClosed, ChainsStand, ClaimsAimed, ClaimsDrawn, DiffersByPatches, DrawsApart, HistoryRight, ListsKnown, NotesInHistory, QuietRound, RoundsLeft, StandingKept, ToldPrefix, WalksBegin, WorkerAlone};
+ghost use Rattle.mesh_state.specs.RoundLaws.{BetweenForests, BisectedClosed, ChainsStand, ClaimsAimed, ClaimsDrawn, DiffersByPatches, DrawsApart, HistoryRight, ListsKnown, LivingAimed, NotesInHistory, QuietRound, RoundsLeft, StandingKept, ToldPrefix, WalksBegin, WorkerAlone};
 ghost use Rattle.mesh_state.specs.SeatLaws.{BeginsEqual, BlocksKnown, FilledStays, FindingsRight, FinishedFindings, HistoryWords, LinkWords, LivingBlocks, LivingClaimed, LoadedStays, NumbersKnown, OneHalf, OwnerSure, PinsCounted, PinsOut, RetiredNoted, WorkersWent};
 ghost use Rattle.mesh_state.specs.TableLaws.{BlocksInPool, BlocksViewed, ChainsNamed, ClaimsListedOnce, ElementsNamed, PlacesInTable, WalkSides};
 ghost use Rattle.mesh_state.specs.Fresh.{FreshFromList, FreshIsLawful};
@@ -37,6 +37,7 @@ pub fn laws()
     ensures differs { DiffersByPatches }
     ensures closed { BisectedClosed }
     ensures aimed { ClaimsAimed }
+    ensures living_aimed { LivingAimed }
     ensures lists { ListsKnown }
     ensures history { HistoryRight }
     ensures told { ToldPrefix }
