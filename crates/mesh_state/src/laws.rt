@@ -2,7 +2,7 @@
 ghost use Rattle.mesh_state.specs.Laws.{BlocksPlaced, ClearRounds, CoversBisect, DrawsBounded, FreeRows, MembersTogether, NotesAgree, OneClaim, OneHolder, ParentsBisected, PinsBounded, PlacesAgree, ReachedKept, RetiredBorn, WalksAgree, WalksEnd, WalksShort};
 ghost use Rattle.mesh_state.specs.ClaimLaws.{BitsClaimed, DrawsCounted, SecondPlaces, StagesViewed, TargetLeast, UnbornBlocks, UnbornClaimed};
 ghost use Rattle.mesh_state.specs.RoundLaws.{BetweenForests, BisectedClosed, ChainsStand, ClaimsAimed, ClaimsDrawn, DiffersByPatches, DrawsApart, HistoryRight, ListsKnown, LivingAimed, NotesInHistory, QuietRound, RoundsLeft, StandingKept, ToldPrefix, WalksBegin, WorkerAlone};
-ghost use Rattle.mesh_state.specs.SeatLaws.{BeginsEqual, BlocksKnown, FilledStays, FindingsRight, FinishedFindings, HistoryWords, LinkWords, LivingBlocks, LivingClaimed, LoadedStays, NumbersKnown, OneHalf, OwnerSure, PinsCounted, PinsOut, RetiredNoted, WorkersWent};
+ghost use Rattle.mesh_state.specs.SeatLaws.{BeginsEqual, BlocksKnown, FilledStays, FindingsRight, FinishedFindings, HistoryWords, LinkWords, LivingBlocks, LivingClaimed, LoadedStays, NumbersKnown, OneHalf, OthersEmpty, OwnerSure, PassesCounted, PinsCounted, PinsOut, RetiredNoted, WorkersWent};
 ghost use Rattle.mesh_state.specs.TableLaws.{BlocksInPool, BlocksViewed, ChainsNamed, ClaimsListedOnce, ElementsNamed, PlacesInTable, WalkSides};
 ghost use Rattle.mesh_state.specs.Fresh.{FreshFromList, FreshIsLawful};
 
@@ -64,6 +64,8 @@ pub fn laws()
     ensures out { PinsOut }
     ensures numbers { NumbersKnown }
     ensures blocks { BlocksKnown }
+    ensures others { OthersEmpty }
+    ensures passes { PassesCounted }
     ensures links { LinkWords }
     ensures histories { HistoryWords }
     ensures retired { RetiredNoted }
