@@ -1,5 +1,6 @@
 -- Each kind of step occurs in a run on the square, and what a run reaches is lawful.
-use Rattle.std.proofs.Common.{ℕ, zero, suc, List, [], ◌∷◌, refl, subst}
+use Rattle.std.proofs.Common.{◌≡◌, ℕ, zero, suc, ◌+◌, List, [], ◌∷◌, refl, ap, subst, inl, inr, arith}
+use Rattle.mesh_words.specs.Words.{Words}
 use Rattle.mesh_names.specs.Squares.{square}
 use Rattle.mesh_names.specs.Validity.{across_of}
 use Rattle.mesh_names.proofs.Squares.{squares_fit}
@@ -9,7 +10,7 @@ use Rattle.mesh_state.proofs.Fresh.{fresh_is_lawful}
 use Rattle.mesh_steps.specs.States.{State, state, IsLawful}
 use Rattle.mesh_steps.specs.Steps.{Run, ByClaimStep, ByDrawStep, ByFullStep, ByFillHistory, ByFillName, ByFillDied, ByFillChild, ByLinkFirst, ByLinkSecond, ByPublishStep, ByRetireStep, ByRetiredStep, ByWorkTop, ByWorkEnds, ByWorkGoes, ByWorkFinds, ByWorkHad, ByWorkPasses, ByWorkGives, ByWorkDead, ByWorkOpen, ByLoadHead, ByLoadHistory, ByLoadBorn, ByLoadDied, ByLoadName, ByLoadRow, ByLoadRound, ByPinStep, ByUnpinStep, ByReadEnds, ByReadGoes, ByReadFinds, ByReadPasses, ByNoteClear, ByLoadCursor, ByLoadFree, ByNoteEver, ByNoteFree, ByLoadReleased, ByNoteQuiet, ByNotePlaces, BySplitStep, ByJoinWorker, ByJoinReader, ByBeginStep, ByPlanStep, ByCloseStep, ByRefuseStep, ByRestoreStep, ByAdvanceStep, ByStampStep, ByUnclaimStep, ByCutLink, ByCutHistory, ByFreeStep, ByZeroStep, ByStopStep, ByRewindStep, ByRowStep, ByOpenStep, ByUnbearStep, ByUnlinkSecond, ByUnlinkFirst, ByBuryStep, ByUndrawStep}
 use Rattle.mesh_steps.proofs.StepsKeep.{steps_keep}
-use Rattle.square_runs.specs.SquareKinds.{square_with, fresh_state, last_of, RunsTo, RunsLawful, KindsOccur}
+use Rattle.square_runs.specs.SquareKinds.{square_with, fresh_state, last_of, RunsTo, RunsLawful, TwoWords, KindsOccur}
 use Rattle.square_runs.specs.SquareRun as one
 use Rattle.square_runs.specs.SquareFull as full_words
 use Rattle.square_runs.specs.SquareTwice as pair
@@ -49,6 +50,24 @@ ends_lawful s a (b ∷ bs) lawful (step, r) = ends_lawful s b bs (steps_keep s a
 
 pub runs_lawful : RunsLawful
 runs_lawful pool a (states, r, e) = subst (IsLawful (square_with pool)) e (ends_lawful (square_with pool) (fresh_state pool) states (fresh_ghost, fresh_is_lawful square (across_of square) (squares_fit.0).2 (record { rounds = 4; elements = 2; pool = pool }) 1) r)
+
+-- CURSOR is another after the two
+counted : (w : Words) → one.drawn ≡ w → w.cursor ≡ 0 → ⊥
+counted w e z = let a : 1 ≡ w.cursor = ap (λ (u : Words). u.cursor) e in omega arith
+
+pub two_words : TwoWords
+two_words (inl h) = counted _ h.2 refl
+two_words (inr (inl h)) = let a : ◌≡◌ {A = ℕ} 1 0 = ap (λ (u : Words). u.claimed 0) h.1 in omega arith
+two_words (inr (inr (inl h))) = counted _ h.1 refl
+two_words (inr (inr (inr (inl h)))) = counted _ h.2 refl
+two_words (inr (inr (inr (inr (inl h))))) = counted _ h.2 refl
+two_words (inr (inr (inr (inr (inr (inl h)))))) = counted _ h.2 refl
+two_words (inr (inr (inr (inr (inr (inr (inl h))))))) = counted _ h.2 refl
+two_words (inr (inr (inr (inr (inr (inr (inr (inl h)))))))) = counted _ h.3 refl
+two_words (inr (inr (inr (inr (inr (inr (inr (inr (inl h))))))))) = counted _ h.2 refl
+two_words (inr (inr (inr (inr (inr (inr (inr (inr (inr (inl h)))))))))) = counted _ h.2 refl
+two_words (inr (inr (inr (inr (inr (inr (inr (inr (inr (inr (inl h))))))))))) = counted _ h.2 refl
+two_words (inr (inr (inr (inr (inr (inr (inr (inr (inr (inr (inr h))))))))))) = counted _ h.2 refl
 
 pub kinds_occur : KindsOccur
 kinds_occur = record {

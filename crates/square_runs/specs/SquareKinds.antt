@@ -11,6 +11,8 @@ use Rattle.mesh_steps.specs.OwnerSteps.{NoteClear, LoadCursor, LoadFree, NoteEve
 use Rattle.mesh_steps.specs.SweepSteps.{StampStep, UnclaimStep, CutLink, CutHistory, FreeStep, ZeroStep, StopStep, RewindStep, RowStep, OpenStep, UnbearStep, UnlinkSecond, UnlinkFirst, BuryStep, UndrawStep}
 use Rattle.mesh_steps.specs.States.{Kind, State, state, IsLawful}
 use Rattle.mesh_steps.specs.Steps.{Run, Step}
+use Rattle.mesh_steps.specs.Local.{ChangesWord}
+use Rattle.square_runs.specs.SquareRun.{drawn}
 
 -- a table over the square with so many blocks, for four rounds and one reader's pass, and its fresh state
 abbrev pub square_with : ℕ → Setup
@@ -35,6 +37,10 @@ RunsLawful = (pool : ℕ) (a : State) → RunsTo pool a → IsLawful (square_wit
 -- a run leads to a state from which a step of this kind is taken, which is one of the steps
 abbrev pub Occurs : ℕ → Kind → Type 0
 Occurs pool K = (a b : State) × RunsTo pool a × K (square_with pool) a.words a.seats a.views b × Step (square_with pool) a b
+
+-- the law that a claim and a draw are not one change of a word
+abbrev pub TwoWords : Type 0
+TwoWords = ChangesWord (fresh_words 1) drawn → ⊥
 
 -- the law that each kind of step occurs, with one block or with two
 pub record KindsOccur : Type 0 where

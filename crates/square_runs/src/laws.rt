@@ -1,6 +1,6 @@
 //! Laws over the definitions alone.
 ghost use Rattle.square_runs.specs.SquareFull.{SquareFull, SquareUndrawn};
-ghost use Rattle.square_runs.specs.SquareKinds.{KindsOccur, RunsLawful};
+ghost use Rattle.square_runs.specs.SquareKinds.{KindsOccur, RunsLawful, TwoWords};
 ghost use Rattle.square_runs.specs.SquareRun.{SquareFollows, SquareReads, SquareRefused, SquareRuns, SquareVisits};
 ghost use Rattle.square_runs.specs.SquareTwice.{SquareTwice, TwiceReads};
 
@@ -17,5 +17,6 @@ pub fn laws()
     ensures twice { SquareTwice }
     ensures twice_reads { TwiceReads }
     ensures lawful { RunsLawful }
+    ensures two_words { TwoWords }
     ensures kinds { KindsOccur }
 {}

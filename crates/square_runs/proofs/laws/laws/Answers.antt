@@ -7,7 +7,7 @@ use Rattle.square_runs.proofs.SquareFull.{square_full}
 use Rattle.square_runs.proofs.SquareUndrawn.{square_undrawn}
 use Rattle.square_runs.proofs.SquareTwice.{square_twice}
 use Rattle.square_runs.proofs.TwiceReads.{twice_reads}
-use Rattle.square_runs.proofs.SquareKinds.{kinds_occur, runs_lawful}
+use Rattle.square_runs.proofs.SquareKinds.{kinds_occur, runs_lawful, two_words}
 use Rattle.square_runs.proofs.laws.laws.Goals as goal
 
 pub returns-clause-square : goal.returns-clause-square
@@ -42,3 +42,6 @@ returns-clause-kinds c = kinds_occur
 
 pub returns-clause-twice_reads : goal.returns-clause-twice_reads
 returns-clause-twice_reads c = twice_reads
+
+pub returns-clause-two_words : goal.returns-clause-two_words
+returns-clause-two_words c = two_words
