@@ -1,13 +1,11 @@
 -- No round is stuck.
-use Rattle.std.proofs.Common.{◌≡◌, ℕ, zero, suc, ◌+◌, ◌<◌, ◌≤◌, Bool, true, false, List, [], ◌∷◌, ◌⊎◌, refl, sym, ap, ◌∙◌, subst, inl, inr, ⊎_elim, arith}
+use Rattle.std.proofs.Common.{◌≡◌, ℕ, zero, suc, ◌+◌, ◌<◌, List, ◌∷◌, ◌⊎◌, refl, sym, ap, ◌∙◌, subst, inl, inr, ⊎_elim, arith}
 use Rattle.mesh_words.specs.Setup.{Setup}
-use Rattle.mesh_words.specs.Claims.{Progress, Drawn, Half, Whole, Living, Claim, claim}
+use Rattle.mesh_words.specs.Claims.{Half, Whole, Living, Claim, claim}
 use Rattle.mesh_words.specs.Entries.{HasEntry, EntryAt, Noted}
 use Rattle.mesh_words.specs.Places.{member_of, child_place}
-use Rattle.mesh_words.specs.Words.{Node}
 use Rattle.mesh_words.specs.Views.{Work, Sure, Plan}
 use Rattle.mesh_words.proofs.Functions.{update_same}
-use Rattle.mesh_state.specs.Claims.{block_of}
 use Rattle.mesh_state.specs.Lists.{IsMember}
 use Rattle.mesh_state.proofs.HeldClaims.{moved_on_here, ended_has}
 use Rattle.mesh_steps.specs.Steps.{ByFillHistory, ByFillName, ByFillDied, ByFillChild, ByLinkSecond, ByRetireStep, ByRetiredStep, ByWorkGives, ByWorkDead, ByWorkOpen, ByLoadHead, ByLoadHistory, ByLoadBorn, ByLoadDied, ByLoadName, ByLoadRow, ByNoteClear, ByNoteFree, ByLoadReleased, ByNoteQuiet, ByNotePlaces, ByBeginStep, ByPlanStep, ByCloseStep, ByRefuseStep, ByRestoreStep, ByUnclaimStep, ByZeroStep, ByRewindStep, ByRowStep, ByOpenStep}
@@ -30,10 +28,15 @@ fills_go_on s w n v (g, r) j x m c kind = (
     (λ l. (_, ByFillHistory (j, x, m, c, mine, kind, t, l, refl), (update_same w.hist (member_of c t) l, here (λ (u : Sure). Noted u.hist (member_of c t) l) v.sure j _ (inl (refl, refl))))),
     (λ k. (
       (_, ByFillName (j, x, m, c, mine, kind, t, k, refl), (update_same w.name (member_of c t) k, here (λ (u : Sure). Noted u.name (member_of c t) k) v.sure j _ (inl (refl, refl)))),
-      (_, ByFillDied (j, x, m, c, mine, kind, k, refl), (update_same w.died c k, here (λ (u : Sure). Noted u.died c k) v.sure j _ (inl (refl, refl)))))),
-    λ u l. (_, ByFillChild (j, x, m, c, mine, kind, t, u, l, refl), (update_same w.head (child_place s.elements c t u) l, here (λ (y : Sure). Noted y.head (child_place s.elements c t u) l) v.sure j _ (inl (refl, refl)))))),
-  λ y l e mine old noted. (_, ByLinkSecond (j, x, y, c, l, subst (λ (i : ℕ). HasEntry (v.claims j) (claim x i (Half c))) e mine, kind, old, noted, refl),
-    here (λ (cs : List Claim). HasEntry cs (claim x m (Whole c))) v.claims j _ (moved_on_here (v.claims j) x m (Whole c) (Half c) mine)),
+      (_, ByFillDied (j, x, m, c, mine, kind, k, refl), (update_same w.died c k, here (λ (u : Sure). Noted u.died c k) v.sure j _ (inl (refl, refl)))),
+    )),
+    λ u l. (_, ByFillChild (j, x, m, c, mine, kind, t, u, l, refl), (update_same w.head (child_place s.elements c t u) l, here (λ (y : Sure). Noted y.head (child_place s.elements c t u) l) v.sure j _ (inl (refl, refl)))),
+  )),
+  λ y l e mine old noted. (
+    _,
+    ByLinkSecond (j, x, y, c, l, subst (λ (i : ℕ). HasEntry (v.claims j) (claim x i (Half c))) e mine, kind, old, noted, refl),
+    here (λ (cs : List Claim). HasEntry cs (claim x m (Whole c))) v.claims j _ (moved_on_here (v.claims j) x m (Whole c) (Half c) mine),
+  ),
 )
 
 -- the names that are not bisected, with the members of a patch
@@ -48,14 +51,21 @@ pub retiring_goes_on : RetiringGoesOn
 retiring_goes_on s w n v (g, r) j c k kind two = (
   (λ mine. (
     (λ leads. (_, ByWorkGives (j, kind, half, c, k, leads, mine, refl), here (λ (u : Work). HasEntry u.given (c, k)) v.work j _ (inl refl))),
-    λ dead. (_, ByWorkDead (j, kind, half, c, k, mine, dead, refl), here (λ (u : Work). HasEntry u.open_ k) v.work j _ (inl refl)))),
+    λ dead. (_, ByWorkDead (j, kind, half, c, k, mine, dead, refl), here (λ (u : Work). HasEntry u.open_ k) v.work j _ (inl refl)),
+  )),
   (λ x mine how. (_, ByWorkOpen (j, kind, half, x, k, mine, how, refl), here (λ (u : Work). HasEntry u.open_ k) v.work j _ (inl refl))),
   λ mine. (
     (λ dead. (_, ByRetiredStep (j, kind, half, c, k, mine, dead, more.0, more.1, refl), here (λ (u : Work). (i : ℕ) → IsMember s k i → HasEntry u.open_ i) v.work j _ more.2)),
-    λ alive listed open_. (_, ByRetireStep (j, c, k, mine, kind, subst (λ (p : Plan). HasEntry p.retire k) (sym (r.plan.same j kind)) listed, alive, (λ u. open_ k u (inl refl)), (λ i e u. open_ (i + 1) u (inr (i, e, refl))), more.0, more.1, refl),
-      (update_same w.died c (v.work j).round ∙ (r.walks j).at_work kind,
+    λ alive listed open_. (
+      _,
+      ByRetireStep (j, c, k, mine, kind, subst (λ (p : Plan). HasEntry p.retire k) (sym (r.plan.same j kind)) listed, alive, (λ u. open_ k u (inl refl)), (λ i e u. open_ (i + 1) u (inr (i, e, refl))), more.0, more.1, refl),
+      (
+        update_same w.died c (v.work j).round ∙ (r.walks j).at_work kind,
         here (λ (u : Work). HasEntry u.retired c) v.work j _ (inl refl),
-        here (λ (u : Work). (i : ℕ) → IsMember s k i → HasEntry u.open_ i) v.work j _ more.2))),
+        here (λ (u : Work). (i : ℕ) → IsMember s k i → HasEntry u.open_ i) v.work j _ more.2,
+      ),
+    ),
+  ),
 )
   where
     half : (v.work j).half ≡ 2
@@ -69,10 +79,14 @@ rounds_go_on s w n v (g, r) = (
   (λ p names rest rewound left at aim. (_, ByBeginStep (p, names, subst (λ (q : ℕ). EntryAt v.ruling.history q names) (sym r.stock.finished) at, aim, subst (λ (q : ℕ). q < s.rounds) (sym r.stock.finished) left, rest, rewound, refl), (refl, refl))),
   (λ none one. (
     (_, ByRefuseStep (one, none, refl), refl),
-    λ retire known living. (_, ByPlanStep (retire, known, one, none, living, refl), (refl, refl)))),
+    λ retire known living. (_, ByPlanStep (retire, known, one, none, living, refl), (refl, refl)),
+  )),
   (λ none two open_. (_, ByCloseStep (open_, two, none, refl), refl)),
-  (λ x m c three mine. (_, ByUnclaimStep (((λ e. omega arith), λ e. omega arith), (λ l. omega arith), x, m, Living c, mine, (λ b e. ap Living (let z : c + 1 ≡ b + 1 = e in omega arith)), (λ b e f. f three), refl),
-    λ i p h. (ended_has (v.claims 0) x x i p h).0 refl)),
+  (λ x m c three mine. (
+    _,
+    ByUnclaimStep (((λ e. omega arith), λ e. omega arith), (λ l. omega arith), x, m, Living c, mine, (λ b e. ap Living (let z : c + 1 ≡ b + 1 = e in omega arith)), (λ b e f. f three), refl),
+    λ i p h. (ended_has (v.claims 0) x x i p h).0 refl,
+  )),
   λ four none. (_, ByRestoreStep (four, none, refl), refl),
 )
 
@@ -91,5 +105,6 @@ rows_go_on s w n v (g, r) rest = (
   λ stopped. (
     (_, ByRewindStep (rest, stopped, refl), (refl, refl)),
     (λ i c. (_, ByRowStep (rest, i, c, stopped, refl), (update_same w.row i c, inl (refl, refl)))),
-    λ k at rows one. (_, ByOpenStep (rest, k, at, stopped, rows, one, refl), refl)),
+    λ k at rows one. (_, ByOpenStep (rest, k, at, stopped, rows, one, refl), refl),
+  ),
 )

@@ -7,7 +7,7 @@ use Rattle.mesh_words.specs.Claims.{Progress, Claimed, Failed, Drawn, Half, Whol
 use Rattle.mesh_words.specs.Entries.{HasEntry, Noted}
 use Rattle.mesh_words.specs.Places.{member_of, child_place}
 use Rattle.mesh_words.specs.Setup.{Setup, setup_of}
-use Rattle.mesh_words.specs.Views.{first_half, second_half, closing, taking_back, worker, reader, Note, Still, At, Past, Work, Read, Views}
+use Rattle.mesh_words.specs.Views.{first_half, second_half, taking_back, worker, reader, Note, Still, At, Past, Views}
 use Rattle.mesh_words.specs.Words.{Node, node, Words}
 use Rattle.mesh_state.specs.Laws.{Always}
 use Rattle.mesh_state.specs.Rule.{Lawful}
