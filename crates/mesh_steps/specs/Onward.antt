@@ -1,4 +1,4 @@
--- That no seat is stuck: which steps there are from a lawful state, and what the seat knows after them.
+-- Which steps there are from a lawful state, so that walks, passes and claims go on, and what the seat knows after them.
 use Rattle.std.specs.Prelude.{◌≡◌, ℕ, ◌+◌, ◌^◌, ◌<◌, ◌≤◌, Bool, true, false, List, ◌⊎◌}
 use Rattle.mesh_names.specs.Triangles.{Shape}
 use Rattle.mesh_names.specs.Partners.{Across}

@@ -1,4 +1,4 @@
--- That no round is stuck: which steps a worker's pass has for its block and in the second half, and which the owner has for the round.
+-- Which steps a worker's pass has for its block and in the second half, and which the owner has, so that rounds go on.
 use Rattle.std.specs.Prelude.{◌≡◌, ℕ, ◌+◌, ◌<◌, ◌≤◌, Bool, true, List, [], ◌⊎◌}
 use Rattle.mesh_words.specs.Claims.{Progress, Drawn, Half, Whole, Living, claim}
 use Rattle.mesh_words.specs.Entries.{HasEntry, EntryAt, Noted}

@@ -7,7 +7,7 @@ ghost use Rattle.mesh_steps.specs.Onward.{ClaimsGoBack, ClaimsGoOn, PassesJoined
 ghost use Rattle.mesh_steps.specs.OnwardRounds.{FillsGoOn, LoadsGoOn, NotesGoOn, RetiringGoesOn, RoundsGoOn, RowsGoOn};
 
 /// Each step of any seat leads from a lawful state to a lawful one; what it changes; that it leaves
-/// alone the blocks to which walks go; and that no seat is stuck.
+/// alone the blocks to which walks go; and which steps there are, by which seats go on.
 pub fn laws()
     ensures next { NextNamed }
     ensures steps { StepsKeep }
