@@ -10,7 +10,7 @@ use Rattle.mesh_state.specs.Chains.{Finds, Reaches}
 use Rattle.mesh_state.specs.Claims.{draws_of}
 use Rattle.mesh_state.specs.Bisections.{IsPlaceOf}
 use Rattle.mesh_state.specs.Claims.{block_of}
-use Rattle.mesh_state.specs.Laws.{BlocksPlaced, RetiredBorn, LeadOn, WalksShort, PinsBounded, OneHolder, OneClaim, DrawsBounded, FreeRows, WalksAgree, WalksEnd, ParentsBisected, MembersTogether, PlacesAgree, NotesAgree, ReachedKept, ClearRounds}
+use Rattle.mesh_state.specs.Laws.{BlocksPlaced, CoversBisect, RetiredBorn, LeadOn, WalksShort, PinsBounded, OneHolder, OneClaim, DrawsBounded, FreeRows, WalksAgree, WalksEnd, ParentsBisected, MembersTogether, PlacesAgree, NotesAgree, ReachedKept, ClearRounds}
 use Rattle.mesh_state.proofs.FoundAgain.{one_more, placed, found_covers, standing, placed_chained}
 use Rattle.mesh_state.proofs.HeldClaims.{held_one, uses, one_user}
 use Rattle.mesh_state.proofs.Across.{place_one, name_one, no_pin}
@@ -52,6 +52,9 @@ walks_end s w n v (g, r) b c x t st e = ⊎_elim
     (λ o. let z : 0 ≡ c + 1 = sym (ap (λ (l : Node). l.block) o) ∙ e in absurd (omega arith))
     (λ o. let same : o.0 ≡ c = one_more o.0 c (sym (ap (λ (l : Node). l.block) o.2) ∙ e) in subst (λ (i : ℕ). (0 < w.died i) × (w.died i ≤ w.round) × (0 < w.born b → w.died i < w.born b)) same (o.4, o.6, o.5))
     (r.chains.hists b t x st)
+
+pub covers_bisect : CoversBisect
+covers_bisect s w n v (g, r) q may b x m life covers = (r.names.patch b x m life, λ t y c. r.names.sound q may b t y c covers)
 
 pub parents_bisected : ParentsBisected
 parents_bisected s w n v (g, r) q may k b e = ⊎_elim (λ t. inl (f.1, t.0, t.1)) (λ t. inr (w.name (member_of t.0 t.1), t.0, t.2, t.5, t.4)) f.4

@@ -1,13 +1,15 @@
 -- The laws of the lists of a round, of the history, and of blocks that may not be used again.
-use Rattle.std.proofs.Common.{◌≡◌, ℕ, ◌+◌, ◌<◌, ◌≤◌, Bool, true, false, refl, sym, ap, ◌∙◌, ⊎_elim, arith}
-use native.Mathlib.Decide.{dec_lt}
-use Rattle.mesh_words.specs.Claims.{Drawn}
+use Rattle.std.proofs.Common.{◌≡◌, ℕ, zero, suc, ◌+◌, ◌<◌, ◌≤◌, Bool, true, false, refl, sym, ap, ◌∙◌, inl, inr, ⊎_elim, arith}
+use mathlib.Core.Logic.{dite}
+use native.Mathlib.Decide.{ℕ_discrete, dec_lt}
+use Rattle.mesh_words.specs.Claims.{Drawn, Living}
 use Rattle.mesh_words.specs.Entries.{HasEntry}
 use Rattle.mesh_words.specs.Places.{member_of}
-use Rattle.mesh_state.specs.Ghosts.{Life, Free, chained, stands}
-use Rattle.mesh_state.specs.Claims.{bit_of}
-use Rattle.mesh_state.specs.RoundLaws.{BetweenForests, DiffersByPatches, BisectedClosed, ClaimsAimed, ClaimsDrawn, ListsKnown, HistoryRight, ToldPrefix, NotesInHistory, DrawsApart, QuietRound, WalksBegin, ChainsStand, StandingKept, RoundsLeft, WorkerAlone}
-use Rattle.mesh_state.proofs.FoundAgain.{chained_stands, seen_live}
+use Rattle.mesh_state.specs.Ghosts.{Held, Life, Free, chained, stands}
+use Rattle.mesh_state.specs.Claims.{bit_of, Shape}
+use Rattle.mesh_state.specs.Bisections.{IsPlaceOf}
+use Rattle.mesh_state.specs.RoundLaws.{BetweenForests, DiffersByPatches, BisectedClosed, ClaimsAimed, LivingAimed, ClaimsDrawn, ListsKnown, HistoryRight, ToldPrefix, NotesInHistory, DrawsApart, QuietRound, WalksBegin, ChainsStand, StandingKept, RoundsLeft, WorkerAlone}
+use Rattle.mesh_state.proofs.FoundAgain.{chained_stands, found_covers, one_more, seen_live}
 use Rattle.mesh_state.proofs.ChainSteps.{named, older_named}
 use Rattle.mesh_state.proofs.Across.{Went, half_of}
 use Rattle.mesh_state.proofs.Lists.{bisected_closed, entry_low, entry_at}
@@ -24,6 +26,36 @@ closed s w n v (g, r) q may = bisected_closed s w n v g r q may
 
 pub aimed : ClaimsAimed
 aimed s w n v (g, r) j x m p one h = let e = r.claims.held j x m p h in let l = r.labels x j m p e one in (r.claims.bits x ∙ ap bit_of e, (l.0, l.1, l.2, l.3, l.6))
+
+pub living_aimed : LivingAimed
+living_aimed s w n v (g, r) j x m b late early h = (r.claims.bits x ∙ ap bit_of held, (r.names.patch b x m shape.0).0, here.1, absent, r.plan.within k late early (b, here.0))
+  where
+    k : ℕ
+    k = w.name (member_of b false)
+
+    held : g.stage x ≡ Held j m (Living b)
+    held = r.claims.held j x m (Living b) h
+
+    shape : Shape w.round w.head w.born g.life x m (Living b)
+    shape = r.claims.shape x j m (Living b) held
+
+    lives : w.died b ≡ 0
+    lives = dite (ℕ_discrete (w.died b) 0) (λ e. e) (λ o. let d = r.chains.dieds b x m shape.0 (omega arith) in let c = shape.1 in absurd (omega arith))
+
+    here : (g.who (w.round + 1) k ≡ b + 1) × IsPlaceOf s w.name (g.who (w.round + 1)) x k
+    here = let c = shape.1 in r.names.sound (w.round + 1) (inr (refl, early)) b false x (ap (λ (l : Life). chained l false) shape.0) (omega arith, omega arith, inl lives)
+
+    -- the last finished round cannot have it by another block, which would be its block now, nor by this one, which is younger
+    no_block : (c : ℕ) → g.who w.round k ≡ c + 1 → ⊥
+    no_block c e = let f = (r.names.fits w.round (inl (inl refl))).found k c e in let v1 = found_covers w.hist w.born w.died g.life w.round f.1 c f.5.0 (w.head f.1) f.5.1 in let low = v1.1 in
+        ⊎_elim (λ same. let one : c ≡ b = one_more c b (sym same ∙ here.0) in let young : w.born c ≡ w.born b = ap w.born one in let d = shape.1 in omega arith) (λ none. let d = here.0 in omega arith) (r.names.either k c early e)
+
+    absent : g.who w.round k ≡ 0
+    absent = by (g.who w.round k) refl
+      where
+        by : (i : ℕ) → g.who w.round k ≡ i → g.who w.round k ≡ 0
+        by zero e = e
+        by (suc c) e = absurd (no_block c (e ∙ omega arith))
 
 pub lists_known : ListsKnown
 lists_known s w n v (g, r) j k = r.plan.same j k

@@ -6,7 +6,7 @@ use Rattle.mesh_words.specs.Places.{member_of}
 use Rattle.mesh_state.specs.Ghosts.{Life, Placed, chained, stands}
 use Rattle.mesh_state.specs.Chains.{Finds}
 use Rattle.mesh_state.specs.Claims.{bit_of}
-use Rattle.mesh_state.specs.SeatLaws.{BeginsEqual, LivingClaimed, LivingBlocks, FindingsRight, FinishedFindings, WorkersWent, OneHalf, FilledStays, LoadedStays, OwnerSure, PinsCounted, LinkWords, HistoryWords, RetiredNoted}
+use Rattle.mesh_state.specs.SeatLaws.{BeginsEqual, LivingClaimed, LivingBlocks, FindingsRight, FinishedFindings, WorkersWent, OneHalf, FilledStays, LoadedStays, OwnerSure, PinsCounted, LinkWords, HistoryWords, RetiredNoted, PinsOut, NumbersKnown, BlocksKnown, OthersEmpty, PassesCounted}
 use Rattle.mesh_state.proofs.FoundAgain.{one_more, placed}
 use Rattle.mesh_state.proofs.Across.{half_of, place_one}
 use Rattle.mesh_state.proofs.Lawful.{walks_end}
@@ -94,3 +94,22 @@ history_words s w n v (g, r) a c x t h e = ⊎_elim
 
 pub retired_noted : RetiredNoted
 retired_noted s w n v (g, r) b x m u e = r.retired b x m u e
+
+pub pins_out : PinsOut
+pins_out s w n v (g, r) = (r.pins.count, r.pins.now, r.stock.left)
+
+pub numbers_known : NumbersKnown
+numbers_known s w n v (g, r) = (r.stock.finished, r.stock.cursor_is, r.stock.free_is)
+
+pub blocks_known : BlocksKnown
+blocks_known s w n v (g, r) b = ((r.note.undone b, λ t. r.note.all b t.0 t.1 t.2), r.hand b, r.note.placed b, r.stock.never b)
+
+pub others_empty : OthersEmpty
+others_empty s w n v (g, r) j = (
+  (λ other second. let u = (r.works j).only other second in ((λ x m p h. ⊎_elim second other (r.holders x j m p (r.claims.held j x m p h))), r.drawn.only j other second, u.0, u.1, u.2, u.3)),
+  r.pins.readers j,
+  r.pins.few j,
+)
+
+pub passes_counted : PassesCounted
+passes_counted s w n v (g, r) = (r.rules.owner.0, r.rules.one, r.rules.workers, r.rules.readers, r.rules.halves)

@@ -9,8 +9,8 @@ use Rattle.mesh_words.specs.Places.{member_of}
 use Rattle.mesh_words.specs.Entries.{HasEntry}
 use Rattle.mesh_words.specs.Sums.{sum_below, one_where}
 use Rattle.mesh_state.specs.Ghosts.{Life, Placed, chained, stands, Free, Ghost}
-use Rattle.mesh_state.specs.Chains.{Reaches}
-use Rattle.mesh_state.specs.Bisections.{IsPlaceOf, MayRead}
+use Rattle.mesh_state.specs.Chains.{Covers, Reaches}
+use Rattle.mesh_state.specs.Bisections.{IsPlaceOf, IsPatch, MayRead}
 use Rattle.mesh_state.specs.Rule.{Lawful}
 
 -- so it is in each lawful state, with its ghost parts; n is the number of seats that were ever made
@@ -48,6 +48,10 @@ WalksEnd = Always (λ s w n v g. (b c x : ℕ) (t : Bool) → stands (g.life b) 
 -- the block that bisects a name at a round is in the chain of a place of the name, with the name as that member's
 abbrev pub BlocksPlaced : Type 0
 BlocksPlaced = AtRounds (λ s w g q who. (k b : ℕ) → who k ≡ b + 1 → (t : Bool) × (x : ℕ) × (w.name (member_of b t) ≡ k) × (chained (g.life b) t ≡ x + 1) × IsPlaceOf s w.name who x k)
+
+-- a block in a chain that covers a round that may be read has the names of a patch, and bisects its members at the round, each at its place; so no other block covers the round with one of these names
+abbrev pub CoversBisect : Type 0
+CoversBisect = AtRounds (λ s w g q who. (b x m : ℕ) → g.life b ≡ Placed x m → Covers w.born w.died q b → IsPatch s w.name b m × ((t : Bool) (y : ℕ) → chained (g.life b) t ≡ y + 1 → (who (w.name (member_of b t)) ≡ b + 1) × IsPlaceOf s w.name who y (w.name (member_of b t))))
 
 -- a retired block was born before; so retired rounds fall along each walk
 abbrev pub RetiredBorn : Type 0

@@ -1,6 +1,6 @@
 -- What the rule says of the lists of a round, of the history, and of blocks that may not be used again.
 use Rattle.std.specs.Prelude.{◌≡◌, ℕ, ◌+◌, ◌<◌, ◌≤◌, Bool, true, false, List, ◌++◌, length, ◌⊎◌, ◌↔◌}
-use Rattle.mesh_words.specs.Views.{first_half, second_half, closing, worker}
+use Rattle.mesh_words.specs.Views.{resting, first_half, second_half, closing, taking_back, worker}
 use Rattle.mesh_words.specs.Claims.{Progress, Drawn, Living, claim}
 use Rattle.mesh_words.specs.Entries.{HasEntry, EntryAt}
 use Rattle.mesh_words.specs.Places.{member_of}
@@ -26,6 +26,10 @@ BisectedClosed = AtRounds (λ s w g q who. IsClosed s (Holds who))
 -- in the first half a claim is of a patch of the target that the last finished round has not, and its bit is set at the place of the patch's first member
 abbrev pub ClaimsAimed : Type 0
 ClaimsAimed = Always (λ s w n v g. (j x m : ℕ) (p : Progress) → v.ruling.phase ≡ first_half → HasEntry (v.claims j) (claim x m p) → (w.claimed x ≡ 1) × ((k : ℕ) × (s.leads k ≡ 1) × IsPlaceOf s w.name (g.who (w.round + 1)) x k × (g.who w.round k ≡ 0) × HasEntry v.ruling.plan.target k))
+
+-- from its first half on, until it is taken back, a claim with a living block is so too: the first name of the block is that of the patch
+abbrev pub LivingAimed : Type 0
+LivingAimed = Always (λ s w n v g. (j x m b : ℕ) → resting < v.ruling.phase → v.ruling.phase < taking_back → HasEntry (v.claims j) (claim x m (Living b)) → let k : ℕ = w.name (member_of b false) in (w.claimed x ≡ 1) × (s.leads k ≡ 1) × IsPlaceOf s w.name (g.who (w.round + 1)) x k × (g.who w.round k ≡ 0) × HasEntry v.ruling.plan.target k)
 
 -- the workers' passes have the lists of the round
 abbrev pub ListsKnown : Type 0

@@ -1,12 +1,12 @@
 -- What the rule says of what seats know, and of blocks and claims of the round in work.
-use Rattle.std.specs.Prelude.{◌≡◌, ℕ, ◌+◌, ◌<◌, ◌≤◌, Bool, false, ◌⊎◌}
-use Rattle.mesh_words.specs.Views.{resting, first_half, second_half, closing, taking_back, worker, reader}
+use Rattle.std.specs.Prelude.{◌≡◌, ℕ, ◌+◌, ◌<◌, ◌≤◌, Bool, false, [], ◌⊎◌, ◌↔◌}
+use Rattle.mesh_words.specs.Views.{resting, first_half, second_half, closing, taking_back, worker, reader, ruler}
 use Rattle.mesh_words.specs.Claims.{Progress, Drawn, Half, Living, claim}
 use Rattle.mesh_words.specs.Entries.{HasEntry, Noted}
 use Rattle.mesh_words.specs.Places.{member_of, child_place}
 use Rattle.mesh_words.specs.Sums.{sum_below, one_where}
 use Rattle.mesh_words.specs.Words.{Node, node}
-use Rattle.mesh_state.specs.Ghosts.{Free, Placed, chained, stands}
+use Rattle.mesh_state.specs.Ghosts.{Free, Placed, Undone, chained, stands}
 use Rattle.mesh_state.specs.Chains.{IsPlace}
 use Rattle.mesh_state.specs.Bisections.{IsPlaceOf, IsPatch}
 use Rattle.mesh_state.specs.Laws.{Always}
@@ -75,3 +75,26 @@ HistoryWords = Always (λ s w n v g. (a c x : ℕ) (t : Bool) → stands (g.life
 -- each block that was retired in the round in work is noted in the view of a worker's pass or the owner's
 abbrev pub RetiredNoted : Type 0
 RetiredNoted = Always (λ s w n v g. (b x m : ℕ) → g.life b ≡ Placed x m → w.died b ≡ w.round + 1 → ((j : ℕ) × HasEntry (v.work j).retired b) ⊎ HasEntry v.ruling.retired b)
+
+-- of each round as many pins were taken as were given back and are in views: of the last finished one as ROUND shows, and of one that was left as the owner noted
+abbrev pub PinsOut : Type 0
+PinsOut = Always (λ s w n v g. ((q : ℕ) → g.pins q ≡ w.released q + sum_below n (λ j. one_where (v.read j).pin (q + 1))) × (g.pins w.round ≡ w.taken) × ((q k : ℕ) → HasEntry v.ruling.left (q, k) → (q < w.round) × (g.pins q ≡ k)))
+
+-- the owner knows the last finished round, and what it noted of CURSOR, which is nothing in the first half, and of FREE
+abbrev pub NumbersKnown : Type 0
+NumbersKnown = Always (λ s w n v g. (v.ruling.finished ≡ w.round) × ((k : ℕ) → v.ruling.cursor ≡ k + 1 → (v.ruling.phase ≡ first_half → ⊥) × (w.cursor ≡ k)) × ((k : ℕ) → v.ruling.free ≡ k + 1 → w.free ≡ k))
+
+-- the owner knows which blocks were taken back; blocks in its hand are free; one that it noted with its places stands there; and one that no earlier round drew is free, or in a row that the round in work drew
+abbrev pub BlocksKnown : Type 0
+BlocksKnown = Always (λ s w n v g. (b : ℕ) → (HasEntry v.ruling.undone b ↔ ((x : ℕ) × (m : ℕ) × (g.life b ≡ Undone x m))) × (HasEntry v.ruling.hand b → (v.ruling.phase ≡ first_half → ⊥) × (g.life b ≡ Free))
+    × ((x m : ℕ) → HasEntry v.ruling.placed (b, x, m) → (g.life b ≡ Placed x m) ⊎ (g.life b ≡ Undone x m)) × (v.ruling.ever ≤ b → (g.life b ≡ Free) ⊎ ((i : ℕ) × (i < w.cursor) × (i < w.free) × (w.row i ≡ b))))
+
+-- a seat that is neither the owner's nor a worker's, as one that was joined, has no claim, draw or finding; one that is not a reader's has no pin and is not ready for one; and a seat that was never made is of no kind
+abbrev pub OthersEmpty : Type 0
+OthersEmpty = Always (λ s w n v g. (j : ℕ) → ((v.kind j ≡ worker → ⊥) → (j ≡ 0 → ⊥) → ((x m : ℕ) (p : Progress) → HasEntry (v.claims j) (claim x m p) → ⊥) × ((v.work j).drawn ≡ []) × ((v.work j).found ≡ []) × ((v.work j).known ≡ []) × ((v.work j).open_ ≡ []) × ((v.work j).given ≡ []))
+    × ((v.kind j ≡ reader → ⊥) → ((v.read j).pin ≡ 0) × ((v.read j).ready ≡ 0)) × (n ≤ j → v.kind j ≡ 0))
+
+-- the owner's seat is the first, and no other; it knows how many workers' and readers' passes are out; and workers' are so in the two halves alone
+abbrev pub PassesCounted : Type 0
+PassesCounted = Always (λ s w n v g. (v.kind 0 ≡ ruler) × ((j : ℕ) → v.kind j ≡ ruler → j ≡ 0) × (v.ruling.workers ≡ sum_below n (λ j. one_where (v.kind j) worker)) × (v.ruling.readers ≡ sum_below n (λ j. one_where (v.kind j) reader))
+    × ((v.ruling.phase ≡ first_half → ⊥) → (v.ruling.phase ≡ second_half → ⊥) → v.ruling.workers ≡ 0))

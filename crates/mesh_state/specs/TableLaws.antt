@@ -4,15 +4,13 @@ use Rattle.mesh_words.specs.Claims.{Progress, claim}
 use Rattle.mesh_words.specs.Entries.{HasEntry}
 use Rattle.mesh_words.specs.Places.{member_of}
 use Rattle.mesh_words.specs.Setup.{places}
-use Rattle.mesh_words.specs.Views.{worker, reader, At}
-use Rattle.mesh_words.specs.Words.{Node}
+use Rattle.mesh_words.specs.Views.{At}
 use Rattle.mesh_state.specs.Ghosts.{chained, stands}
 use Rattle.mesh_state.specs.Chains.{IsPlace}
 use Rattle.mesh_state.specs.Claims.{block_of}
 use Rattle.mesh_state.specs.Bisections.{IsPlaceOf}
 use Rattle.mesh_state.specs.Inside.{IsLabel, ListedOnce}
 use Rattle.mesh_state.specs.Laws.{Always, AtRounds}
-use Rattle.mesh_state.specs.WalkSteps.{WorkNext, ReadNext}
 
 -- a block that a row below FREE, a chain word or a claim names is below the pool, and so is one that stands
 abbrev pub BlocksInPool : Type 0
@@ -43,10 +41,6 @@ ElementsNamed = AtRounds (λ s w g q who. (x k : ℕ) → IsPlaceOf s w.name who
 -- the NAME words of a block to which a pass has gone on its walk for an element show which member stands at the element's place
 abbrev pub WalkSides : Type 0
 WalkSides = Always (λ s w n v g. (j x k b : ℕ) (t : Bool) → ((v.work j).walk ≡ At x k b t → (u : Bool) → (w.name (member_of b u) ≡ k → u ≡ t) × (u ≡ t → w.name (member_of b u) ≡ k)) × ((q : ℕ) → (v.read j).pin ≡ q + 1 → (v.read j).walk ≡ At x k b t → (u : Bool) → (w.name (member_of b u) ≡ k → u ≡ t) × (u ≡ t → w.name (member_of b u) ≡ k)))
-
--- where the word that a walk for an element loads next names a block, a member of the block has the element's name, to which the walk can go
-abbrev pub NextNamed : Type 0
-NextNamed = Always (λ s w n v g. (j x k b : ℕ) (l : Node) → l.block ≡ b + 1 → (v.kind j ≡ worker → WorkNext s w (v.work j) x k l → (t : Bool) × (w.name (member_of b t) ≡ k)) × ((q : ℕ) → v.kind j ≡ reader → (v.read j).pin ≡ q + 1 → ReadNext s w (v.read j) x k l → (t : Bool) × (w.name (member_of b t) ≡ k)))
 
 -- a view lists a claim once
 abbrev pub ClaimsListedOnce : Type 0

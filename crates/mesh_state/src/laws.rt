@@ -1,20 +1,13 @@
 //! Laws over the definitions alone.
+ghost use Rattle.mesh_state.specs.Laws.{BlocksPlaced, ClearRounds, CoversBisect, DrawsBounded, FreeRows, MembersTogether, NotesAgree, OneClaim, OneHolder, ParentsBisected, PinsBounded, PlacesAgree, ReachedKept, RetiredBorn, WalksAgree, WalksEnd, WalksShort};
 ghost use Rattle.mesh_state.specs.ClaimLaws.{BitsClaimed, DrawsCounted, SecondPlaces, StagesViewed, TargetLeast, UnbornBlocks, UnbornClaimed};
+ghost use Rattle.mesh_state.specs.RoundLaws.{BetweenForests, BisectedClosed, ChainsStand, ClaimsAimed, ClaimsDrawn, DiffersByPatches, DrawsApart, HistoryRight, ListsKnown, LivingAimed, NotesInHistory, QuietRound, RoundsLeft, StandingKept, ToldPrefix, WalksBegin, WorkerAlone};
+ghost use Rattle.mesh_state.specs.SeatLaws.{BeginsEqual, BlocksKnown, FilledStays, FindingsRight, FinishedFindings, HistoryWords, LinkWords, LivingBlocks, LivingClaimed, LoadedStays, NumbersKnown, OneHalf, OthersEmpty, OwnerSure, PassesCounted, PinsCounted, PinsOut, RetiredNoted, WorkersWent};
+ghost use Rattle.mesh_state.specs.TableLaws.{BlocksInPool, BlocksViewed, ChainsNamed, ClaimsListedOnce, ElementsNamed, PlacesInTable, WalkSides};
 ghost use Rattle.mesh_state.specs.Fresh.{FreshFromList, FreshIsLawful};
-ghost use Rattle.mesh_state.specs.SquareRun.{SquareFollows, SquareReads, SquareRefused, SquareRuns, SquareVisits};
-ghost use Rattle.mesh_state.specs.RoundForests.{BisectedCoded, HistoryCoarsens, KeptForests, LeastIsTarget, LeastWhenNeeded, ReadableForests, ReadsForests};
-ghost use Rattle.mesh_state.specs.RoundLaws.{BetweenForests, BisectedClosed, ChainsStand, ClaimsAimed, ClaimsDrawn, DiffersByPatches, DrawsApart, HistoryRight, ListsKnown, NotesInHistory, QuietRound, RoundsLeft, StandingKept, ToldPrefix, WalksBegin, WorkerAlone};
-ghost use Rattle.mesh_state.specs.SeatLaws.{BeginsEqual, FilledStays, FindingsRight, FinishedFindings, HistoryWords, LinkWords, LivingBlocks, LivingClaimed, LoadedStays, OneHalf, OwnerSure, PinsCounted, RetiredNoted, WorkersWent};
-ghost use Rattle.mesh_state.specs.Local.{StepsLocal};
-ghost use Rattle.mesh_state.specs.Reuse.{StepsSpare};
-ghost use Rattle.mesh_state.specs.Steps.{StepsKeep};
-ghost use Rattle.mesh_state.specs.Reading.{LeastRead, ReachedStays, ReadsForest, ReadsHistory, WordsRead};
-ghost use Rattle.mesh_state.specs.TableLaws.{BlocksInPool, BlocksViewed, ChainsNamed, ClaimsListedOnce, ElementsNamed, NextNamed, PlacesInTable, WalkSides};
-ghost use Rattle.mesh_state.specs.Laws.{BlocksPlaced, ClearRounds, DrawsBounded, FreeRows, MembersTogether, ReachedKept, NotesAgree, OneClaim, OneHolder, ParentsBisected, PinsBounded, PlacesAgree, RetiredBorn, WalksAgree, WalksEnd, WalksShort};
 
-/// What holds in each lawful state; that each step of any seat leads from one to one, and what it
-/// leaves alone; what is read from the words; that the fresh table is lawful; and that there are
-/// runs on the square, from the claim of its patch to the second draw of its block.
+/// What holds in each lawful state, of its words, its claims and what seats know; and that the fresh
+/// table is lawful.
 pub fn laws()
     ensures bounded { PinsBounded }
     ensures holder { OneHolder }
@@ -30,6 +23,7 @@ pub fn laws()
     ensures rows { FreeRows }
     ensures walks { WalksAgree }
     ensures placed { BlocksPlaced }
+    ensures covers { CoversBisect }
     ensures ends { WalksEnd }
     ensures born { RetiredBorn }
     ensures short { WalksShort }
@@ -43,6 +37,7 @@ pub fn laws()
     ensures differs { DiffersByPatches }
     ensures closed { BisectedClosed }
     ensures aimed { ClaimsAimed }
+    ensures living_aimed { LivingAimed }
     ensures lists { ListsKnown }
     ensures history { HistoryRight }
     ensures told { ToldPrefix }
@@ -66,6 +61,11 @@ pub fn laws()
     ensures loaded { LoadedStays }
     ensures sure { OwnerSure }
     ensures pinned { PinsCounted }
+    ensures out { PinsOut }
+    ensures numbers { NumbersKnown }
+    ensures blocks { BlocksKnown }
+    ensures others { OthersEmpty }
+    ensures passes { PassesCounted }
     ensures links { LinkWords }
     ensures histories { HistoryWords }
     ensures retired { RetiredNoted }
@@ -75,28 +75,7 @@ pub fn laws()
     ensures named { ChainsNamed }
     ensures elements { ElementsNamed }
     ensures sides { WalkSides }
-    ensures next { NextNamed }
     ensures once { ClaimsListedOnce }
-    ensures target { LeastIsTarget }
-    ensures coded { BisectedCoded }
-    ensures forests { ReadsForests }
-    ensures kept { KeptForests }
-    ensures readable { ReadableForests }
-    ensures words { WordsRead }
-    ensures read { ReadsHistory }
-    ensures forest { ReadsForest }
-    ensures least_read { LeastRead }
-    ensures reached { ReachedStays }
-    ensures coarsened { HistoryCoarsens }
-    ensures least { LeastWhenNeeded }
-    ensures steps { StepsKeep }
-    ensures local { StepsLocal }
-    ensures spare { StepsSpare }
     ensures list { FreshFromList }
     ensures fresh { FreshIsLawful }
-    ensures square { SquareRuns }
-    ensures square_reads { SquareReads }
-    ensures follows { SquareFollows }
-    ensures refused { SquareRefused }
-    ensures visits { SquareVisits }
 {}

@@ -1,10 +1,12 @@
 -- Places and members have different numbers.
-use Rattle.std.proofs.Common.{◌≡◌, ℕ, ◌+◌, ◌-◌, ◌*◌, ◌/◌, ◌%◌, ◌<◌, ◌≤◌, Bool, true, false, cond, ltb, refl, sym, ap, ◌∙◌, subst, arith, ltb-true, lt-ltb}
+use Rattle.std.proofs.Common.{◌≡◌, ℕ, ◌+◌, ◌-◌, ◌*◌, ◌/◌, ◌%◌, ◌<◌, ◌≤◌, Bool, true, false, cond, ltb, eqb, refl, sym, ap, ◌∙◌, subst, arith, ltb-true, lt-ltb}
 use native.Mathlib.Decide.{dec_lt}
 use Rattle.mesh_words.specs.declared.layout.Layout.{Layout}
 use Rattle.mesh_words.specs.declared.layout.ElemAt.{ElemAt}
 use Rattle.mesh_words.specs.declared.layout.ElemAt.TheVariants.{Macro, Child}
-use Rattle.mesh_words.specs.Layout.{IsElemAt}
+use Rattle.mesh_names.specs.Names.{digit}
+use Rattle.mesh_words.specs.Layout.{IsElemAt, OfBlock, NameOf, HistoryOf}
+use Rattle.mesh_words.specs.Words.{NumbersTell}
 use Rattle.mesh_words.specs.Places.{member_of, child_place, place_count, place_number, place_at, PlacesNumbered}
 
 -- a member's number tells its block and its side
@@ -66,3 +68,27 @@ place_back l x h = elim (dec_lt x l.elements) [
 
 pub places_numbered : PlacesNumbered
 places_numbered l = (place_to l, place_back l)
+
+child_at : (l : Layout) (b : ℕ) (t c : Bool) (i : ℕ) → i ≡ 2 * digit t + digit c → place_at l (child_place l.elements b t c) ≡ Child b i
+child_at l b t c i e =
+    let low : digit c < 2 = small c in let two : digit t < 2 = small t in
+    let p : (child_place l.elements b t c - l.elements) / 4 ≡ b = omega arith in
+    let q : (child_place l.elements b t c - l.elements) % 4 ≡ i = omega arith in
+    block_place l (child_place l.elements b t c) (omega arith) ∙ (λ j. Child (p j) (q j))
+  where
+    small : (u : Bool) → digit u < 2
+    small true = omega arith
+    small false = omega arith
+
+member_side : (b : ℕ) (t : Bool) → (member_of b t / 2 ≡ b) × (eqb (member_of b t % 2) 1 ≡ t)
+member_side b true = let p : (2 * b + 1) % 2 ≡ 1 = omega arith in (omega arith, ap (λ i. eqb i 1) p)
+member_side b false = let p : (2 * b + 0) % 2 ≡ 0 = omega arith in (omega arith, ap (λ i. eqb i 1) p)
+
+pub numbers_tell : NumbersTell
+numbers_tell = record {
+  names = λ b t. let p = member_side b t in λ i. OfBlock (p.0 i) (NameOf (p.1 i));
+  histories = λ b t. let p = member_side b t in λ i. OfBlock (p.0 i) (HistoryOf (p.1 i));
+  tops = macro_place;
+  firsts = λ l b. (child_at l b false false 0 refl, child_at l b false true 1 refl);
+  seconds = λ l b. (child_at l b true false 2 refl, child_at l b true true 3 refl);
+}

@@ -1,11 +1,12 @@
 -- The words of a table as functions of numbers: of rounds, rows, places, blocks and members.
-use Rattle.std.specs.Prelude.{◌≡◌, ℕ, ◌+◌, ◌*◌, ◌/◌, ◌%◌, ◌<◌, ◌≤◌, cond, ltb, eqb, List, length, slice_set}
+use Rattle.std.specs.Prelude.{◌≡◌, ℕ, ◌+◌, ◌*◌, ◌/◌, ◌%◌, ◌<◌, ◌≤◌, Bool, true, false, cond, ltb, eqb, List, length, slice_set}
 use Rattle.mesh_words.specs.declared.layout.Layout.{Layout}
+use Rattle.mesh_words.specs.declared.layout.ElemAt.TheVariants.{Macro, Child}
 use Rattle.mesh_words.specs.declared.link.Link.{Link}
 use Rattle.mesh_words.specs.Functions.{update}
 use Rattle.mesh_words.specs.Links.{after, IsLink, link_word}
 use Rattle.mesh_words.specs.Layout.{TableWord, Round, Cursor, FreeCount, Released, LinkOf, Row, OfBlock, Born, Died, NameOf, HistoryOf, address, word_count, content}
-use Rattle.mesh_words.specs.Places.{place_count, place_at}
+use Rattle.mesh_words.specs.Places.{member_of, child_place, place_count, place_at}
 
 -- what a LINK or HISTORY word names: one more than a block, or 0 for none, and its retired round
 pub record Node : Type 0 where
@@ -79,6 +80,14 @@ pub record WritesAre (l : Layout) (words : List ℕ) (n : ℕ) : Type 0 where
 -- the law that a write of one word changes one function at one number
 abbrev pub WritesUpdate : Type 0
 WritesUpdate = (l : Layout) (words : List ℕ) (n : ℕ) → length words ≡ word_count l → WritesAre l words n
+
+-- the law of what numbers say: a member's number tells its NAME and HISTORY words, a place below the number of macro elements is the macro element's, and of the places of a block's children the first two are those of its first member
+pub record NumbersTell : Type 0 where
+  pub names : (b : ℕ) (t : Bool) → member_name_word (member_of b t) ≡ OfBlock b (NameOf t)
+  pub histories : (b : ℕ) (t : Bool) → history_word (member_of b t) ≡ OfBlock b (HistoryOf t)
+  pub tops : (l : Layout) (x : ℕ) → x < l.elements → place_at l x ≡ Macro x
+  pub firsts : (l : Layout) (b : ℕ) → (place_at l (child_place l.elements b false false) ≡ Child b 0) × (place_at l (child_place l.elements b false true) ≡ Child b 1)
+  pub seconds : (l : Layout) (b : ℕ) → (place_at l (child_place l.elements b true false) ≡ Child b 2) × (place_at l (child_place l.elements b true true) ≡ Child b 3)
 
 -- the law that a link's word names the link's block and round
 abbrev pub NodesRead : Type 0

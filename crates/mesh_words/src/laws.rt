@@ -6,7 +6,7 @@ ghost use Rattle.mesh_words.specs.NameWords.{NamesRead, NamesSpell};
 ghost use Rattle.mesh_words.specs.Places.{PlacesNumbered};
 ghost use Rattle.mesh_words.specs.Rounds.{RoundsRead, RoundsSpell};
 ghost use Rattle.mesh_words.specs.Setup.{CodesApart};
-ghost use Rattle.mesh_words.specs.Words.{NodesRead, WritesUpdate};
+ghost use Rattle.mesh_words.specs.Words.{NodesRead, NumbersTell, WritesUpdate};
 
 /// Spelling and reading a word are inverse, the words lie apart and fill the table, and there are
 /// those of a fresh one.
@@ -24,6 +24,7 @@ pub fn laws()
     ensures writes_one { WritesOne }
     ensures codes_apart { CodesApart }
     ensures places_numbered { PlacesNumbered }
+    ensures numbers_tell { NumbersTell }
     ensures nodes_read { NodesRead }
     ensures writes_update { WritesUpdate }
     ensures fresh_listed { FreshWordsListed }

@@ -1,22 +1,10 @@
+use Rattle.mesh_state.proofs.Lawful.{bounded, one_holder, one_claim, draws_bounded, free_rows, walks_agree, blocks_placed, walks_end, retired_born, walks_short, parents_bisected, members_together, places_agree, notes_agree, reached_kept, clear_rounds, covers_bisect}
+use Rattle.mesh_state.proofs.ClaimLaws.{bits_claimed, second_places, stages_viewed, draws_counted, unborn_blocks, unborn_claimed, target_least}
+use Rattle.mesh_state.proofs.RoundLaws.{living_aimed, between, differs, closed, aimed, lists_known, history_right, told_prefix, notes_told, draws_apart, claims_drawn, quiet_round, walks_begin, chains_stand, standing_kept, rounds_left, worker_alone}
+use Rattle.mesh_state.proofs.SeatLaws.{begins_equal, living_claimed, living_blocks, findings_right, finished_findings, workers_went, one_half, filled_stays, loaded_stays, owner_sure, pins_counted, link_words, history_words, retired_noted, pins_out, numbers_known, blocks_known, others_empty, passes_counted}
+use Rattle.mesh_state.proofs.TableLaws.{blocks_in_pool, blocks_viewed, places_in_table, chains_named, elements_named, walk_sides, claims_listed_once}
 use Rattle.mesh_state.proofs.FreshList.{fresh_from_list}
 use Rattle.mesh_state.proofs.Fresh.{fresh_is_lawful}
-use Rattle.mesh_state.proofs.Lawful.{blocks_placed, retired_born, walks_short, bounded, one_holder, one_claim, draws_bounded, free_rows, walks_agree, walks_end, parents_bisected, members_together, places_agree, notes_agree, reached_kept, clear_rounds}
-use Rattle.mesh_state.proofs.ClaimLaws.{bits_claimed, second_places, stages_viewed, draws_counted, unborn_blocks, unborn_claimed, target_least}
-use Rattle.mesh_state.proofs.RoundLaws.{between, differs, closed, aimed, lists_known, history_right, told_prefix, notes_told, draws_apart, quiet_round, walks_begin, chains_stand, standing_kept, rounds_left, worker_alone, claims_drawn}
-use Rattle.mesh_state.proofs.SeatLaws.{begins_equal, living_claimed, living_blocks, findings_right, finished_findings, workers_went, one_half, filled_stays, loaded_stays, owner_sure, pins_counted, link_words, history_words, retired_noted}
-use Rattle.mesh_state.proofs.TableLaws.{blocks_in_pool, blocks_viewed, places_in_table, chains_named, elements_named, walk_sides, claims_listed_once}
-use Rattle.mesh_state.proofs.Reading.{words_read}
-use Rattle.mesh_state.proofs.ReadingLaws.{least_read, readable_forests, reads_history, reads_forest, reached_stays}
-use Rattle.mesh_state.proofs.Local.{steps_local}
-use Rattle.mesh_state.proofs.Reuse.{steps_spare}
-use Rattle.mesh_state.proofs.StepsKeep.{next_named, steps_keep}
-use Rattle.mesh_state.proofs.RoundCoarsens.{history_coarsens}
-use Rattle.mesh_state.proofs.RoundForests.{bisected_coded, kept_forests, least_is_target, reads_forests, least_when_needed}
-use Rattle.mesh_state.proofs.SquareFollows.{square_follows}
-use Rattle.mesh_state.proofs.SquareRefused.{square_refused}
-use Rattle.mesh_state.proofs.SquareReads.{square_reads}
-use Rattle.mesh_state.proofs.SquareVisits.{square_visits}
-use Rattle.mesh_state.proofs.SquareRound3.{square_runs}
 use Rattle.mesh_state.proofs.laws.laws.Goals as goal
 
 pub returns-clause-bounded : goal.returns-clause-bounded
@@ -28,6 +16,27 @@ returns-clause-holder c = one_holder
 pub returns-clause-claim : goal.returns-clause-claim
 returns-clause-claim c = one_claim
 
+pub returns-clause-bits : goal.returns-clause-bits
+returns-clause-bits c = bits_claimed
+
+pub returns-clause-seconds : goal.returns-clause-seconds
+returns-clause-seconds c = second_places
+
+pub returns-clause-stages : goal.returns-clause-stages
+returns-clause-stages c = stages_viewed
+
+pub returns-clause-counted : goal.returns-clause-counted
+returns-clause-counted c = draws_counted
+
+pub returns-clause-unborn : goal.returns-clause-unborn
+returns-clause-unborn c = unborn_blocks
+
+pub returns-clause-halves : goal.returns-clause-halves
+returns-clause-halves c = unborn_claimed
+
+pub returns-clause-aim : goal.returns-clause-aim
+returns-clause-aim c = target_least
+
 pub returns-clause-draws : goal.returns-clause-draws
 returns-clause-draws c = draws_bounded
 
@@ -37,8 +46,17 @@ returns-clause-rows c = free_rows
 pub returns-clause-walks : goal.returns-clause-walks
 returns-clause-walks c = walks_agree
 
+pub returns-clause-placed : goal.returns-clause-placed
+returns-clause-placed c = blocks_placed
+
 pub returns-clause-ends : goal.returns-clause-ends
 returns-clause-ends c = walks_end
+
+pub returns-clause-born : goal.returns-clause-born
+returns-clause-born c = retired_born
+
+pub returns-clause-short : goal.returns-clause-short
+returns-clause-short c = walks_short
 
 pub returns-clause-parents : goal.returns-clause-parents
 returns-clause-parents c = parents_bisected
@@ -57,12 +75,6 @@ returns-clause-reuse c = reached_kept
 
 pub returns-clause-clear : goal.returns-clause-clear
 returns-clause-clear c = clear_rounds
-
-pub returns-clause-fresh : goal.returns-clause-fresh
-returns-clause-fresh c = fresh_is_lawful
-
-pub returns-clause-square : goal.returns-clause-square
-returns-clause-square c = square_runs
 
 pub returns-clause-between : goal.returns-clause-between
 returns-clause-between c = between
@@ -91,6 +103,9 @@ returns-clause-noted c = notes_told
 pub returns-clause-drawn : goal.returns-clause-drawn
 returns-clause-drawn c = draws_apart
 
+pub returns-clause-draw : goal.returns-clause-draw
+returns-clause-draw c = claims_drawn
+
 pub returns-clause-quiet : goal.returns-clause-quiet
 returns-clause-quiet c = quiet_round
 
@@ -109,18 +124,6 @@ returns-clause-rounds c = rounds_left
 pub returns-clause-alone : goal.returns-clause-alone
 returns-clause-alone c = worker_alone
 
-pub returns-clause-target : goal.returns-clause-target
-returns-clause-target c = least_is_target
-
-pub returns-clause-forests : goal.returns-clause-forests
-returns-clause-forests c = reads_forests
-
-pub returns-clause-least : goal.returns-clause-least
-returns-clause-least c = least_when_needed
-
-pub returns-clause-draw : goal.returns-clause-draw
-returns-clause-draw c = claims_drawn
-
 pub returns-clause-equal : goal.returns-clause-equal
 returns-clause-equal c = begins_equal
 
@@ -132,6 +135,9 @@ returns-clause-living c = living_blocks
 
 pub returns-clause-findings : goal.returns-clause-findings
 returns-clause-findings c = findings_right
+
+pub returns-clause-finished : goal.returns-clause-finished
+returns-clause-finished c = finished_findings
 
 pub returns-clause-went : goal.returns-clause-went
 returns-clause-went c = workers_went
@@ -160,48 +166,6 @@ returns-clause-histories c = history_words
 pub returns-clause-retired : goal.returns-clause-retired
 returns-clause-retired c = retired_noted
 
-pub returns-clause-coarsened : goal.returns-clause-coarsened
-returns-clause-coarsened c = history_coarsens
-
-pub returns-clause-placed : goal.returns-clause-placed
-returns-clause-placed c = blocks_placed
-
-pub returns-clause-born : goal.returns-clause-born
-returns-clause-born c = retired_born
-
-pub returns-clause-short : goal.returns-clause-short
-returns-clause-short c = walks_short
-
-pub returns-clause-bits : goal.returns-clause-bits
-returns-clause-bits c = bits_claimed
-
-pub returns-clause-seconds : goal.returns-clause-seconds
-returns-clause-seconds c = second_places
-
-pub returns-clause-stages : goal.returns-clause-stages
-returns-clause-stages c = stages_viewed
-
-pub returns-clause-counted : goal.returns-clause-counted
-returns-clause-counted c = draws_counted
-
-pub returns-clause-unborn : goal.returns-clause-unborn
-returns-clause-unborn c = unborn_blocks
-
-pub returns-clause-halves : goal.returns-clause-halves
-returns-clause-halves c = unborn_claimed
-
-pub returns-clause-aim : goal.returns-clause-aim
-returns-clause-aim c = target_least
-
-pub returns-clause-finished : goal.returns-clause-finished
-returns-clause-finished c = finished_findings
-
-pub returns-clause-coded : goal.returns-clause-coded
-returns-clause-coded c = bisected_coded
-
-pub returns-clause-kept : goal.returns-clause-kept
-returns-clause-kept c = kept_forests
-
 pub returns-clause-pool : goal.returns-clause-pool
 returns-clause-pool c = blocks_in_pool
 
@@ -223,47 +187,29 @@ returns-clause-sides c = walk_sides
 pub returns-clause-once : goal.returns-clause-once
 returns-clause-once c = claims_listed_once
 
-pub returns-clause-readable : goal.returns-clause-readable
-returns-clause-readable c = readable_forests
-
-pub returns-clause-words : goal.returns-clause-words
-returns-clause-words c = words_read
-
-pub returns-clause-read : goal.returns-clause-read
-returns-clause-read c = reads_history
-
-pub returns-clause-forest : goal.returns-clause-forest
-returns-clause-forest c = reads_forest
-
-pub returns-clause-reached : goal.returns-clause-reached
-returns-clause-reached c = reached_stays
-
-pub returns-clause-steps : goal.returns-clause-steps
-returns-clause-steps c = steps_keep
-
-pub returns-clause-follows : goal.returns-clause-follows
-returns-clause-follows c = square_follows
-
 pub returns-clause-list : goal.returns-clause-list
 returns-clause-list c = fresh_from_list
 
-pub returns-clause-refused : goal.returns-clause-refused
-returns-clause-refused c = square_refused
+pub returns-clause-fresh : goal.returns-clause-fresh
+returns-clause-fresh c = fresh_is_lawful
 
-pub returns-clause-next : goal.returns-clause-next
-returns-clause-next c = next_named
+pub returns-clause-covers : goal.returns-clause-covers
+returns-clause-covers c = covers_bisect
 
-pub returns-clause-least_read : goal.returns-clause-least_read
-returns-clause-least_read c = least_read
+pub returns-clause-out : goal.returns-clause-out
+returns-clause-out c = pins_out
 
-pub returns-clause-local : goal.returns-clause-local
-returns-clause-local c = steps_local
+pub returns-clause-numbers : goal.returns-clause-numbers
+returns-clause-numbers c = numbers_known
 
-pub returns-clause-square_reads : goal.returns-clause-square_reads
-returns-clause-square_reads c = square_reads
+pub returns-clause-blocks : goal.returns-clause-blocks
+returns-clause-blocks c = blocks_known
 
-pub returns-clause-spare : goal.returns-clause-spare
-returns-clause-spare c = steps_spare
+pub returns-clause-living_aimed : goal.returns-clause-living_aimed
+returns-clause-living_aimed c = living_aimed
 
-pub returns-clause-visits : goal.returns-clause-visits
-returns-clause-visits c = square_visits
+pub returns-clause-others : goal.returns-clause-others
+returns-clause-others c = others_empty
+
+pub returns-clause-passes : goal.returns-clause-passes
+returns-clause-passes c = passes_counted

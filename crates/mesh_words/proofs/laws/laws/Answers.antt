@@ -3,7 +3,7 @@ use Rattle.mesh_words.proofs.RoundWords.{rounds_read, rounds_spell}
 use Rattle.mesh_words.proofs.NameCodes.{names_read, names_spell}
 use Rattle.mesh_words.proofs.CodedNames.{codes_apart}
 use Rattle.mesh_words.proofs.WordPlaces.{words_within, words_apart, words_fill, writes_one}
-use Rattle.mesh_words.proofs.PlaceNumbers.{places_numbered}
+use Rattle.mesh_words.proofs.PlaceNumbers.{places_numbered, numbers_tell}
 use Rattle.mesh_words.proofs.FreshWords.{fresh_words_listed}
 use Rattle.mesh_words.proofs.Writes.{writes_update}
 use Rattle.mesh_words.proofs.laws.laws.Goals as goal
@@ -43,6 +43,9 @@ returns-clause-writes_one c = writes_one
 
 pub returns-clause-places_numbered : goal.returns-clause-places_numbered
 returns-clause-places_numbered c = places_numbered
+
+pub returns-clause-numbers_tell : goal.returns-clause-numbers_tell
+returns-clause-numbers_tell c = numbers_tell
 
 pub returns-clause-nodes_read : goal.returns-clause-nodes_read
 returns-clause-nodes_read c = nodes_read

@@ -1,0 +1,4 @@
+pub mod RoundForests
+pub mod RoundCoarsens
+pub mod Reading
+pub mod ReadingLaws

@@ -1,0 +1,2 @@
+pub mod RoundForests
+pub mod Reading

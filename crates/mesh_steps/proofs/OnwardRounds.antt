@@ -1,0 +1,110 @@
+-- Rounds go on.
+use Rattle.std.proofs.Common.{◌≡◌, ℕ, zero, suc, ◌+◌, ◌<◌, List, ◌∷◌, ◌⊎◌, refl, sym, ap, ◌∙◌, subst, inl, inr, ⊎_elim, arith}
+use Rattle.mesh_words.specs.Setup.{Setup}
+use Rattle.mesh_words.specs.Claims.{Half, Whole, Living, Claim, claim}
+use Rattle.mesh_words.specs.Entries.{HasEntry, EntryAt, Noted}
+use Rattle.mesh_words.specs.Places.{member_of, child_place}
+use Rattle.mesh_words.specs.Views.{Work, Sure, Plan}
+use Rattle.mesh_words.proofs.Functions.{update_same}
+use Rattle.mesh_state.specs.Lists.{IsMember}
+use Rattle.mesh_state.proofs.HeldClaims.{moved_on_here, ended_has}
+use Rattle.mesh_steps.specs.Steps.{ByFillHistory, ByFillName, ByFillDied, ByFillChild, ByLinkSecond, ByRetireStep, ByRetiredStep, ByWorkGives, ByWorkDead, ByWorkOpen, ByLoadHead, ByLoadHistory, ByLoadBorn, ByLoadDied, ByLoadName, ByLoadRow, ByNoteClear, ByNoteFree, ByLoadReleased, ByNoteQuiet, ByNotePlaces, ByBeginStep, ByPlanStep, ByCloseStep, ByRefuseStep, ByRestoreStep, ByUnclaimStep, ByZeroStep, ByRewindStep, ByRowStep, ByOpenStep}
+use Rattle.mesh_steps.specs.OnwardRounds.{LoadsGoOn, FillsGoOn, RetiringGoesOn, RoundsGoOn, NotesGoOn, RowsGoOn}
+use Rattle.mesh_steps.proofs.Onward.{here}
+
+pub loads_go_on : LoadsGoOn
+loads_go_on s w n v (g, r) j x = (
+  (_, ByLoadHead (j, x, refl), here (λ (u : Sure). Noted u.head x (w.head x)) v.sure j _ (inl (refl, refl))),
+  (_, ByLoadHistory (j, x, refl), here (λ (u : Sure). Noted u.hist x (w.hist x)) v.sure j _ (inl (refl, refl))),
+  (_, ByLoadBorn (j, x, refl), here (λ (u : Sure). Noted u.born x (w.born x)) v.sure j _ (inl (refl, refl))),
+  (_, ByLoadDied (j, x, refl), here (λ (u : Sure). Noted u.died x (w.died x)) v.sure j _ (inl (refl, refl))),
+  (_, ByLoadName (j, x, refl), here (λ (u : Sure). Noted u.name x (w.name x)) v.sure j _ (inl (refl, refl))),
+  (_, ByLoadRow (j, x, refl), here (λ (u : Sure). Noted u.row x (w.row x)) v.sure j _ (inl (refl, refl))),
+)
+
+pub fills_go_on : FillsGoOn
+fills_go_on s w n v (g, r) j x m c kind = (
+  (λ mine t. (
+    (λ l. (_, ByFillHistory (j, x, m, c, mine, kind, t, l, refl), (update_same w.hist (member_of c t) l, here (λ (u : Sure). Noted u.hist (member_of c t) l) v.sure j _ (inl (refl, refl))))),
+    (λ k. (
+      (_, ByFillName (j, x, m, c, mine, kind, t, k, refl), (update_same w.name (member_of c t) k, here (λ (u : Sure). Noted u.name (member_of c t) k) v.sure j _ (inl (refl, refl)))),
+      (_, ByFillDied (j, x, m, c, mine, kind, k, refl), (update_same w.died c k, here (λ (u : Sure). Noted u.died c k) v.sure j _ (inl (refl, refl)))),
+    )),
+    λ u l. (_, ByFillChild (j, x, m, c, mine, kind, t, u, l, refl), (update_same w.head (child_place s.elements c t u) l, here (λ (y : Sure). Noted y.head (child_place s.elements c t u) l) v.sure j _ (inl (refl, refl)))),
+  )),
+  λ y l e mine old noted. (
+    _,
+    ByLinkSecond (j, x, y, c, l, subst (λ (i : ℕ). HasEntry (v.claims j) (claim x i (Half c))) e mine, kind, old, noted, refl),
+    here (λ (cs : List Claim). HasEntry cs (claim x m (Whole c))) v.claims j _ (moved_on_here (v.claims j) x m (Whole c) (Half c) mine),
+  ),
+)
+
+-- the names that are not bisected, with the members of a patch
+with_members : (s : Setup) (k : ℕ) (names : List ℕ) → (more : List ℕ) × ((i : ℕ) → HasEntry more i → HasEntry names i ⊎ IsMember s k i) × ((i : ℕ) → IsMember s k i → HasEntry more i)
+with_members s k names = by (s.mate k) refl
+  where
+    by : (m : ℕ) → s.mate k ≡ m → (more : List ℕ) × ((i : ℕ) → HasEntry more i → HasEntry names i ⊎ IsMember s k i) × ((i : ℕ) → IsMember s k i → HasEntry more i)
+    by zero e = (k ∷ names, (λ i h. ⊎_elim (λ z. inr (inl z)) inl h), λ i h. ⊎_elim inl (λ t. let f = t.1 in absurd (omega arith)) h)
+    by (suc m) e = (k ∷ (m + 1) ∷ names, (λ i h. ⊎_elim (λ z. inr (inl z)) (λ t. ⊎_elim (λ z. inr (inr (m, omega arith, z))) inl t) h), λ i h. ⊎_elim inl (λ t. let f = t.1 in let z = t.2 in inr (inl (omega arith))) h)
+
+pub retiring_goes_on : RetiringGoesOn
+retiring_goes_on s w n v (g, r) j c k kind two = (
+  (λ mine. (
+    (λ leads. (_, ByWorkGives (j, kind, half, c, k, leads, mine, refl), here (λ (u : Work). HasEntry u.given (c, k)) v.work j _ (inl refl))),
+    λ dead. (_, ByWorkDead (j, kind, half, c, k, mine, dead, refl), here (λ (u : Work). HasEntry u.open_ k) v.work j _ (inl refl)),
+  )),
+  (λ x mine how. (_, ByWorkOpen (j, kind, half, x, k, mine, how, refl), here (λ (u : Work). HasEntry u.open_ k) v.work j _ (inl refl))),
+  λ mine. (
+    (λ dead. (_, ByRetiredStep (j, kind, half, c, k, mine, dead, more.0, more.1, refl), here (λ (u : Work). (i : ℕ) → IsMember s k i → HasEntry u.open_ i) v.work j _ more.2)),
+    λ alive listed open_. (
+      _,
+      ByRetireStep (j, c, k, mine, kind, subst (λ (p : Plan). HasEntry p.retire k) (sym (r.plan.same j kind)) listed, alive, (λ u. open_ k u (inl refl)), (λ i e u. open_ (i + 1) u (inr (i, e, refl))), more.0, more.1, refl),
+      (
+        update_same w.died c (v.work j).round ∙ (r.walks j).at_work kind,
+        here (λ (u : Work). HasEntry u.retired c) v.work j _ (inl refl),
+        here (λ (u : Work). (i : ℕ) → IsMember s k i → HasEntry u.open_ i) v.work j _ more.2,
+      ),
+    ),
+  ),
+)
+  where
+    half : (v.work j).half ≡ 2
+    half = (r.walks j).half kind ∙ two
+
+    more : (names : List ℕ) × ((i : ℕ) → HasEntry names i → HasEntry (v.work j).open_ i ⊎ IsMember s k i) × ((i : ℕ) → IsMember s k i → HasEntry names i)
+    more = with_members s k (v.work j).open_
+
+pub rounds_go_on : RoundsGoOn
+rounds_go_on s w n v (g, r) = (
+  (λ p names rest rewound left at aim. (_, ByBeginStep (p, names, subst (λ (q : ℕ). EntryAt v.ruling.history q names) (sym r.stock.finished) at, aim, subst (λ (q : ℕ). q < s.rounds) (sym r.stock.finished) left, rest, rewound, refl), (refl, refl))),
+  (λ none one. (
+    (_, ByRefuseStep (one, none, refl), refl),
+    λ retire known living. (_, ByPlanStep (retire, known, one, none, living, refl), (refl, refl)),
+  )),
+  (λ none two open_. (_, ByCloseStep (open_, two, none, refl), refl)),
+  (λ x m c three mine. (
+    _,
+    ByUnclaimStep (((λ e. omega arith), λ e. omega arith), (λ l. omega arith), x, m, Living c, mine, (λ b e. ap Living (let z : c + 1 ≡ b + 1 = e in omega arith)), (λ b e f. f three), refl),
+    λ i p h. (ended_has (v.claims 0) x x i p h).0 refl,
+  )),
+  λ four none. (_, ByRestoreStep (four, none, refl), refl),
+)
+
+pub notes_go_on : NotesGoOn
+notes_go_on s w n v (g, r) = (
+  (λ q k left same. (_, ByNoteClear (q, k, left, same, refl), inl refl)),
+  (_, ByLoadReleased refl, ap (λ q. w.released q + 1) r.stock.finished),
+  (λ same. (_, ByNoteQuiet (same, refl), refl)),
+  (λ c x m mine. (_, ByNotePlaces (c, x, m, mine, refl), inl refl)),
+  λ i c k a rest cursor free low high noted. (_, ByNoteFree (i, a, c, k, (λ e. omega arith), r.rules.halves (λ e. omega arith) (λ e. omega arith), cursor, free, low, high, noted, refl), inl refl),
+)
+
+pub rows_go_on : RowsGoOn
+rows_go_on s w n v (g, r) rest = (
+  (λ c mine. (_, ByZeroStep (rest, c, mine, refl), (update_same w.born c 0, inl (refl, refl)))),
+  λ stopped. (
+    (_, ByRewindStep (rest, stopped, refl), (refl, refl)),
+    (λ i c. (_, ByRowStep (rest, i, c, stopped, refl), (update_same w.row i c, inl (refl, refl)))),
+    λ k at rows one. (_, ByOpenStep (rest, k, at, stopped, rows, one, refl), refl),
+  ),
+)

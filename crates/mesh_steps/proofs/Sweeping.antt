@@ -1,0 +1,398 @@
+-- The owner's sweeps keep the rule.
+use Rattle.std.proofs.Common.{◌≡◌, ◌≢◌, ℕ, ◌+◌, ◌<◌, ◌≤◌, cond, Bool, true, false, List, ◌∷◌, ◌⊎◌, refl, sym, ap, ◌∙◌, subst, inl, inr, ⊎_elim, arith}
+use mathlib.Core.Logic.{dite}
+use native.Mathlib.Decide.{ℕ_discrete, dec_lt}
+use Rattle.mesh_words.specs.Setup.{Setup}
+use Rattle.mesh_words.specs.Functions.{update}
+use Rattle.mesh_words.specs.Words.{Words, Node, node}
+use Rattle.mesh_words.specs.Views.{Views, Sure}
+use Rattle.mesh_words.specs.Claims.{Progress, Drawn, Half, Claim}
+use Rattle.mesh_words.specs.Places.{member_of, child_place}
+use Rattle.mesh_words.specs.Entries.{HasEntry, Noted}
+use Rattle.mesh_words.proofs.Functions.{update_same, update_at, update_other}
+use Rattle.mesh_words.proofs.Entries.{noted_after}
+use Rattle.mesh_state.specs.Ghosts.{Stage, Held, Life, Free, Placed, Undone, chained, stands, Ghost}
+use Rattle.mesh_state.specs.Chains.{Covers, IsPlace, ChainsRule}
+use Rattle.mesh_state.specs.Claims.{ClaimsRule}
+use Rattle.mesh_state.specs.Bisections.{MayRead}
+use Rattle.mesh_state.specs.Sure.{GuardsBlock, GuardsHead, SureRule}
+use Rattle.mesh_state.specs.Owner.{StockRule, NoteRule}
+use Rattle.mesh_state.specs.Rule.{Rule}
+use Rattle.mesh_state.specs.Inside.{InsideRule, IsLabel, LabelRule, ListedOnce}
+use Rattle.mesh_state.proofs.Inside.{not_free, few_below, labels_skip, labels_skip_history}
+use Rattle.mesh_words.proofs.PlaceNumbers.{child_one, child_outside}
+use Rattle.mesh_state.proofs.Lists.{crew_free}
+use Rattle.mesh_state.proofs.FoundAgain.{placed, chained_stands, names_on, goes_on, walks_home, Moves}
+use Rattle.mesh_state.proofs.ChainSteps.{moves_same, skips, cuts_hist}
+use Rattle.mesh_steps.proofs.BlockSteps.{resets, frees}
+use Rattle.mesh_state.proofs.HeldClaims.{not_open, free_not}
+use Rattle.mesh_state.proofs.Across.{Went, some_worker, no_pin}
+
+module _ (s : Setup) (w : Words) (n : ℕ) (v : Views) (g : Ghost) (r : Rule s w n v g) where
+  abbrev d : ℕ
+  d = w.round + 1
+
+  abbrev pub A : ℕ → ℕ → Type 0
+  A = Went w.round w.died v.kind v.work v.read
+
+  abbrev pub Can : ℕ → Type 0
+  Can q = MayRead w.round v.ruling.phase v.read q
+
+  -- no pass is at work
+  abbrev pub Quiet : Type 0
+  Quiet = (v.ruling.phase ≡ 1 → ⊥) × (v.ruling.phase ≡ 2 → ⊥)
+
+  pub none_out : Quiet → v.ruling.workers ≡ 0
+  none_out q = r.rules.halves q.0 q.1
+
+  pub not_work : Quiet → (j : ℕ) → v.kind j ≡ 1 → ⊥
+  not_work q j k = let a = some_worker s w n v g r j k in let b = none_out q in omega arith
+
+  -- then each claim is the owner's
+  pub owners : Quiet → (x j m : ℕ) (p : Progress) → g.stage x ≡ Held j m p → j ≡ 0
+  owners q x j m p h = ⊎_elim (λ e. e) (λ k. let a = some_worker s w n v g r j k in let b = none_out q in absurd (omega arith)) (r.holders x j m p h)
+
+  -- the words that the owner is sure of, by themselves
+  pub record OwnSure (head hist : ℕ → Node) (born died name row : ℕ → ℕ) (u : Sure) : Type 0 where
+    pub heads : (z : ℕ) (l : Node) → Noted u.head z l → head z ≡ l
+    pub hists : (b : ℕ) (t : Bool) (l : Node) → Noted u.hist (member_of b t) l → hist (member_of b t) ≡ l
+    pub dieds : (b k : ℕ) → Noted u.died b k → died b ≡ k
+    pub names : (b : ℕ) (t : Bool) (k : ℕ) → Noted u.name (member_of b t) k → name (member_of b t) ≡ k
+    pub borns : (b k : ℕ) → Noted u.born b k → born b ≡ k
+    pub rows : (i b : ℕ) → Noted u.row i b → row i ≡ b
+
+  pub own_sure : Quiet → OwnSure w.head w.hist w.born w.died w.name w.row (v.sure 0)
+  own_sure q = let z = none_out q in let i = r.sure 0 in record {
+    heads = λ y l f. i.head_is y l f (inl (refl, z));
+    hists = λ b t l f. i.hist_is b t l f (inl (refl, z));
+    dieds = λ b k f. i.died_is b k f (inl (refl, z));
+    names = λ b t k f. i.name_is b t k f (inl (refl, z));
+    borns = λ b k f. i.born_is b k f refl z;
+    rows = λ a b f. i.row_is a b f refl z;
+  }
+
+  -- what a sweep is to show: the rest of the rule reads nothing that it changes
+  pub sweeps_to : Quiet → (cursor free : ℕ) (row claimed : ℕ → ℕ) (head hist : ℕ → Node) (born died : ℕ → ℕ) (life : ℕ → Life) (stage : ℕ → Stage) (cs : ℕ → List Claim) (us : ℕ → Sure) (hand : List ℕ) (cursor_is free_is : ℕ) (undone : List ℕ) (placed : List (ℕ × ℕ × ℕ)) (seen quiet : ℕ)
+      → ClaimsRule s w.round cursor free v.ruling.phase row claimed head born life stage cs → ChainsRule s.elements w.round head hist born died life × Moves Can A s.elements w.round w.head w.hist head hist w.born w.died born died g.life life
+      → ((b x m : ℕ) → life b ≡ Placed x m → (g.life b ≡ Placed x m) × (died b ≡ w.died b)) → ((x j m : ℕ) (p : Progress) → stage x ≡ Held j m p → j ≡ 0) → OwnSure head hist born died w.name row (us 0)
+      → ((b : ℕ) → HasEntry hand b → (v.ruling.phase ≡ 1 → ⊥) × (life b ≡ Free)) → StockRule w.round cursor free row life g.pins (record v.ruling { hand = hand; cursor = cursor_is; free = free_is; undone = undone; placed = placed; seen = seen; quiet = quiet }) → NoteRule w.round w.taken life v.read (record v.ruling { hand = hand; cursor = cursor_is; free = free_is; undone = undone; placed = placed; seen = seen; quiet = quiet }) → InsideRule s free row life stage hand v.ruling.retired → LabelRule s w.name head hist life → ((j : ℕ) → ListedOnce (cs j))
+      → Rule s (record w { cursor = cursor; free = free; row = row; claimed = claimed; head = head; hist = hist; born = born; died = died }) n (record v { claims = cs; sure = us; ruling = record v.ruling { hand = hand; cursor = cursor_is; free = free_is; undone = undone; placed = placed; seen = seen; quiet = quiet } }) (record g { stage = stage; life = life })
+  sweeps_to q cursor free row claimed head hist born died life stage cs us hand cursor_is free_is undone placed seen quiet claims ch back own sure hands stock note inside named once = record {
+    names_apart = r.names_apart;
+    claims = claims;
+    labels = λ x j m p h e. absurd (q.0 e);
+    chains = ch.0;
+    names = names_on s w.name w.name w.head w.hist head hist w.born w.died born died g.life life (λ _ _ _ _ _. refl) w.round v.ruling.phase g.who v.read Can A ch.1 (λ _ k. k) (λ b x m h. r.names.patch b x m (back b x m h).0)
+        (λ b x m l h. let t = back b x m h in let e = t.1 in let c = r.names.calm b x m l t.0 in omega arith) r.names;
+    pins = r.pins;
+    works = λ j. let k = r.works j in record {
+      only = k.only;
+      found = λ x i h. absurd (q.0 (k.found x i h).0);
+      known = λ i h. absurd (q.0 (k.known i h).0);
+      open_ = λ i h. absurd (q.1 (k.open_ i h).0);
+      given = λ b i h. absurd (q.1 (k.given b i h).0);
+    };
+    walks = λ j. walks_home s w.round v.ruling.phase v.ruling.phase w.name w.hist hist w.born w.died born died g.life life g.who (v.kind j) j (v.work j) (not_work q j) (r.walks j);
+    sure = λ j. dite (ℕ_discrete j 0)
+        (λ e. subst (λ (i : ℕ). SureRule s.elements v.ruling.workers head hist born died w.name row stage i (us i)) (sym e) record {
+          head_is = λ z l f _. sure.heads z l f;
+          hist_is = λ b t l f _. sure.hists b t l f;
+          died_is = λ b k f _. sure.dieds b k f;
+          name_is = λ b t k f _. sure.names b t k f;
+          born_is = λ b k f _ _. sure.borns b k f;
+          row_is = λ i b f _ _. sure.rows i b f;
+        })
+        (λ ne. record {
+          head_is = λ z l f h. absurd (no_head j ne z h);
+          hist_is = λ b t l f h. absurd (no_block j ne b h);
+          died_is = λ b k f h. absurd (no_block j ne b h);
+          name_is = λ b t k f h. absurd (no_block j ne b h);
+          born_is = λ b k f z _. absurd (ne z);
+          row_is = λ i b f z _. absurd (ne z);
+        });
+    goes = λ j. goes_on s w.name w.name w.head w.hist head hist w.born w.died born died g.life life (λ _ _ _ _ _. refl) w.round v.ruling.phase g.who v.read Can A ch.1 (λ i p e. (inl (inr (i, e)), r.pins.past i p e)) (λ i p b e h a. (inl (i, e, h), a)) (λ p k. r.names.fits p k) j (r.goes j);
+    rules = record { owner = r.rules.owner; one = r.rules.one; workers = r.rules.workers; readers = r.rules.readers; few_readers = r.rules.few_readers; halves = r.rules.halves; clear = r.rules.clear };
+    stock = stock;
+    note = note;
+    retired = λ b x m h e. let t = back b x m h in r.retired b x m t.0 (sym t.1 ∙ e);
+    plan = r.plan;
+    history = r.history;
+    drawn = record { only = r.drawn.only; drawn = λ j i b h. absurd (q.0 (r.drawn.drawn j i b h).0); apart = r.drawn.apart };
+    draws = λ x j m b p e. absurd (q.0 e);
+    crew = crew_free s w.round v.ruling.phase v.kind v.work stage v.ruling.lone r.crew.rounds (λ e. absurd (q.0 e));
+    inside = inside;
+    named = named;
+    once = once;
+    holders = λ x j m p h. inl (own x j m p h);
+    hand = hands;
+  }
+    where
+      no_block : (j : ℕ) → j ≢ 0 → (b : ℕ) → GuardsBlock v.ruling.workers stage j b → ⊥
+      no_block j ne b (inl t) = ne t.0
+      no_block j ne b (inr t) = ⊎_elim (λ h. ne (own t.0 j t.1 (Drawn b) h)) (λ h. ne (own t.0 j t.1 (Half b) h)) t.2
+
+      no_head : (j : ℕ) → j ≢ 0 → (z : ℕ) → GuardsHead s.elements v.ruling.workers stage j z → ⊥
+      no_head j ne z (inl t) = ne t.0
+      no_head j ne z (inr t) = ⊎_elim (λ h. ne (own t.0 j t.1 (Drawn t.2) h.0)) (λ h. ne (own t.0 j t.1 (Half t.2) h.0)) t.3
+
+  -- where the rows, CURSOR, FREE and the lives stay
+  pub sweeps : Quiet → (claimed : ℕ → ℕ) (head hist : ℕ → Node) (born died : ℕ → ℕ) (stage : ℕ → Stage) (cs : ℕ → List Claim) (us : ℕ → Sure) (hand : List ℕ)
+      → ClaimsRule s w.round w.cursor w.free v.ruling.phase w.row claimed head born g.life stage cs → ChainsRule s.elements w.round head hist born died g.life × Moves Can A s.elements w.round w.head w.hist head hist w.born w.died born died g.life g.life
+      → ((b x m : ℕ) → g.life b ≡ Placed x m → died b ≡ w.died b) → ((x j m : ℕ) (p : Progress) → stage x ≡ Held j m p → j ≡ 0) → OwnSure head hist born died w.name w.row (us 0)
+      → ((b : ℕ) → HasEntry hand b → (v.ruling.phase ≡ 1 → ⊥) × (g.life b ≡ Free)) → InsideRule s w.free w.row g.life stage hand v.ruling.retired → LabelRule s w.name head hist g.life → ((j : ℕ) → ListedOnce (cs j))
+      → Rule s (record w { claimed = claimed; head = head; hist = hist; born = born; died = died }) n (record v { claims = cs; sure = us; ruling = record v.ruling { hand = hand } }) (record g { stage = stage })
+  sweeps q claimed head hist born died stage cs us hand claims ch same own sure hands inside named once = sweeps_to q w.cursor w.free w.row claimed head hist born died g.life stage cs us hand v.ruling.cursor v.ruling.free v.ruling.undone v.ruling.placed v.ruling.seen v.ruling.quiet claims ch (λ b x m h. (h, same b x m h)) own sure hands
+      (let k = r.stock in record { finished = k.finished; cursor_is = k.cursor_is; free_is = k.free_is; left = k.left; never = k.never })
+      record { undone = r.note.undone; all = r.note.all; placed = r.note.placed; seen = r.note.seen; quiet = r.note.quiet } inside named once
+
+  -- before the round no place is held, so its words are said by the rows alone
+  module _ (zero_ : v.ruling.phase ≡ 0) where
+    quiet : Quiet
+    quiet = ((λ e. absurd (omega arith)), λ e. absurd (omega arith))
+
+    own : OwnSure w.head w.hist w.born w.died w.name w.row (v.sure 0)
+    own = own_sure quiet
+
+    no_stage : (x j m : ℕ) (p : Progress) → g.stage x ≡ Held j m p → ⊥
+    no_stage x j m p h = not_open j m p (sym h ∙ r.claims.none x zero_)
+
+    -- claims where only heads, rows and the lives of other blocks change
+    pub calm_claims : (cursor free : ℕ) (row : ℕ → ℕ) (head : ℕ → Node) (born : ℕ → ℕ) (life : ℕ → Life) → ((b x m : ℕ) → life b ≡ Placed x m → (g.life b ≡ Placed x m) × (born b ≡ w.born b))
+        → ((i : ℕ) → cursor ≤ i → i < free → (life (row i) ≡ Free) × (born (row i) ≡ 0)) → ((i k : ℕ) → cursor ≤ i → i < free → cursor ≤ k → k < free → row i ≡ row k → i ≡ k)
+        → ClaimsRule s w.round cursor free v.ruling.phase row w.claimed head born life g.stage v.claims
+    calm_claims cursor free row head born life back rows apart = record {
+      held = r.claims.held;
+      holds = λ j x m p h. absurd (no_stage x j m p h);
+      bits = r.claims.bits;
+      inside = r.claims.inside;
+      mates = λ x j y p h. absurd (no_stage x j (y + 1) p h);
+      shape = λ x j m p h. absurd (no_stage x j m p h);
+      kept = λ b x m u e l. let t = back b x m u in r.claims.kept b x m t.0 (sym t.1 ∙ e) l;
+      half = λ b x m u e. let t = back b x m u in r.claims.half b x m t.0 (sym t.1 ∙ e);
+      rows = rows;
+      apart = apart;
+      drawn = λ e. absurd (omega arith);
+      living = λ x j m p h e. absurd (omega arith);
+      none = r.claims.none;
+    }
+
+    -- no pin is out of a round before the block's last
+    abbrev pub Clear : ℕ → Type 0
+    Clear e = (q : ℕ) → q < e → HasEntry v.ruling.clear q
+
+    -- so no round that may be read has the block
+    pub over : (b : ℕ) → 0 < w.died b → w.died b ≤ w.round → Clear (w.died b) → (q : ℕ) → Can q → (w.died b ≡ 0) ⊎ (q < w.died b) → ⊥
+    over b p l c q k = ⊎_elim (λ z. omega arith) (λ z. ⊎_elim (λ y. ⊎_elim (λ e. omega arith) (λ t. cleared q (c q z) t.0 t.1) y) (λ y. let e = y.0 in omega arith) k)
+      where
+        cleared : (q : ℕ) → HasEntry v.ruling.clear q → (j : ℕ) → (v.read j).pin ≡ q + 1 → ⊥
+        cleared q h j e = no_pin s w n v g r q h j e
+
+    not_covers : (b : ℕ) → 0 < w.died b → w.died b ≤ w.round → Clear (w.died b) → (q : ℕ) → Can q → Covers w.born w.died q b → ⊥
+    not_covers b p l c q k h = over b p l c q k h.2
+
+    add_head : (x : ℕ) (l : Node) → OwnSure (update w.head x l) w.hist w.born w.died w.name w.row (record (v.sure 0) { head = (x, l) ∷ (v.sure 0).head })
+    add_head x l = record { heads = noted_after (v.sure 0).head w.head x l own.heads; hists = own.hists; dieds = own.dieds; names = own.names; borns = own.borns; rows = own.rows }
+
+    -- where the owner knows a block at its places, and not as taken back, it is in their chains
+    in_chains : (b y m : ℕ) → HasEntry v.ruling.placed (b, y, m) → (HasEntry v.ruling.undone b → ⊥) → g.life b ≡ Placed y m
+    in_chains b y m h f = ⊎_elim (λ e. e) (λ e. absurd (f (r.note.all b y m e))) (r.note.placed b y m h)
+
+    -- a head is led past a block whose rounds are clear: the block's member stands at the place
+    pub cuts_head : (x b e y m : ℕ) (t : Bool) (l : Node) → Noted (v.sure 0).head x (node (b + 1) e) → Noted (v.sure 0).died b e → Noted (v.sure 0).hist (member_of b t) l → 0 < e → Clear e
+        → HasEntry v.ruling.placed (b, y, m) → (HasEntry v.ruling.undone b → ⊥) → chained (Placed y m) t ≡ x + 1
+        → Rule s (record w { head = update w.head x l }) n (record v { sure = update v.sure 0 (record (v.sure 0) { head = (x, l) ∷ (v.sure 0).head }) }) g
+    cuts_head x b e y m t l f1 f2 f3 p c known fair side = let life_b = in_chains b y m known fair in let at : chained (g.life b) t ≡ x + 1 = ap (λ (i : Life). chained i t) life_b ∙ side in
+        let h = own.heads x (node (b + 1) e) f1 in let dd : w.died b ≡ e = own.dieds b e f2 in let hh = own.hists b t l f3 in let calm = r.names.calm b y m ((λ z. omega arith), λ z. omega arith) life_b in
+        let k = skips Can A s.elements w.round w.head w.hist w.born w.died g.life r.chains x b t (ap (λ (i : Node). i.block) h) (chained_stands (g.life b) t x at) (not_covers b (omega arith) calm (subst Clear (sym dd) c)) in
+        sweeps quiet w.claimed (update w.head x l) w.hist w.born w.died g.stage v.claims (update v.sure 0 (record (v.sure 0) { head = (x, l) ∷ (v.sure 0).head })) v.ruling.hand
+        (calm_claims w.cursor w.free w.row (update w.head x l) w.born g.life (λ _ _ _ u. (u, refl)) r.claims.rows r.claims.apart)
+        (subst (λ (i : Node). ChainsRule s.elements w.round (update w.head x i) w.hist w.born w.died g.life × Moves Can A s.elements w.round w.head w.hist (update w.head x i) w.hist w.born w.died w.born w.died g.life g.life) hh k)
+        (λ _ _ _ _. refl) (λ y j k p h. absurd (no_stage y j k p h)) (add_head x l) r.hand r.inside (labels_skip s w.name w.head w.hist g.life x b t l (ap (λ (i : Node). i.block) h) at hh r.named) r.once
+
+    -- so is a history word, of a block in chains or of one that was taken back
+    pub cuts_history : (a y' m' x b e y m : ℕ) (u t : Bool) (l : Node) → Noted (v.sure 0).hist (member_of a u) (node (b + 1) e) → Noted (v.sure 0).died b e → Noted (v.sure 0).hist (member_of b t) l → 0 < e → Clear e
+        → HasEntry v.ruling.placed (a, y', m') → stands (Placed y' m') u ≡ x + 1 → HasEntry v.ruling.placed (b, y, m) → (HasEntry v.ruling.undone b → ⊥) → chained (Placed y m) t ≡ x + 1
+        → Rule s (record w { hist = update w.hist (member_of a u) l }) n (record v { sure = update v.sure 0 (record (v.sure 0) { hist = (member_of a u, l) ∷ (v.sure 0).hist }) }) g
+    cuts_history a y' m' x b e y m u t l f1 f2 f3 p c from stood known fair side = let life_b = in_chains b y m known fair in let at : chained (g.life b) t ≡ x + 1 = ap (λ (i : Life). chained i t) life_b ∙ side in
+        let ua : stands (g.life a) u ≡ x + 1 = ⊎_elim (λ f. ap (λ (i : Life). stands i u) f ∙ stood) (λ f. ap (λ (i : Life). stands i u) f ∙ stood) (r.note.placed a y' m' from) in
+        let h = own.hists a u (node (b + 1) e) f1 in let dd : w.died b ≡ e = own.dieds b e f2 in let hh = own.hists b t l f3 in let calm = r.names.calm b y m ((λ z. omega arith), λ z. omega arith) life_b in
+        let k = cuts_hist Can A s.elements w.round w.head w.hist w.born w.died g.life r.chains a b x u t ua (h ∙ ap (node (b + 1)) (sym dd)) at (omega arith) (not_covers b (omega arith) calm (subst Clear (sym dd) c)) in
+        sweeps quiet w.claimed w.head (update w.hist (member_of a u) l) w.born w.died g.stage v.claims (update v.sure 0 (record (v.sure 0) { hist = (member_of a u, l) ∷ (v.sure 0).hist })) v.ruling.hand
+        (calm_claims w.cursor w.free w.row w.head w.born g.life (λ _ _ _ u. (u, refl)) r.claims.rows r.claims.apart)
+        (subst (λ (i : Node). ChainsRule s.elements w.round w.head (update w.hist (member_of a u) i) w.born w.died g.life × Moves Can A s.elements w.round w.head w.hist w.head (update w.hist (member_of a u) i) w.born w.died w.born w.died g.life g.life) hh k)
+        (λ _ _ _ _. refl) (λ y j k p h. absurd (no_stage y j k p h))
+        record { heads = own.heads; hists = λ i j k f. ⊎_elim (λ y. update_at w.hist (member_of a u) (member_of i j) l (sym y.0) ∙ y.1) (λ y. update_other w.hist (member_of a u) (member_of i j) l (λ z. y.0 (sym z)) ∙ own.hists i j k y.1) f; dieds = own.dieds; names = own.names; borns = own.borns; rows = own.rows } r.hand r.inside (labels_skip_history s w.name w.head w.hist g.life a x b u t l ua (ap (λ (i : Node). i.block) h) at hh r.named) r.once
+
+    moves_id : ChainsRule s.elements w.round w.head w.hist w.born w.died g.life × Moves Can A s.elements w.round w.head w.hist w.head w.hist w.born w.died w.born w.died g.life g.life
+    moves_id = (r.chains, moves_same Can A s.elements w.round w.head w.hist w.born w.died g.life w.head w.hist w.born w.died (λ _ _. refl) (λ _ _ _ _. refl) (λ _ _ _ _ _ _ h. h) (λ _ _ _ _ _ _ h. h) (λ _ _ _ _ _ _ h. h))
+
+    by_bool : (x : Bool) → (x ≡ true → ⊥) → x ≡ false
+    by_bool true h = absurd (h refl)
+    by_bool false h = refl
+
+    gone_free : (gone : ℕ → Bool) (c : ℕ) → gone c ≡ true → cond (gone c) Free (g.life c) ≡ Free
+    gone_free gone c e = ap (λ (t : Bool). cond t Free (g.life c)) e
+
+    gone_not : (gone : ℕ → Bool) (c : ℕ) → gone c ≡ false → cond (gone c) Free (g.life c) ≡ g.life c
+    gone_not gone c e = ap (λ (t : Bool). cond t Free (g.life c)) e
+
+    either_free : (gone : ℕ → Bool) (c : ℕ) → g.life c ≡ Free → cond (gone c) Free (g.life c) ≡ Free
+    either_free gone c e = by (gone c) refl
+      where
+        by : (t : Bool) → gone c ≡ t → cond (gone c) Free (g.life c) ≡ Free
+        by true f = gone_free gone c f
+        by false f = gone_not gone c f ∙ e
+
+    -- the owner is sure of the word, which names no block that is to be free
+    abbrev pub CleanHead : (ℕ → Bool) → ℕ → Type 0
+    CleanHead gone x = (l : Node) × Noted (v.sure 0).head x l × ((c : ℕ) → l.block ≡ c + 1 → gone c ≡ false)
+
+    abbrev pub CleanHistory : (ℕ → Bool) → ℕ → Bool → Type 0
+    CleanHistory gone b t = (l : Node) × Noted (v.sure 0).hist (member_of b t) l × ((c : ℕ) → l.block ≡ c + 1 → gone c ≡ false)
+
+    -- a block that stands was drawn before, and the owner does not know it as free
+    drawn_before : v.ruling.free ≡ 1 → (b : ℕ) (t : Bool) (x : ℕ) → stands (g.life b) t ≡ x + 1 → (b < v.ruling.ever) × (HasEntry v.ruling.hand b → ⊥)
+    drawn_before f b t x st = (
+      elim (dec_lt b v.ruling.ever) [ yes l ↦ l | no o ↦ absurd (⊎_elim (λ e. not_free e) (λ k. let z = r.stock.free_is 0 f in let k2 = k.2 in omega arith) (r.stock.never b (omega arith))) ],
+      λ h. not_free (r.hand b h).1,
+    )
+      where
+        not_free : g.life b ≡ Free → ⊥
+        not_free e = let z : 0 ≡ x + 1 = sym (ap (λ (l : Life). stands l t) e) ∙ st in omega arith
+
+    -- All blocks of a list become free at once, where the owner has swept every word of a chain: no word is written
+    module _ (gone : ℕ → Bool) (hand undone : List ℕ) (placed : List (ℕ × ℕ × ℕ)) (stopped : v.ruling.free ≡ 1)
+        (clear : (c : ℕ) → gone c ≡ true → ((e : ℕ) × Noted (v.sure 0).died c e × (0 < e) × (e ≤ v.ruling.finished) × Clear e) ⊎ (HasEntry v.ruling.undone c × Clear v.ruling.finished × (v.ruling.quiet ≡ 1)))
+        (tops : (x : ℕ) → x < s.elements → CleanHead gone x)
+        (blocks : (b : ℕ) → b < v.ruling.ever → HasEntry v.ruling.hand b ⊎ (((t c : Bool) → CleanHead gone (child_place s.elements b t c)) × ((gone b ≡ true) ⊎ ((t : Bool) → CleanHistory gone b t))))
+        (more : (c : ℕ) → HasEntry hand c → HasEntry v.ruling.hand c ⊎ ((gone c ≡ true) × (c < s.pool))) (rest : (c : ℕ) → HasEntry undone c → HasEntry v.ruling.undone c × (gone c ≡ false)) (whole : (c : ℕ) → HasEntry v.ruling.undone c → HasEntry undone c ⊎ (gone c ≡ true)) (still : (c x m : ℕ) → HasEntry placed (c, x, m) → HasEntry v.ruling.placed (c, x, m) × (gone c ≡ false)) where
+      free_undone_ : (x m : ℕ) → Free ≡ Undone x m → ⊥
+      free_undone_ x m e = cc
+
+      clash : (t : Bool) → t ≡ true → t ≡ false → ⊥
+      clash t a b = cc
+
+      clean : (b : ℕ) (t : Bool) (x : ℕ) → stands (g.life b) t ≡ x + 1 → ((t c : Bool) → CleanHead gone (child_place s.elements b t c)) × ((gone b ≡ true) ⊎ ((t : Bool) → CleanHistory gone b t))
+      clean b t x st = let k = drawn_before stopped b t x st in ⊎_elim (λ h. absurd (k.1 h)) (λ h. h) (blocks b k.0)
+
+      clean_head : (x : ℕ) → IsPlace s.elements g.life x → CleanHead gone x
+      clean_head x (inl l) = tops x l
+      clean_head x (inr k) = subst (CleanHead gone) (sym k.4) ((clean k.0 false k.3 k.5).0 k.1 k.2)
+
+      clean_history : (b : ℕ) (t : Bool) (x : ℕ) → stands (g.life b) t ≡ x + 1 → gone b ≡ false → CleanHistory gone b t
+      clean_history b t x st f = ⊎_elim (λ e. absurd (clash (gone b) e f)) (λ h. h t) (clean b t x st).1
+
+      -- no reader of a round up to the last has gone to a block that was taken back, nor a worker to any
+      unvisited : (c q : ℕ) → HasEntry v.ruling.undone c → Clear v.ruling.finished → v.ruling.quiet ≡ 1 → A q c → ⊥
+      unvisited c q h f note a = ⊎_elim
+          (λ b. let l = r.pins.past b.0 q b.1 in let e = r.stock.finished in elim (dec_lt q w.round) [ yes k ↦ no_pin s w n v g r q (f q (omega arith)) b.0 b.1 | no o ↦ r.note.quiet note b.0 c (let e : q ≡ w.round = omega arith in b.1 ∙ ap (λ (i : ℕ). i + 1) e) b.2 h ])
+          (λ b. not_work quiet b.0 b.1) a.0
+
+      now_free : (c : ℕ) (t : Bool) (y : ℕ) → stands (cond (gone c) Free (g.life c)) t ≡ y + 1 → (gone c ≡ false) × (stands (g.life c) t ≡ y + 1)
+      now_free c t y st = let f = by_bool (gone c) (λ e. not_free (cond (gone c) Free (g.life c)) t y st (gone_free gone c e)) in (f, sym (ap (λ (l : Life). stands l t) (gone_not gone c f)) ∙ st)
+
+      labels : LabelRule s w.name w.head w.hist (λ c. cond (gone c) Free (g.life c))
+      labels = record {
+        heads = λ x b t l e c. by_label l (r.named.heads x b t (was_place x l) e (now_chained b t x c));
+        hists = λ a c x t u st e ch. r.named.hists a c x t u (now_free a t x st).1 e (now_chained c u x ch);
+        patch = λ b x m u. r.named.patch b x m (sym (gone_not gone b (by_bool (gone b) (λ e. free_undone_ x m (sym (gone_free gone b e) ∙ u)))) ∙ u);
+      }
+        where
+          now_chained : (c : ℕ) (t : Bool) (y : ℕ) → chained (cond (gone c) Free (g.life c)) t ≡ y + 1 → chained (g.life c) t ≡ y + 1
+          now_chained c t y h = let f = (now_free c t y (chained_stands (cond (gone c) Free (g.life c)) t y h)).0 in sym (ap (λ (l : Life). chained l t) (gone_not gone c f)) ∙ h
+
+          was_place : (x : ℕ) → IsPlace s.elements (λ c. cond (gone c) Free (g.life c)) x → IsPlace s.elements g.life x
+          was_place x (inl l) = inl l
+          was_place x (inr k) = inr (k.0, k.1, k.2, k.3, k.4, (now_free k.0 false k.3 k.5).1)
+
+          by_label : {x k : ℕ} → IsPlace s.elements (λ c. cond (gone c) Free (g.life c)) x → IsLabel s w.name g.life x k → IsLabel s w.name (λ c. cond (gone c) Free (g.life c)) x k
+          by_label l (inl a) = inl a
+          by_label (inl l) (inr a) = absurd (child_outside s.elements a.0 a.1 a.2 (subst (λ (y : ℕ). y < s.elements) a.4 l))
+          by_label (inr l) (inr a) = let same : l.0 ≡ a.0 = (child_one s.elements l.0 a.0 l.1 l.2 a.1 a.2 (sym l.4 ∙ a.4)).0 in let f = (now_free l.0 false l.3 l.5).0 in
+              inr (a.0, a.1, a.2, a.3, a.4, ap (λ (i : Life). stands i a.1) (gone_not gone a.0 (ap gone (sym same) ∙ f)) ∙ a.5, a.6)
+
+      not_chained : (c : ℕ) (u : Bool) (y x m : ℕ) → g.life c ≡ Undone x m → chained (g.life c) u ≡ y + 1 → ⊥
+      not_chained c u y x m e h = let z : 0 ≡ y + 1 = sym (ap (λ (l : Life). chained l u) e) ∙ h in omega arith
+
+      back : (b x m : ℕ) → cond (gone b) Free (g.life b) ≡ Placed x m → g.life b ≡ Placed x m
+      back b x m u = sym (gone_not gone b (by_bool (gone b) (λ e. free_not x m (sym (gone_free gone b e) ∙ u)))) ∙ u
+
+      pub frees_all : Rule s w n (record v { ruling = record v.ruling { hand = hand; undone = undone; placed = placed } }) (record g { life = λ c. cond (gone c) Free (g.life c) })
+      frees_all = sweeps_to quiet w.cursor w.free w.row w.claimed w.head w.hist w.born w.died _ g.stage v.claims v.sure hand v.ruling.cursor v.ruling.free undone placed v.ruling.seen v.ruling.quiet
+          (calm_claims w.cursor w.free w.row w.head w.born (λ c. cond (gone c) Free (g.life c)) (λ b x m u. (back b x m u, refl)) (λ i a l. let t = r.claims.rows i a l in (either_free gone (w.row i) t.0, t.1)) r.claims.apart)
+          (frees Can A s.elements w.round w.head w.hist w.born w.died g.life r.chains gone
+          (λ c e q k. ⊎_elim
+          (λ t. let dd = own.dieds c t.0 t.1 in let t2 = t.2 in let t3 = t.3 in let fin = r.stock.finished in let o = over c (omega arith) (omega arith) (subst Clear (sym dd) t.4) q k in ((λ _ _ _. o), λ a. o a.1))
+          (λ t. let y = r.note.undone c t.0 in ((λ u i h. absurd (not_chained c u i y.0 y.1 y.2 h)), λ a. unvisited c q t.0 t.1 t.2 a)) (clear c e))
+          (λ x c l h e. let t = clean_head x l in clash (gone c) e (t.2 c (sym (ap (λ (i : Node). i.block) (own.heads x t.0 t.1)) ∙ h)))
+          (λ b t x c u f h e. let k = clean_history b t x u f in clash (gone c) e (k.2 c (sym (ap (λ (i : Node). i.block) (own.hists b t k.0 k.1)) ∙ h))))
+          (λ b x m u. (back b x m u, refl)) (λ y j k p h. absurd (no_stage y j k p h)) own
+          (λ c h. ((λ e. omega arith), ⊎_elim (λ k. either_free gone c (r.hand c k).1) (λ k. gone_free gone c k.0) (more c h)))
+          (let k = r.stock in record { finished = k.finished; cursor_is = k.cursor_is; free_is = k.free_is; left = k.left; never = λ b l. ⊎_elim (λ e. inl (either_free gone b e)) inr (k.never b l) })
+          record {
+            undone = λ c h. let t = rest c h in let y = r.note.undone c t.0 in (y.0, y.1, gone_not gone c t.1 ∙ y.2);
+            all = λ c x m h. let g0 = by_bool (gone c) (λ e. free_undone_ x m (sym (gone_free gone c e) ∙ h)) in ⊎_elim (λ q. q) (λ q. absurd (clash (gone c) q g0)) (whole c (r.note.all c x m (sym (gone_not gone c g0) ∙ h)));
+            placed = λ c x m h. let t = still c x m h in let q = gone_not gone c t.1 in ⊎_elim (λ e. inl (q ∙ e)) (λ e. inr (q ∙ e)) (r.note.placed c x m t.0);
+            seen = λ x e. let t = r.note.seen x e in (t.0, t.1, t.2, λ f j b p h m. t.3 f j b p h (rest b m).0);
+            quiet = λ e j b p h m. r.note.quiet e j b p h (rest b m).0;
+          }
+          record { few = r.inside.few; rows = r.inside.rows; blocks = λ c l. either_free gone c (r.inside.blocks c l); stand_in = λ b t x st. r.inside.stand_in b t x (now_free b t x st).1; seconds = r.inside.seconds; hand_in = λ c h. ⊎_elim (r.inside.hand_in c) (λ k. k.1) (more c h); retired_in = r.inside.retired_in } labels r.once
+
+    -- BORN of a free block becomes 0
+    pub zeroes : (b : ℕ) → HasEntry v.ruling.hand b → Rule s (record w { born = update w.born b 0 }) n (record v { sure = update v.sure 0 (record (v.sure 0) { born = (b, 0) ∷ (v.sure 0).born }) }) g
+    zeroes b h = let fr : g.life b ≡ Free = (r.hand b h).1 in let off : (c : ℕ) → c ≢ b → update w.born b 0 c ≡ w.born c = λ c o. update_other w.born b c 0 o in
+        sweeps quiet w.claimed w.head w.hist (update w.born b 0) w.died g.stage v.claims (update v.sure 0 (record (v.sure 0) { born = (b, 0) ∷ (v.sure 0).born })) v.ruling.hand
+        (calm_claims w.cursor w.free w.row w.head (update w.born b 0) g.life (λ c x m u. (u, off c (λ (e : c ≡ b). free_not x m (sym fr ∙ ap g.life (sym e) ∙ u)))) (λ i a l. let t = r.claims.rows i a l in (t.0, zero_at i t.1)) r.claims.apart)
+        (resets Can A s.elements w.round w.head w.hist w.born w.died g.life r.chains b (λ t. ap (λ (l : Life). chained l t) fr) w.hist (update w.born b 0) w.died (λ c o. ((λ _. refl), off c o, refl)) (let z = update_same w.born b 0 in omega arith)
+        (λ x m u. absurd (free_undone x m (sym fr ∙ u))))
+        (λ _ _ _ _. refl) (λ y j k p u. absurd (no_stage y j k p u))
+        record { heads = own.heads; hists = own.hists; dieds = own.dieds; names = own.names; borns = noted_after (v.sure 0).born w.born b 0 own.borns; rows = own.rows } r.hand r.inside r.named r.once
+      where
+        free_undone : (x m : ℕ) → Free ≡ Undone x m → ⊥
+        free_undone x m e = cc
+
+        zero_at : (i : ℕ) → w.born (w.row i) ≡ 0 → update w.born b 0 (w.row i) ≡ 0
+        zero_at i z = dite (ℕ_discrete (w.row i) b) (λ e. update_at w.born b (w.row i) 0 e) (λ o. update_other w.born b (w.row i) 0 o ∙ z)
+
+    -- FREE becomes 0, where the owner knows each block that was drawn in the round before
+    pub stops : (k c : ℕ) → v.ruling.free ≡ k + 1 → v.ruling.cursor ≡ c + 1 → ((i : ℕ) → i < k → i < c → (b : ℕ) × Noted (v.sure 0).row i b × (b < v.ruling.ever))
+        → Rule s (record w { free = 0 }) n (record v { ruling = record v.ruling { free = 1 } }) g
+    stops k c fk ck used = sweeps_to quiet w.cursor 0 w.row w.claimed w.head w.hist w.born w.died g.life g.stage v.claims v.sure v.ruling.hand v.ruling.cursor 1 v.ruling.undone v.ruling.placed v.ruling.seen v.ruling.quiet
+        (calm_claims w.cursor 0 w.row w.head w.born g.life (λ _ _ _ u. (u, refl)) (λ i a l. absurd (omega arith)) (λ i j a l. absurd (omega arith))) moves_id
+        (λ _ _ _ u. (u, refl)) (λ y j k p u. absurd (no_stage y j k p u)) own r.hand
+        record {
+          finished = r.stock.finished;
+          cursor_is = r.stock.cursor_is;
+          free_is = λ i e. omega arith;
+          left = r.stock.left;
+          never = λ b l. ⊎_elim inl (λ t. let t1 = t.1 in let t2 = t.2 in let fk' = r.stock.free_is k fk in let ck' = (r.stock.cursor_is c ck).1 in let u = used t.0 (omega arith) (omega arith) in let e = own.rows t.0 u.0 u.1 in let t3 = t.3 in let u2 = u.2 in absurd (omega arith)) (r.stock.never b l);
+        }
+        record { undone = r.note.undone; all = r.note.all; placed = r.note.placed; seen = r.note.seen; quiet = r.note.quiet }
+        record { few = omega arith; rows = λ i l. absurd (omega arith); blocks = r.inside.blocks; stand_in = r.inside.stand_in; seconds = r.inside.seconds; hand_in = r.inside.hand_in; retired_in = r.inside.retired_in } r.named r.once
+
+    -- CURSOR becomes 0 while FREE is 0
+    pub rewinds : v.ruling.free ≡ 1 → Rule s (record w { cursor = 0 }) n (record v { ruling = record v.ruling { cursor = 1 } }) g
+    rewinds f = let z = r.stock.free_is 0 f in sweeps_to quiet 0 w.free w.row w.claimed w.head w.hist w.born w.died g.life g.stage v.claims v.sure v.ruling.hand 1 v.ruling.free v.ruling.undone v.ruling.placed v.ruling.seen v.ruling.quiet
+        (calm_claims 0 w.free w.row w.head w.born g.life (λ _ _ _ u. (u, refl)) (λ i a l. absurd (omega arith)) (λ i j a l. absurd (omega arith))) moves_id
+        (λ _ _ _ u. (u, refl)) (λ y j k p u. absurd (no_stage y j k p u)) own r.hand
+        record { finished = r.stock.finished; cursor_is = λ k e. ((λ a. absurd (omega arith)), omega arith); free_is = r.stock.free_is; left = r.stock.left; never = λ b l. ⊎_elim inl (λ t. let t2 = t.2 in absurd (omega arith)) (r.stock.never b l) } record { undone = r.note.undone; all = r.note.all; placed = r.note.placed; seen = r.note.seen; quiet = r.note.quiet } r.inside r.named r.once
+
+    -- a row is written while FREE is 0
+    pub lays : (i b : ℕ) → v.ruling.free ≡ 1 → Rule s (record w { row = update w.row i b }) n (record v { sure = update v.sure 0 (record (v.sure 0) { row = (i, b) ∷ (v.sure 0).row }) }) g
+    lays i b f = let z = r.stock.free_is 0 f in sweeps_to quiet w.cursor w.free (update w.row i b) w.claimed w.head w.hist w.born w.died g.life g.stage v.claims (update v.sure 0 (record (v.sure 0) { row = (i, b) ∷ (v.sure 0).row })) v.ruling.hand v.ruling.cursor v.ruling.free v.ruling.undone v.ruling.placed v.ruling.seen v.ruling.quiet
+        (calm_claims w.cursor w.free (update w.row i b) w.head w.born g.life (λ _ _ _ u. (u, refl)) (λ k a l. absurd (omega arith)) (λ k j a l. absurd (omega arith))) moves_id
+        (λ _ _ _ u. (u, refl)) (λ y j k p u. absurd (no_stage y j k p u))
+        record { heads = own.heads; hists = own.hists; dieds = own.dieds; names = own.names; borns = own.borns; rows = noted_after (v.sure 0).row w.row i b own.rows } r.hand
+        record { finished = r.stock.finished; cursor_is = r.stock.cursor_is; free_is = r.stock.free_is; left = r.stock.left; never = λ b l. ⊎_elim inl (λ t. let t2 = t.2 in absurd (omega arith)) (r.stock.never b l) } record { undone = r.note.undone; all = r.note.all; placed = r.note.placed; seen = r.note.seen; quiet = r.note.quiet }
+        record { few = r.inside.few; rows = λ k l. absurd (omega arith); blocks = r.inside.blocks; stand_in = r.inside.stand_in; seconds = r.inside.seconds; hand_in = r.inside.hand_in; retired_in = r.inside.retired_in } r.named r.once
+
+    -- FREE becomes the number of the rows
+    pub opens_rows : (k : ℕ) (at : ℕ → ℕ) → v.ruling.free ≡ 1 → ((i : ℕ) → i < k → Noted (v.sure 0).row i (at i) × HasEntry v.ruling.hand (at i) × Noted (v.sure 0).born (at i) 0) → ((i j : ℕ) → i < k → j < k → at i ≡ at j → i ≡ j)
+        → Rule s (record w { free = k }) n (record v { ruling = record v.ruling { free = k + 1 } }) g
+    opens_rows k at f rows one = let z = r.stock.free_is 0 f in sweeps_to quiet w.cursor k w.row w.claimed w.head w.hist w.born w.died g.life g.stage v.claims v.sure v.ruling.hand v.ruling.cursor (k + 1) v.ruling.undone v.ruling.placed v.ruling.seen v.ruling.quiet
+        (calm_claims w.cursor k w.row w.head w.born g.life (λ _ _ _ u. (u, refl))
+        (λ i a l. let t = rows i l in let e : w.row i ≡ at i = own.rows i (at i) t.0 in (ap g.life e ∙ (r.hand (at i) t.1).1, ap w.born e ∙ own.borns (at i) 0 t.2))
+        (λ i j a l b m e. one i j l m (sym (own.rows i (at i) (rows i l).0) ∙ e ∙ own.rows j (at j) (rows j m).0))) moves_id
+        (λ _ _ _ u. (u, refl)) (λ y j k p u. absurd (no_stage y j k p u)) own r.hand
+        record { finished = r.stock.finished; cursor_is = r.stock.cursor_is; free_is = λ i e. omega arith; left = r.stock.left; never = λ b l. ⊎_elim inl (λ t. let t2 = t.2 in absurd (omega arith)) (r.stock.never b l) } record { undone = r.note.undone; all = r.note.all; placed = r.note.placed; seen = r.note.seen; quiet = r.note.quiet }
+        record { few = few_below k s.pool at (λ i l. r.inside.hand_in (at i) (rows i l).1) one; rows = λ i l. let e : w.row i ≡ at i = own.rows i (at i) (rows i l).0 in let q = r.inside.hand_in (at i) (rows i l).1 in omega arith; blocks = r.inside.blocks; stand_in = r.inside.stand_in; seconds = r.inside.seconds; hand_in = r.inside.hand_in; retired_in = r.inside.retired_in } r.named r.once

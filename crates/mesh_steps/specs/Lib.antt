@@ -1,0 +1,12 @@
+pub mod States
+pub mod WorkSteps
+pub mod WalkSteps
+pub mod WalkLaws
+pub mod PinSteps
+pub mod OwnerSteps
+pub mod SweepSteps
+pub mod Steps
+pub mod Local
+pub mod Reuse
+pub mod Onward
+pub mod OnwardRounds

@@ -1,0 +1,32 @@
+//! Laws over the definitions alone.
+ghost use Rattle.mesh_steps.specs.WalkLaws.{NextNamed};
+ghost use Rattle.mesh_steps.specs.Steps.{StepsKeep};
+ghost use Rattle.mesh_steps.specs.Local.{StepsLocal};
+ghost use Rattle.mesh_steps.specs.Reuse.{StepsSpare};
+ghost use Rattle.mesh_steps.specs.Onward.{ClaimsGoBack, ClaimsGoOn, PassesJoined, PassesMade, PinsFit, PinsGoOn, ReadersGoOn, ReadyBelow, SinglesGoOn, WorkersGoOn};
+ghost use Rattle.mesh_steps.specs.OnwardRounds.{FillsGoOn, LoadsGoOn, NotesGoOn, RetiringGoesOn, RoundsGoOn, RowsGoOn};
+
+/// Each step of any seat leads from a lawful state to a lawful one; what it changes; that it leaves
+/// alone the blocks to which walks go; and which steps there are, by which seats go on.
+pub fn laws()
+    ensures next { NextNamed }
+    ensures steps { StepsKeep }
+    ensures local { StepsLocal }
+    ensures spare { StepsSpare }
+    ensures workers { WorkersGoOn }
+    ensures readers { ReadersGoOn }
+    ensures pins { PinsGoOn }
+    ensures ready { ReadyBelow }
+    ensures fit { PinsFit }
+    ensures made { PassesMade }
+    ensures joined { PassesJoined }
+    ensures claims { ClaimsGoOn }
+    ensures singles { SinglesGoOn }
+    ensures back { ClaimsGoBack }
+    ensures loads { LoadsGoOn }
+    ensures fills { FillsGoOn }
+    ensures retiring { RetiringGoesOn }
+    ensures rounds { RoundsGoOn }
+    ensures notes { NotesGoOn }
+    ensures rows { RowsGoOn }
+{}

@@ -1,0 +1,47 @@
+use Rattle.square_runs.proofs.SquareRound3.{square_runs}
+use Rattle.square_runs.proofs.SquareReads.{square_reads}
+use Rattle.square_runs.proofs.SquareFollows.{square_follows}
+use Rattle.square_runs.proofs.SquareRefused.{square_refused}
+use Rattle.square_runs.proofs.SquareVisits.{square_visits}
+use Rattle.square_runs.proofs.SquareFull.{square_full}
+use Rattle.square_runs.proofs.SquareUndrawn.{square_undrawn}
+use Rattle.square_runs.proofs.SquareTwice.{square_twice}
+use Rattle.square_runs.proofs.TwiceReads.{twice_reads}
+use Rattle.square_runs.proofs.SquareKinds.{kinds_occur, runs_lawful, two_words}
+use Rattle.square_runs.proofs.laws.laws.Goals as goal
+
+pub returns-clause-square : goal.returns-clause-square
+returns-clause-square c = square_runs
+
+pub returns-clause-square_reads : goal.returns-clause-square_reads
+returns-clause-square_reads c = square_reads
+
+pub returns-clause-follows : goal.returns-clause-follows
+returns-clause-follows c = square_follows
+
+pub returns-clause-refused : goal.returns-clause-refused
+returns-clause-refused c = square_refused
+
+pub returns-clause-visits : goal.returns-clause-visits
+returns-clause-visits c = square_visits
+
+pub returns-clause-full : goal.returns-clause-full
+returns-clause-full c = square_full
+
+pub returns-clause-undrawn : goal.returns-clause-undrawn
+returns-clause-undrawn c = square_undrawn
+
+pub returns-clause-twice : goal.returns-clause-twice
+returns-clause-twice c = square_twice
+
+pub returns-clause-lawful : goal.returns-clause-lawful
+returns-clause-lawful c = runs_lawful
+
+pub returns-clause-kinds : goal.returns-clause-kinds
+returns-clause-kinds c = kinds_occur
+
+pub returns-clause-twice_reads : goal.returns-clause-twice_reads
+returns-clause-twice_reads c = twice_reads
+
+pub returns-clause-two_words : goal.returns-clause-two_words
+returns-clause-two_words c = two_words

@@ -1,0 +1,4 @@
+pub mod SquareRun
+pub mod SquareKinds
+pub mod SquareFull
+pub mod SquareTwice

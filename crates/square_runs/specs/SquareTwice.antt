@@ -1,0 +1,179 @@
+-- A second run on the square, with two blocks: the patch is bisected, retired, and bisected again while its old block is still behind the new one, until that is cut out. Each line changes one word.
+use Rattle.std.specs.Prelude.{ℕ, ◌+◌, ◌≤◌, true, false, List, [], ◌∷◌, ◌↔◌}
+use Rattle.mesh_names.specs.Names.{Name, depth}
+use Rattle.mesh_words.specs.Entries.{HasEntry}
+use Rattle.mesh_words.specs.Functions.{update}
+use Rattle.mesh_words.specs.NameWords.{name_code}
+use Rattle.mesh_words.specs.Places.{member_of, child_place}
+use Rattle.mesh_words.specs.Setup.{Setup}
+use Rattle.mesh_words.specs.Words.{Words, node}
+use Rattle.mesh_state.specs.Fresh.{fresh_words}
+use Rattle.mesh_reading.specs.Reading.{IsRead}
+use Rattle.mesh_steps.specs.States.{State}
+use Rattle.mesh_steps.specs.Steps.{Run}
+use Rattle.square_runs.specs.SquareRun.{name0, name1, Along}
+use Rattle.square_runs.specs.SquareKinds.{square_with, fresh_state}
+
+-- a table over the square with two blocks
+abbrev pub pair_setup : Setup
+pair_setup = square_with 2
+
+-- round 1: a worker claims the patch at the place of element 0, draws block 0, fills it, links both members to it and publishes it
+abbrev pub claimed : Words
+claimed = let w = fresh_words 2 in record w { claimed = update w.claimed 0 1 }
+
+abbrev pub drawn : Words
+drawn = let w = claimed in record w { cursor = w.cursor + 1 }
+
+abbrev pub history0 : Words
+history0 = let w = drawn in record w { hist = update w.hist (member_of 0 false) (node 0 0) }
+
+abbrev pub history1 : Words
+history1 = let w = history0 in record w { hist = update w.hist (member_of 0 true) (node 0 0) }
+
+abbrev pub undead : Words
+undead = let w = history1 in record w { died = update w.died 0 0 }
+
+abbrev pub named0 : Words
+named0 = let w = undead in record w { name = update w.name (member_of 0 false) name0 }
+
+abbrev pub named1 : Words
+named1 = let w = named0 in record w { name = update w.name (member_of 0 true) name1 }
+
+abbrev pub child0 : Words
+child0 = let w = named1 in record w { head = update w.head (child_place 2 0 false false) (node 0 0) }
+
+abbrev pub child1 : Words
+child1 = let w = child0 in record w { head = update w.head (child_place 2 0 false true) (node 0 0) }
+
+abbrev pub child2 : Words
+child2 = let w = child1 in record w { head = update w.head (child_place 2 0 true false) (node 0 0) }
+
+abbrev pub child3 : Words
+child3 = let w = child2 in record w { head = update w.head (child_place 2 0 true true) (node 0 0) }
+
+abbrev pub linked0 : Words
+linked0 = let w = child3 in record w { head = update w.head 0 (node 1 0) }
+
+abbrev pub linked1 : Words
+linked1 = let w = linked0 in record w { head = update w.head 1 (node 1 0) }
+
+abbrev pub published : Words
+published = let w = linked1 in record w { born = update w.born 0 1 }
+
+-- the owner ends the claim and the round
+abbrev pub unclaimed : Words
+unclaimed = let w = published in record w { claimed = update w.claimed 0 0 }
+
+abbrev pub finished1 : Words
+finished1 = let w = unclaimed in record w { round = 1; taken = 0 }
+
+-- before the next round FREE and CURSOR become 0, and the row that is drawn next gets block 1
+abbrev pub stopped : Words
+stopped = let w = finished1 in record w { free = 0 }
+
+abbrev pub rewound : Words
+rewound = let w = stopped in record w { cursor = 0 }
+
+abbrev pub laid : Words
+laid = let w = rewound in record w { row = update w.row 0 1 }
+
+abbrev pub opened : Words
+opened = let w = laid in record w { free = 1 }
+
+-- round 2: a worker retires the block, the owner stamps both links and ends the round
+abbrev pub retired : Words
+retired = let w = opened in record w { died = update w.died 0 2 }
+
+abbrev pub stamped0 : Words
+stamped0 = let w = retired in record w { head = update w.head 0 (node 1 2) }
+
+abbrev pub stamped1 : Words
+stamped1 = let w = stamped0 in record w { head = update w.head 1 (node 1 2) }
+
+abbrev pub finished2 : Words
+finished2 = let w = stamped1 in record w { round = 2; taken = 0 }
+
+-- a reader pins round 2
+abbrev pub pinned : Words
+pinned = let w = finished2 in record w { taken = w.taken + 1 }
+
+-- round 3: a worker claims the patch again, and draws block 1; its HISTORY words name block 0
+abbrev pub claimed_again : Words
+claimed_again = let w = pinned in record w { claimed = update w.claimed 0 1 }
+
+abbrev pub drawn_again : Words
+drawn_again = let w = claimed_again in record w { cursor = w.cursor + 1 }
+
+abbrev pub history2 : Words
+history2 = let w = drawn_again in record w { hist = update w.hist (member_of 1 false) (node 1 2) }
+
+abbrev pub history3 : Words
+history3 = let w = history2 in record w { hist = update w.hist (member_of 1 true) (node 1 2) }
+
+abbrev pub undead_again : Words
+undead_again = let w = history3 in record w { died = update w.died 1 0 }
+
+abbrev pub named2 : Words
+named2 = let w = undead_again in record w { name = update w.name (member_of 1 false) name0 }
+
+abbrev pub named3 : Words
+named3 = let w = named2 in record w { name = update w.name (member_of 1 true) name1 }
+
+abbrev pub child4 : Words
+child4 = let w = named3 in record w { head = update w.head (child_place 2 1 false false) (node 0 0) }
+
+abbrev pub child5 : Words
+child5 = let w = child4 in record w { head = update w.head (child_place 2 1 false true) (node 0 0) }
+
+abbrev pub child6 : Words
+child6 = let w = child5 in record w { head = update w.head (child_place 2 1 true false) (node 0 0) }
+
+abbrev pub child7 : Words
+child7 = let w = child6 in record w { head = update w.head (child_place 2 1 true true) (node 0 0) }
+
+-- it links both members to block 1, and publishes it
+abbrev pub linked2 : Words
+linked2 = let w = child7 in record w { head = update w.head 0 (node 2 0) }
+
+abbrev pub linked3 : Words
+linked3 = let w = linked2 in record w { head = update w.head 1 (node 2 0) }
+
+abbrev pub published_again : Words
+published_again = let w = linked3 in record w { born = update w.born 1 3 }
+
+-- the owner ends the claim and the round
+abbrev pub unclaimed_again : Words
+unclaimed_again = let w = published_again in record w { claimed = update w.claimed 0 0 }
+
+abbrev pub finished3 : Words
+finished3 = let w = unclaimed_again in record w { round = 3; taken = 0 }
+
+-- and cuts block 0 out of both chains, while the pin of round 2 is out
+abbrev pub cut0 : Words
+cut0 = let w = finished3 in record w { hist = update w.hist (member_of 1 false) (node 0 0) }
+
+abbrev pub cut1 : Words
+cut1 = let w = cut0 in record w { hist = update w.hist (member_of 1 true) (node 0 0) }
+
+-- the words of the run, in order
+abbrev pub twice_words : List Words
+twice_words = fresh_words 2 ∷ claimed ∷ drawn ∷ history0 ∷ history1 ∷ undead ∷ named0 ∷ named1 ∷ child0 ∷ child1 ∷ child2 ∷ child3 ∷ linked0 ∷ linked1 ∷ published ∷ unclaimed ∷ finished1 ∷ stopped ∷ rewound ∷ laid ∷ opened ∷ retired ∷ stamped0 ∷ stamped1 ∷ finished2 ∷ pinned ∷ claimed_again ∷ drawn_again ∷ history2 ∷ history3 ∷ undead_again ∷ named2 ∷ named3 ∷ child4 ∷ child5 ∷ child6 ∷ child7 ∷ linked2 ∷ linked3 ∷ published_again ∷ unclaimed_again ∷ finished3 ∷ cut0 ∷ cut1 ∷ []
+
+-- the law that the run is one: its states come from the fresh one, each by a step from the one before, and have these words
+abbrev pub SquareTwice : Type 0
+SquareTwice = (states : List State) × Run pair_setup (fresh_state 2) states × Along (fresh_state 2 ∷ states) twice_words
+
+-- exactly the listed names are read from the words at the round q
+abbrev pub ReadsNames : Words → ℕ → List ℕ → Type 0
+ReadsNames w q names = (n : Name) → IsRead w 2 q n ↔ ((depth n ≤ 24) × HasEntry names (name_code n))
+
+-- the law of what is read in its states at finished rounds: the cuts change nothing of it
+pub record TwiceReads : Type 0 where
+  pub finished1 : ReadsNames finished1 1 (name0 ∷ name1 ∷ [])
+  pub stamped : ReadsNames stamped1 1 (name0 ∷ name1 ∷ [])
+  pub finished2 : ReadsNames finished2 2 []
+  pub linked_again : ReadsNames linked3 2 []
+  pub published_again : ReadsNames published_again 2 []
+  pub finished3 : ReadsNames finished3 2 [] × ReadsNames finished3 3 (name0 ∷ name1 ∷ [])
+  pub cut : ReadsNames cut1 2 [] × ReadsNames cut1 3 (name0 ∷ name1 ∷ [])

@@ -1,0 +1,22 @@
+//! Laws over the definitions alone.
+ghost use Rattle.square_runs.specs.SquareFull.{SquareFull, SquareUndrawn};
+ghost use Rattle.square_runs.specs.SquareKinds.{KindsOccur, RunsLawful, TwoWords};
+ghost use Rattle.square_runs.specs.SquareRun.{SquareFollows, SquareReads, SquareRefused, SquareRuns, SquareVisits};
+ghost use Rattle.square_runs.specs.SquareTwice.{SquareTwice, TwiceReads};
+
+/// There are runs of steps on the square, from the claim of its patch to the second draw of its block,
+/// and what is read in their states; each kind of step occurs in one, and each state is lawful.
+pub fn laws()
+    ensures square { SquareRuns }
+    ensures square_reads { SquareReads }
+    ensures follows { SquareFollows }
+    ensures refused { SquareRefused }
+    ensures visits { SquareVisits }
+    ensures full { SquareFull }
+    ensures undrawn { SquareUndrawn }
+    ensures twice { SquareTwice }
+    ensures twice_reads { TwiceReads }
+    ensures lawful { RunsLawful }
+    ensures two_words { TwoWords }
+    ensures kinds { KindsOccur }
+{}
