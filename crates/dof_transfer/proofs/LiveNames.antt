@@ -133,3 +133,13 @@ remove-absent m n none = same_map name_cmp_total name_cmp-same _ _ (λ q. get-re
         | true ↦ λ (e : eq_by_cmp name_cmp q n ≡ true). sym none ∙ ap (get m) (sym (same_name q n e))
         | false ↦ λ _. refl
       ] refl
+
+-- an entry is put back where an empty slot was laid over it
+pub put-back : (s : Slots) (n : Name) (v : Slot) → get s n ≡ Some v → insert (insert s n None) n v ≡ s
+put-back s n v there = same_map name_cmp_total name_cmp-same _ _ (λ q. get-insert name_cmp_total (insert s n None) n v q ∙ ap (cond (eq_by_cmp name_cmp q n) (Some v)) (get-insert name_cmp_total s n None q) ∙ back q) where
+  back : (q : Name) → cond (eq_by_cmp name_cmp q n) (Some v) (cond (eq_by_cmp name_cmp q n) (Some None) (get s q)) ≡ get s q
+  back q =
+      elim (eq_by_cmp name_cmp q n) as (λ (b : Bool). eq_by_cmp name_cmp q n ≡ b → cond b (Some v) (cond b (Some None) (get s q)) ≡ get s q) [
+        | true ↦ λ (e : eq_by_cmp name_cmp q n ≡ true). sym there ∙ ap (get s) (sym (same_name q n e))
+        | false ↦ λ _. refl
+      ] refl

@@ -3,7 +3,7 @@ ghost use Rattle.std.specs.Prelude.{◌≡◌, true, Option, Some, None, OnErr, 
 ghost use Rattle.std.specs.FinMap as map;
 ghost use Rattle.mesh_names.specs.Names.{Name};
 ghost use Rattle.dof_transfer.specs.InOrder.{KeepsFirst, owner_of};
-ghost use Rattle.dof_transfer.specs.Slots.{forgotten, live_at, moved_slot, readied};
+ghost use Rattle.dof_transfer.specs.Slots.{forgotten, live_at, live_of, moved_slot, readied};
 
 use mesh_names::name::ElemName;
 use mesh_names::patch::VertexKey;
@@ -92,8 +92,9 @@ impl Entries {
         ensures ok { OnOk result (self.new ≡ readied self.old name) }
         ensures err { OnErr result (self.new ≡ self.old) }
     {
-        if !self.slots.contains_key(&name) {
-            self.slots.insert(name, None)?;
+        if let Some(slot) = self.slots.insert(name, None)? {
+            let put: Result<_, _> = self.slots.insert(name, slot);
+            let _ = put.unwrap();
         }
         Ok(())
     }
@@ -107,13 +108,16 @@ impl Entries {
         let _ = put.unwrap();
     }
 
-    /// Empties the name's slot, which stays ready. Takes no memory.
-    pub(crate) fn empty(&mut self, name: ElemName)
-        requires { map.contains_key self.old name ≡ true }
-        ensures { self.new ≡ map.insert self.old name None }
+    /// Takes the entry out of the name's slot, which stays ready. Takes no memory where there is a slot.
+    pub(crate) fn take_out(&mut self, name: ElemName) -> Option<Entry>
+        ensures value { result ≡ live_at self.old name }
+        ensures live { live_of self.new ≡ map.remove (live_of self.old) name }
+        ensures kept { (n : Name) → map.contains_key self.old n ≡ true → map.contains_key self.new n ≡ true }
     {
-        let put: Result<_, _> = self.slots.insert(name, None);
-        let _ = put.unwrap();
+        let Ok(old) = self.slots.insert(name, None) else {
+            return None;
+        };
+        old.flatten()
     }
 
     /// Takes the name's slot away where it is empty. Takes no memory.

@@ -82,10 +82,9 @@ impl Ledger {
         ensures kept { KeepsReady self.old self.new }
         ensures spare { self.old.admin.spare ≤ self.new.admin.spare }
     {
-        let Some(entry) = self.entries.get(name) else {
+        let Some(entry) = self.entries.take_out(name) else {
             return 0;
         };
-        self.entries.empty(name);
         self.admin.free(entry.index);
         entry.value
     }
