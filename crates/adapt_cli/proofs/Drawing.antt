@@ -1,5 +1,5 @@
 -- Rounds of drawn marks, one after another.
-use Rattle.std.proofs.Common.{◌≡◌, ℕ, zero, suc, ◌+◌, ◌-◌, ◌<◌, ◌≤◌, refl, sym, subst, List, All, inl, inr, ⊎_elim, arith}
+use Rattle.std.proofs.Common.{◌≡◌, ℕ, suc, ◌+◌, ◌-◌, ◌<◌, ◌≤◌, refl, sym, subst, List, All, inl, inr, ⊎_elim, arith}
 use Rattle.std.specs.Prelude.{Result, Ok, Err, string_bytes}
 use Rattle.mesh_names.specs.Names.{Name}
 use Rattle.mesh_names.specs.Triangles.{level}
@@ -9,7 +9,7 @@ use Rattle.compat_check.specs.Meshes.{Mesh, across_in, shape_of}
 use Rattle.forest_plain.specs.Rounds.{IsRoundRefusal}
 use Rattle.forest_plain.specs.declared.refusal.RoundRefusal.{RoundRefusal}
 use Rattle.mesh_rounds.specs.State.{IsFirst, IsMeshRound, State}
-use Rattle.soak.specs.Rows.{Drawing, IsDrawn, after, rows_for}
+use Rattle.soak.specs.Rows.{Drawing, IsDrawn, rows_for}
 use Rattle.adapt_words.specs.Words.{SoakWords}
 use Rattle.adapt_cli.specs.FaultTexts.{Fault}
 use Rattle.adapt_cli.specs.Reports.{AreLeaves}

@@ -1,12 +1,12 @@
 -- How a soak ends.
-use Rattle.std.proofs.Common.{◌≡◌, ℕ, zero, suc, ◌+◌, ◌≤◌, ap, sym, ◌∙◌, subst, List, min, inl, inr, ⊎_elim, arith}
+use Rattle.std.proofs.Common.{◌≡◌, ℕ, zero, suc, ◌+◌, ap, sym, ◌∙◌, subst, List, min, inl, inr, ⊎_elim, arith}
 use Rattle.std.specs.Prelude.{Option, Some, None, Result, Ok, Err}
 use Rattle.mesh_names.specs.Triangles.{level}
 use Rattle.compat_check.specs.Meshes.{Mesh, shape_of}
 use Rattle.mesh_rounds.specs.State.{IsMeshRound, State}
 use Rattle.soak.specs.Rows.{Drawing, after, rows_for}
 use Rattle.adapt_words.specs.Words.{CommandWords, RunWords, SoakWords, run, soak}
-use Rattle.adapt_cli.specs.Ending.{Call, Ends, IsOutcomeOf, IsOutside, IsRefused, IsUnread, LosesLine, LosesText, WantsMemory, WritesLine, WritesText}
+use Rattle.adapt_cli.specs.Ending.{Call, IsOutcomeOf, IsOutside, IsRefused, IsUnread, LosesLine, LosesText, WantsMemory, WritesLine, WritesText}
 use Rattle.adapt_cli.specs.FaultTexts.{Fault}
 use Rattle.adapt_cli.specs.Rounds.{whole}
 use Rattle.adapt_cli.specs.SoakEnds.{FaultsAreFullPools, IsFullPool, IsSoakEnd, SoaksEnd}

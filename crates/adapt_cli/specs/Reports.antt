@@ -16,6 +16,10 @@ use Rattle.adapt_cli.specs.Rounds.{last_state}
 abbrev pub AreLeaves : Mesh → State → List Name → Type 0
 AreLeaves mesh state list = IsListOf (leaves (shape_of mesh) state.members) list
 
+-- the mesh has so many leaves in this state
+abbrev pub HasLeaves : Mesh → State → ℕ → Type 0
+HasLeaves mesh state count = (list : List Name) × AreLeaves mesh state list × (count ≡ length list)
+
 -- the text of the mesh in this state
 abbrev pub IsTextOfState : Mesh → State → List ℕ → Type 0
 IsTextOfState mesh state text = (list : List Name) × AreLeaves mesh state list × IsMeshText mesh list state.vertices state.elements text

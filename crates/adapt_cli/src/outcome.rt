@@ -64,5 +64,8 @@ fn make_rounds<R: Threads + Sync>(
     if let Err(stop) = run_rounds(alloc, mesh, &mut forest, &mut values, rounds) {
         return Err(stop);
     }
-    state_text(rt, alloc, mesh, &mut forest, &values)
+    match state_text(rt, alloc, mesh, &mut forest, &values) {
+        Ok((text, _)) => Ok(text),
+        Err(stop) => Err(stop),
+    }
 }

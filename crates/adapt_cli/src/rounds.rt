@@ -5,7 +5,7 @@ ghost use Rattle.compat_check.specs.Meshes.{across_in, shape_of};
 ghost use Rattle.mark_file.specs.Meaning.{rounds_read};
 ghost use Rattle.forest_plain.specs.Forests.{members_of, mesh_of, pool_of, sides_of};
 ghost use Rattle.mesh_rounds.specs.State.{IsState, with_values};
-ghost use Rattle.adapt_cli.specs.Reports.{IsTextOfState};
+ghost use Rattle.adapt_cli.specs.Reports.{HasLeaves, IsTextOfState};
 ghost use Rattle.adapt_cli.specs.Rounds.{LeadTo};
 ghost use Rattle.adapt_cli.specs.Stops.{IsRun, StopsBy};
 
@@ -45,17 +45,18 @@ pub fn run_rounds(
     Ok(())
 }
 
-/// The text of a mesh.
+/// The text of a mesh, and how many leaves it has.
 pub fn state_text<R: Threads + Sync>(
     rt: &R,
     alloc: Global,
     mesh: &MacroMesh,
     forest: &mut PlainForest<'_>,
     values: &Values,
-) -> Result<Vec<u8>, Stop>
+) -> Result<(Vec<u8>, usize), Stop>
     requires mesh { mesh_of forest.old ≡ shape_of mesh.now }
     requires state { IsState mesh.now (with_values (members_of forest.old) values.now) }
-    ensures ok { IfOk result (λ text. IsTextOfState mesh.now (with_values (members_of forest.old) values.now) text.items) }
+    ensures ok { IfOk result (λ told. IsTextOfState mesh.now (with_values (members_of forest.old) values.now) told.0.items) }
+    ensures leaves { IfOk result (λ told. HasLeaves mesh.now (with_values (members_of forest.old) values.now) told.1) }
     ensures memory { IfErr result (λ stop. stop ≡ Stop.Memory) }
     ensures same { (mesh_of forest.new ≡ mesh_of forest.old) × (sides_of forest.new ≡ sides_of forest.old) × (members_of forest.new ≡ members_of forest.old) }
 {
@@ -64,7 +65,7 @@ pub fn state_text<R: Threads + Sync>(
         return Err(Stop::Memory);
     };
     match mesh_text(rt, alloc, mesh, &leaves, &values.vertices, &values.elements) {
-        Ok(text) => Ok(text),
+        Ok(text) => Ok((text, leaves.len())),
         Err(_) => Err(Stop::Memory),
     }
 }

@@ -4,6 +4,7 @@ ghost use Rattle.compat_check.specs.Meshes.{across_in, shape_of};
 ghost use Rattle.forest_plain.specs.Forests.{members_of, mesh_of, pool_of, sides_of};
 ghost use Rattle.mesh_rounds.specs.State.{IsState, with_values};
 ghost use Rattle.adapt_words.specs.Words.{IsSoakInRange, soak_said};
+ghost use Rattle.adapt_cli.specs.Reports.{HasLeaves};
 ghost use Rattle.adapt_cli.specs.Soaks.{DrawnTo, DrawsTo, IsGridMesh, IsSoakOutcome, IsSoakText, TellsOf, soak_head};
 ghost use Rattle.adapt_cli.specs.Stops.{StopsBy};
 
@@ -103,25 +104,23 @@ fn head_text(alloc: Global, soak: &Soak) -> Result<String, AllocError>
     format!(in alloc; "soak {start} grid {grid} rounds {rounds}")
 }
 
-// The line of a mesh, whose text has so many bytes: its leaves, vertices and patches.
+// The line of a mesh with so many leaves, whose text has so many bytes.
 fn line_text(
     alloc: Global,
     soak: &Soak,
     mesh: &MacroMesh,
-    forest: &mut PlainForest<'_>,
+    forest: &PlainForest<'_>,
     values: &Values,
+    leaves: usize,
     bytes: usize,
 ) -> Result<String, Stop>
-    requires mesh { mesh_of forest.old ≡ shape_of mesh.now }
-    requires sides { sides_of forest.old ≡ across_in mesh.now }
-    ensures ok { IfOk result (λ line. IsSoakText mesh.now (soak_said soak.now) (with_values (members_of forest.old) values.now) bytes (string_bytes line)) }
+    requires mesh { mesh_of forest.now ≡ shape_of mesh.now }
+    requires sides { sides_of forest.now ≡ across_in mesh.now }
+    requires leaves { HasLeaves mesh.now (with_values (members_of forest.now) values.now) leaves }
+    ensures ok { IfOk result (λ line. IsSoakText mesh.now (soak_said soak.now) (with_values (members_of forest.now) values.now) bytes (string_bytes line)) }
     ensures memory { IfErr result (λ stop. stop ≡ Stop.Memory) }
 {
     let _values = &values.vertices;
-    let Ok(leaves) = forest.leaves() else {
-        return Err(Stop::Memory);
-    };
-    let leaves = leaves.len();
     let patches = forest.patches();
     let vertices = u64::from(mesh.vertex_count()) + u64::from(patches);
     let head = head_text(alloc, soak)?;
@@ -146,10 +145,10 @@ fn tell<R: Threads + Sync>(
     ensures ok { IfOk result (λ line. TellsOf mesh.now (soak_said soak.now) (with_values (members_of forest.old) values.now) line.items) }
     ensures memory { IfErr result (λ stop. stop ≡ Stop.Memory) }
 {
-    let Ok(text) = state_text(rt, alloc, mesh, forest, values) else {
+    let Ok((text, leaves)) = state_text(rt, alloc, mesh, forest, values) else {
         return Err(Stop::Memory);
     };
-    let Ok(line) = line_text(alloc, soak, mesh, forest, values, text.len()) else {
+    let Ok(line) = line_text(alloc, soak, mesh, forest, values, leaves, text.len()) else {
         return Err(Stop::Memory);
     };
     Ok(line.into_bytes())

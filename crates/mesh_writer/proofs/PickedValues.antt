@@ -1,5 +1,5 @@
 -- Values that are there, and values at slots.
-use Rattle.std.proofs.Common.{◌≡◌, ℕ, ◌<◌, ℤ, pos, true, true≢false, List, [], ◌∷◌, map, length, refl, sym, ap, ◌∙◌}
+use Rattle.std.proofs.Common.{◌≡◌, ℕ, ℤ, pos, true≢false, List, [], ◌∷◌, map, length, refl, sym}
 use Rattle.std.specs.Prelude.{All, Option, Some, None, IsSome, unwrap_or}
 use Rattle.std.proofs.lemmas.List.{get_or-map}
 use Rattle.std.proofs.lemmas.List.Elements.{All-head, All-tail}

@@ -1,5 +1,5 @@
 -- For each edge of a list of triples the first other place with the same edge.
-use Rattle.std.specs.Prelude.{◌≡◌, ℕ, ℤ, ◌+◌, ◌*◌, ◌/◌, ◌<◌, List, [], ◌∷◌, ◌++◌, length, Option, Some, None, map, option_map, slice_index_or, slice_set}
+use Rattle.std.specs.Prelude.{◌≡◌, ℕ, ℤ, ◌*◌, ◌/◌, ◌<◌, List, [], ◌∷◌, ◌++◌, length, Option, Some, None, map, option_map, slice_index_or, slice_set}
 use Rattle.std.specs.Simd.{first_chunks}
 use Rattle.mesh_names.specs.Triangles.{Triple}
 use Rattle.compat_check.specs.Places.{Meets}

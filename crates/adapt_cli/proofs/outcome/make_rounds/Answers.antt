@@ -6,7 +6,7 @@ use Rattle.adapt_words.specs.Words.{run_said}
 use Rattle.mesh_rounds.specs.State.{with_values}
 use Rattle.adapt_cli.specs.Rounds.{LeadTo}
 use Rattle.adapt_cli.specs.Stops.{IsReportedRun, IsRun, StopsBy}
-use Rattle.adapt_cli.proofs.Outcomes.{ends_in_report, ends_in_text, ends_memory, ends_refused}
+use Rattle.adapt_cli.proofs.Outcomes.{ends_in_report, ends_in_text, ends_refused}
 use Rattle.adapt_cli.proofs.Texts.{first-state}
 use Rattle.adapt_cli.proofs.outcome.make_rounds.Goals as goal
 
@@ -22,15 +22,12 @@ returns-in-Err-clause-stopped g c =
     ends_refused c.args.mesh.now (run_said c.args.run.now) (rounds_read c.args.rounds.now) first c.in-Err.stop (record { members = c.new-forest.ensures.members; vertices = c.in-Ok.ensures.vertices; elements = c.in-Ok.ensures.elements })
     (subst (λ (p : ℕ). StopsBy (LeadTo c.args.mesh.now p (rounds_read c.args.rounds.now) first) c.in-Err.stop) c.new-forest.ensures.pool c.in-Err.ensures.stopped)
 
-pub returns-clause-ok : goal.returns-clause-ok
-returns-clause-ok g c =
+pub returns-in-Ok-state_text-clause-ok : goal.returns-in-Ok-state_text-clause-ok
+returns-in-Ok-state_text-clause-ok g c =
     let first = with_values (members_of c.new-forest.result) c.in-Ok.values in
     let last = with_values (members_of c.run_rounds.new.forest) c.run_rounds.new.values in
-    IfOk-weaker c.state_text.result _ _ (λ text h. ends_in_text c.args.mesh.now (run_said c.args.run.now) (rounds_read c.args.rounds.now) first last text.items c.if-run.false (record { members = c.new-forest.ensures.members; vertices = c.in-Ok.ensures.vertices; elements = c.in-Ok.ensures.elements })
-    (subst (λ (p : ℕ). IsRun c.args.mesh.now p (rounds_read c.args.rounds.now) first last) c.new-forest.ensures.pool c.in_default-run_rounds.ensures.ok) h) c.state_text.ensures.ok
-
-pub returns-clause-stopped : goal.returns-clause-stopped
-returns-clause-stopped g c = IfErr-weaker c.state_text.result _ _ (λ stop h. ends_memory c.args.mesh.now (run_said c.args.run.now) (rounds_read c.args.rounds.now) stop h) c.state_text.ensures.memory
+    ends_in_text c.args.mesh.now (run_said c.args.run.now) (rounds_read c.args.rounds.now) first last c.in-Ok-state_text.text.items c.if-run.false (record { members = c.new-forest.ensures.members; vertices = c.in-Ok.ensures.vertices; elements = c.in-Ok.ensures.elements })
+    (subst (λ (p : ℕ). IsRun c.args.mesh.now p (rounds_read c.args.rounds.now) first last) c.new-forest.ensures.pool c.in_default-run_rounds.ensures.ok) c.in-Ok-state_text.ensures.ok
 
 pub returns-then-run-clause-ok : goal.returns-then-run-clause-ok
 returns-then-run-clause-ok g c =

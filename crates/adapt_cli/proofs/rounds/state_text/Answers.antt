@@ -1,4 +1,4 @@
-use Rattle.std.proofs.Common.{sym}
+use Rattle.std.proofs.Common.{refl, sym, arith}
 use Rattle.compat_check.specs.Meshes.{shape_of}
 use Rattle.forest_plain.specs.Forests.{members_of, mesh_of}
 use Rattle.adapt_cli.proofs.Texts.{leaves-have, leaves-listed, vertices-have}
@@ -21,4 +21,11 @@ returns-in-Ok-mesh_text-clause-ok g c = (
   c.deref.result.now,
   leaves-listed (mesh_of c.args.forest.now) (shape_of c.args.mesh.now) (members_of c.args.forest.now) c.in-Ok.leaves.items c.deref.result.now c.requires.mesh (sym c.deref.ensures.value) c.in-Ok.ensures.ok,
   c.in-Ok-mesh_text.ensures,
+)
+
+pub returns-in-Ok-mesh_text-clause-leaves : goal.returns-in-Ok-mesh_text-clause-leaves
+returns-in-Ok-mesh_text-clause-leaves g c = (
+  c.in-Ok.leaves.items,
+  leaves-listed (mesh_of c.args.forest.now) (shape_of c.args.mesh.now) (members_of c.args.forest.now) c.in-Ok.leaves.items c.in-Ok.leaves.items c.requires.mesh refl c.in-Ok.ensures.ok,
+  omega (arith, c.len.ensures, c.in-Ok.leaves.ok),
 )

@@ -1,5 +1,5 @@
 use Rattle.std.proofs.Common.{◌≡◌, ◌/◌, ◌++◌, ◌∷◌, ◌∙◌, arith, refl, sym, ap, map, length, subst}
-use Rattle.std.specs.Prelude.{All, IsSome, codes, pos}
+use Rattle.std.specs.Prelude.{All, codes, pos}
 use Rattle.std.specs.List.{AllZip}
 use Rattle.std.specs.Fmt.{signed_decimal}
 use Rattle.std.specs.Simd.{first_chunks}

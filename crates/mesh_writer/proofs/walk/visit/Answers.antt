@@ -1,4 +1,3 @@
-use Rattle.std.proofs.Common.{◌∙◌}
 use Rattle.compat_check.specs.Meshes.{shape_of}
 use Rattle.compat_check.specs.Points.{labels}
 use Rattle.mesh_writer.proofs.Walking.{next_corners, next_mapped}

@@ -1,4 +1,4 @@
-use Rattle.std.proofs.Common.{◌≡◌, ap, ◌∙◌, sym, refl, subst, true, Option, Some, None, unwrap_or, is_some}
+use Rattle.std.proofs.Common.{◌≡◌, ap, ◌∙◌, sym, refl, Option, Some, None, unwrap_or}
 use Rattle.std.specs.FinMap.{contains_key, from_entries, get}
 use Rattle.std.specs.Option.{option_flatten}
 use Rattle.dof_transfer.specs.Slots.{Slot, Slots, live_of}

@@ -1,4 +1,4 @@
-use Rattle.std.proofs.Common.{◌≡◌, ap, ◌∙◌, sym, subst, ℕ, ℤ, pos, Option, None, unwrap_or, option_map, w64, rules}
+use Rattle.std.proofs.Common.{◌≡◌, ap, ◌∙◌, sym, subst, ℕ, ℤ, pos, Option, unwrap_or, option_map, w64, rules}
 use Rattle.std.proofs.lemmas.Int.{to_z-of_z}
 use Rattle.dof_transfer.specs.declared.entries.Entry.{Entry}
 use Rattle.dof_transfer.specs.Held.{IsSound, cleared, given_back}
