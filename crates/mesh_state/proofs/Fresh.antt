@@ -60,6 +60,7 @@ starts s a = record {
     fits = λ q k. record { found = λ i b e. absurd (omega arith); both = λ b y t u e. absurd (omega arith) };
     sound = λ q k b t x e. absurd (omega arith);
     patch = λ b x m u. absurd (free_not x m u);
+    one = λ b c p q e. absurd (free_not p.0 p.1 p.2);
     calm = λ b x m l u. omega arith;
     grows = λ i b l e. absurd (omega arith);
     either = λ i b l e. absurd (omega arith);

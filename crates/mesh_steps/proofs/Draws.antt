@@ -124,7 +124,7 @@ module _ (s : Setup) (w : Words) (n : ℕ) (v : Views) (g : Ghost) (r : Rule s w
           undone = λ b y k u. r.chains.undone b y k (undone_life b y k u);
           sides = λ b t i y h k. r.chains.sides b t i y (back_stand b t y h) (back_stand b i y k);
         };
-        names = names_on s w.name w.name w.head w.hist w.head w.hist w.born w.died w.born w.died g.life life (λ _ _ _ _ _. refl) w.round v.ruling.phase g.who v.read Can A moves (λ _ k. k) (λ b y k u. r.names.patch b y k (back_life b y k u)) (λ b y k l u. r.names.calm b y k l (back_life b y k u)) r.names;
+        names = names_on s w.name w.name w.head w.hist w.head w.hist w.born w.died w.born w.died g.life life (λ _ _ _ _ _. refl) w.round v.ruling.phase g.who v.read Can A moves (λ _ k. k) (λ b y k u. r.names.patch b y k (back_life b y k u)) (λ b p. (p.0, p.1, back_life b p.0 p.1 p.2, p.3, p.4)) (λ b y k l u. r.names.calm b y k l (back_life b y k u)) r.names;
         pins = r.pins;
         works = update_cases (λ i u. WorkRule s w.round v.ruling.phase w.name w.born w.died life (g.who d) (v.kind i) i u) v.work j noted
             (let k = r.works j in record { only = k.only; found = k.found; known = k.known; open_ = k.open_; given = λ c y h. let t = (k.given c y h).0 in let z = one in absurd (omega arith) })
