@@ -55,7 +55,7 @@ starts s a = record {
     none = λ x e. refl;
   };
   labels = λ x j m p h e. absurd (omega arith);
-  chains = record { heads = λ x l. inl refl; hists = λ b t x h. absurd (omega arith); borns = λ b. omega arith; dieds = λ b x m u l. absurd (omega arith); undone = λ b x m u. refl; sides = λ b t u x h. absurd (omega arith) };
+  chains = record { heads = λ x l. inl refl; hists = λ b t x h. absurd (omega arith); borns = λ b. omega arith; dieds = λ b x m u l. absurd (omega arith); undone = λ b x m u. refl; unborn = λ b. inl refl; sides = λ b t u x h. absurd (omega arith) };
   names = record {
     fits = λ q k. record { found = λ i b e. absurd (omega arith); both = λ b y t u e. absurd (omega arith) };
     sound = λ q k b t x e. absurd (omega arith);

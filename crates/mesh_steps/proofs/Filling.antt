@@ -10,7 +10,7 @@ use Rattle.mesh_words.specs.Entries.{HasEntry}
 use Rattle.mesh_words.proofs.Functions.{update_at, update_other, update_cases}
 use Rattle.mesh_words.proofs.PlaceNumbers.{member_one, child_one}
 use Rattle.mesh_state.specs.Ghosts.{Held, Life, Loose, Placed, Undone, chained, stands, Ghost}
-use Rattle.mesh_state.specs.Chains.{IsPlace, ChainsRule}
+use Rattle.mesh_state.specs.Chains.{IsPlace, IsUnborn, ChainsRule}
 use Rattle.mesh_state.specs.Claims.{Shape, linked}
 use Rattle.mesh_state.specs.Bisections.{IsPlaceOf, MayRead}
 use Rattle.mesh_state.specs.Sure.{GuardsBlock, GuardsHead, SureRule}
@@ -74,7 +74,7 @@ module _ (s : Setup) (w : Words) (n : ℕ) (v : Views) (g : Ghost) (r : Rule s w
   module _ (hist' : ℕ → Node) (died' name' : ℕ → ℕ) (u : Sure) (off : (c : ℕ) → c ≢ b → ((t : Bool) → hist' (member_of c t) ≡ w.hist (member_of c t)) × (died' c ≡ w.died c) × ((t : Bool) → name' (member_of c t) ≡ w.name (member_of c t)))
       (sure : SureRule s.elements v.ruling.workers w.head hist' w.born died' name' w.row g.stage j u) where
     step_chains : ChainsRule s.elements w.round w.head hist' w.born died' g.life × Moves Can A s.elements w.round w.head w.hist w.head hist' w.born w.died w.born died' g.life g.life
-    step_chains = resets Can A s.elements w.round w.head w.hist w.born w.died g.life r.chains b (λ t. ap (λ (i : Life). chained i t) loose) hist' w.born died' (λ c o. ((off c o).0, refl, (off c o).1)) (r.chains.borns b) (λ y k e. absurd (clash (x + 1) y k (sym loose ∙ e)))
+    step_chains = resets Can A s.elements w.round w.head w.hist w.born w.died g.life r.chains b (λ t. ap (λ (i : Life). chained i t) loose) hist' w.born died' (λ c o. ((off c o).0, refl, (off c o).1)) (r.chains.borns b) (λ y k e. absurd (clash (x + 1) y k (sym loose ∙ e))) (subst (IsUnborn w.round (w.born b) (died' b)) (sym loose) (r.claims.shape x j m (Drawn b) is).1)
       where
         clash : (u y k : ℕ) → Loose u ≡ Undone y k → ⊥
         clash u y k e = cc

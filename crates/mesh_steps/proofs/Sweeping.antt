@@ -12,7 +12,7 @@ use Rattle.mesh_words.specs.Entries.{HasEntry, Noted}
 use Rattle.mesh_words.proofs.Functions.{update_same, update_at, update_other}
 use Rattle.mesh_words.proofs.Entries.{noted_after}
 use Rattle.mesh_state.specs.Ghosts.{Stage, Held, Life, Free, Placed, Undone, chained, stands, Ghost}
-use Rattle.mesh_state.specs.Chains.{Covers, IsPlace, ChainsRule}
+use Rattle.mesh_state.specs.Chains.{Covers, IsPlace, IsUnborn, ChainsRule}
 use Rattle.mesh_state.specs.Claims.{ClaimsRule}
 use Rattle.mesh_state.specs.Bisections.{MayRead}
 use Rattle.mesh_state.specs.Sure.{GuardsBlock, GuardsHead, SureRule}
@@ -24,7 +24,7 @@ use Rattle.mesh_words.proofs.PlaceNumbers.{child_one, child_outside}
 use Rattle.mesh_state.proofs.Lists.{crew_free}
 use Rattle.mesh_state.proofs.FoundAgain.{placed, chained_stands, names_on, goes_on, walks_home, Moves}
 use Rattle.mesh_state.proofs.ChainSteps.{moves_same, skips, cuts_hist}
-use Rattle.mesh_steps.proofs.BlockSteps.{resets, frees}
+use Rattle.mesh_steps.proofs.BlockSteps.{resets, frees, gives_up}
 use Rattle.mesh_state.proofs.HeldClaims.{not_open, free_not}
 use Rattle.mesh_state.proofs.Across.{Went, some_worker, no_pin}
 
@@ -325,7 +325,8 @@ module _ (s : Setup) (w : Words) (n : ℕ) (v : Views) (g : Ghost) (r : Rule s w
           (λ t. let dd = own.dieds c t.0 t.1 in let t2 = t.2 in let t3 = t.3 in let fin = r.stock.finished in let o = over c (omega arith) (omega arith) (subst Clear (sym dd) t.4) q k in ((λ _ _ _. o), λ a. o a.1))
           (λ t. let y = r.note.undone c t.0 in ((λ u i h. absurd (not_chained c u i y.0 y.1 y.2 h)), λ a. unvisited c q t.0 t.1 t.2 a)) (clear c e))
           (λ x c l h e. let t = clean_head x l in clash (gone c) e (t.2 c (sym (ap (λ (i : Node). i.block) (own.heads x t.0 t.1)) ∙ h)))
-          (λ b t x c u f h e. let k = clean_history b t x u f in clash (gone c) e (k.2 c (sym (ap (λ (i : Node). i.block) (own.hists b t k.0 k.1)) ∙ h))))
+          (λ b t x c u f h e. let k = clean_history b t x u f in clash (gone c) e (k.2 c (sym (ap (λ (i : Node). i.block) (own.hists b t k.0 k.1)) ∙ h)))
+          (λ c e. ⊎_elim (λ t. let dd = own.dieds c t.0 t.1 in let t2 = t.2 in let t3 = t.3 in let fin = r.stock.finished in gives_up Can A s.elements w.round w.head w.hist w.born w.died g.life r.chains c (omega arith) (omega arith)) (λ t. let y = r.note.undone c t.0 in inl (r.chains.undone c y.0 y.1 y.2)) (clear c e)))
           (λ b x m u. (back b x m u, refl, λ p. p)) (λ y j k p h. absurd (no_stage y j k p h)) own
           (λ c h. ((λ e. omega arith), ⊎_elim (λ k. either_free gone c (r.hand c k).1) (λ k. gone_free gone c k.0) (more c h)))
           (let k = r.stock in record { finished = k.finished; cursor_is = k.cursor_is; free_is = k.free_is; left = k.left; never = λ b l. ⊎_elim (λ e. inl (either_free gone b e)) inr (k.never b l) })
@@ -344,7 +345,7 @@ module _ (s : Setup) (w : Words) (n : ℕ) (v : Views) (g : Ghost) (r : Rule s w
         sweeps quiet w.claimed w.head w.hist (update w.born b 0) w.died g.stage v.claims (update v.sure 0 (record (v.sure 0) { born = (b, 0) ∷ (v.sure 0).born })) v.ruling.hand
         (calm_claims w.cursor w.free w.row w.head (update w.born b 0) g.life (λ c x m u. (u, off c (λ (e : c ≡ b). free_not x m (sym fr ∙ ap g.life (sym e) ∙ u)))) (λ i a l. let t = r.claims.rows i a l in (t.0, zero_at i t.1)) r.claims.apart)
         (resets Can A s.elements w.round w.head w.hist w.born w.died g.life r.chains b (λ t. ap (λ (l : Life). chained l t) fr) w.hist (update w.born b 0) w.died (λ c o. ((λ _. refl), off c o, refl)) (let z = update_same w.born b 0 in omega arith)
-        (λ x m u. absurd (free_undone x m (sym fr ∙ u))))
+        (λ x m u. absurd (free_undone x m (sym fr ∙ u))) (subst (IsUnborn w.round (update w.born b 0 b) (w.died b)) (sym fr) (inl (update_same w.born b 0))))
         (λ c x m u. (refl, λ p. subst (λ (i : ℕ). 0 < i) (off c (λ (e : c ≡ b). free_not x m (sym fr ∙ ap g.life (sym e) ∙ u))) p)) (λ y j k p u. absurd (no_stage y j k p u))
         record { heads = own.heads; hists = own.hists; dieds = own.dieds; names = own.names; borns = noted_after (v.sure 0).born w.born b 0 own.borns; rows = own.rows } r.hand r.inside r.named r.once
       where

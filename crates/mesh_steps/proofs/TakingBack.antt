@@ -12,7 +12,7 @@ use Rattle.mesh_words.specs.Entries.{HasEntry, Noted}
 use Rattle.mesh_words.proofs.Functions.{update_same, update_at, update_other}
 use Rattle.mesh_words.proofs.Entries.{noted_after}
 use Rattle.mesh_state.specs.Ghosts.{Stage, Open, Held, Life, Free, Loose, Placed, Undone, chained, stands, Ghost}
-use Rattle.mesh_state.specs.Chains.{Covers, ChainsRule}
+use Rattle.mesh_state.specs.Chains.{Covers, IsUnborn, ChainsRule}
 use Rattle.mesh_state.specs.Claims.{ClaimsRule, Shape}
 use Rattle.mesh_state.specs.Bisections.{IsPatch, MayRead}
 use Rattle.mesh_state.specs.Rule.{Rule}
@@ -246,7 +246,7 @@ module _ (s : Setup) (w : Words) (n : ℕ) (v : Views) (g : Ghost) (r : Rule s w
           none = r.claims.none;
         }
         (resets Can_ A_ s.elements w.round w.head w.hist w.born w.died g.life r.chains b (λ t. ap (λ (l : Life). chained l t) u) w.hist w.born (update w.died b d) (λ c o. ((λ _. refl), refl, off c o)) (r.chains.borns b)
-        (λ y k h. (r.chains.undone b y k h, (λ _. refl), inr here)))
+        (λ y k h. (r.chains.undone b y k h, (λ _. refl), inr here)) (subst (IsUnborn w.round (w.born b) (update w.died b d b)) (sym u) tt))
         (λ c y k h. (off c (λ (e : c ≡ b). undone_not x m y k (sym u ∙ ap g.life (sym e) ∙ h)), λ p. p)) back_own
         record { heads = own.heads; hists = own.hists; dieds = noted_after (v.sure 0).died w.died b d own.dieds; names = own.names; borns = own.borns; rows = own.rows } r.hand r.inside r.named r.once
 
@@ -267,7 +267,8 @@ module _ (s : Setup) (w : Words) (n : ℕ) (v : Views) (g : Ghost) (r : Rule s w
         (frees Can_ A_ s.elements w.round w.head w.hist w.born w.died g.life r.chains (λ c. c == b)
         (λ c h q k. let e : c ≡ b = eqb-true c b h in ((λ t y u _. not_chained sh.0 e t y u), λ a. unvisited sh.0 e q a))
         (λ y c live h e. let t = named Can_ A_ s.elements w.round w.head w.hist w.born w.died g.life r.chains y c (w.head y) (r.chains.heads y live) h in not_chained sh.0 (eqb-true c b e) t.0 y t.1)
-        (λ c t y a st _ h e. let k = older_named Can_ A_ s.elements w.round w.head w.hist w.born w.died g.life r.chains y a (w.born c) (w.hist (member_of c t)) (r.chains.hists c t y st) h in not_chained sh.0 (eqb-true a b e) k.0 y k.1))
+        (λ c t y a st _ h e. let k = older_named Can_ A_ s.elements w.round w.head w.hist w.born w.died g.life r.chains y a (w.born c) (w.hist (member_of c t)) (r.chains.hists c t y st) h in not_chained sh.0 (eqb-true a b e) k.0 y k.1)
+        (λ c e. inl (ap w.born (eqb-true c b e) ∙ sh.1)))
         (λ c y k u. ((back c y k u).1, refl, λ p. p)) (λ z j k q h. back_own z j k q (dite (ℕ_discrete z x) (λ e. absurd (not_open j k q (sym h ∙ update_at g.stage x z Open e))) (λ o. sym (update_other g.stage x z Open o) ∙ h))) own
         (λ c h. ⊎_elim (λ e. ((λ f. omega arith), update_at g.life b c Free e)) (λ u. let t = r.hand c u in (t.0, dite (ℕ_discrete c b) (λ f. update_at g.life b c Free f) (λ o. off c o ∙ t.1))) h)
         (let k = r.stock in record { finished = k.finished; cursor_is = k.cursor_is; free_is = k.free_is; left = k.left; never = λ c i. ⊎_elim (λ e. inl (dite (ℕ_discrete c b) (λ f. update_at g.life b c Free f) (λ o. off c o ∙ e))) inr (k.never c i) })
