@@ -1,4 +1,5 @@
 //! Laws over the definitions alone.
+ghost use Rattle.square_runs.specs.SquareChild.{ChildReads, SquareChild};
 ghost use Rattle.square_runs.specs.SquareFull.{SquareFull, SquareUndrawn};
 ghost use Rattle.square_runs.specs.SquareKinds.{KindsOccur, RunsLawful, TwoWords};
 ghost use Rattle.square_runs.specs.SquareRun.{SquareFollows, SquareReads, SquareRefused, SquareRuns, SquareVisits};
@@ -16,6 +17,8 @@ pub fn laws()
     ensures undrawn { SquareUndrawn }
     ensures twice { SquareTwice }
     ensures twice_reads { TwiceReads }
+    ensures child { SquareChild }
+    ensures child_reads { ChildReads }
     ensures lawful { RunsLawful }
     ensures two_words { TwoWords }
     ensures kinds { KindsOccur }

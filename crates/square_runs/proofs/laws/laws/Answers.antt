@@ -6,6 +6,8 @@ use Rattle.square_runs.proofs.SquareVisits.{square_visits}
 use Rattle.square_runs.proofs.SquareFull.{square_full}
 use Rattle.square_runs.proofs.SquareUndrawn.{square_undrawn}
 use Rattle.square_runs.proofs.SquareTwice.{square_twice}
+use Rattle.square_runs.proofs.SquareChild.{square_child}
+use Rattle.square_runs.proofs.ChildReads.{child_reads}
 use Rattle.square_runs.proofs.TwiceReads.{twice_reads}
 use Rattle.square_runs.proofs.SquareKinds.{kinds_occur, runs_lawful, two_words}
 use Rattle.square_runs.proofs.laws.laws.Goals as goal
@@ -33,6 +35,12 @@ returns-clause-undrawn c = square_undrawn
 
 pub returns-clause-twice : goal.returns-clause-twice
 returns-clause-twice c = square_twice
+
+pub returns-clause-child : goal.returns-clause-child
+returns-clause-child c = square_child
+
+pub returns-clause-child_reads : goal.returns-clause-child_reads
+returns-clause-child_reads c = child_reads
 
 pub returns-clause-lawful : goal.returns-clause-lawful
 returns-clause-lawful c = runs_lawful
