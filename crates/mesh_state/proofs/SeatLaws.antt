@@ -119,8 +119,9 @@ blocks_known s w n v (g, r) b = ((r.note.undone b, λ t. r.note.all b t.0 t.1 t.
 
 pub others_empty : OthersEmpty
 others_empty s w n v (g, r) j = (
-  (λ other second. let u = (r.works j).only other second in ((λ x m p h. ⊎_elim second other (r.holders x j m p (r.claims.held j x m p h))), r.drawn.only j other second, u.0, u.1, u.2, u.3)),
+  (λ other second. let u = (r.works j).only other second in let k = (r.walks j).only other second in let l = (r.walks j).still other in ((λ x m p h. ⊎_elim second other (r.holders x j m p (r.claims.held j x m p h))), r.drawn.only j other second, u.0, u.1, u.2, u.3, k.0, k.1, k.2, k.3, l.0, l.1)),
   r.pins.readers j,
+  r.pins.spent j,
   r.pins.few j,
 )
 

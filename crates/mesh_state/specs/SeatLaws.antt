@@ -1,6 +1,6 @@
 -- What the rule says of what seats know, and of blocks and claims of the round in work.
 use Rattle.std.specs.Prelude.{◌≡◌, ℕ, ◌+◌, ◌<◌, ◌≤◌, Bool, false, [], ◌⊎◌, ◌↔◌}
-use Rattle.mesh_words.specs.Views.{resting, first_half, second_half, closing, taking_back, worker, reader, ruler}
+use Rattle.mesh_words.specs.Views.{resting, first_half, second_half, closing, taking_back, worker, reader, ruler, Still, unread}
 use Rattle.mesh_words.specs.Claims.{Progress, Drawn, Half, Living, claim}
 use Rattle.mesh_words.specs.Entries.{HasEntry, Noted}
 use Rattle.mesh_words.specs.Places.{member_of, child_place}
@@ -89,10 +89,10 @@ abbrev pub BlocksKnown : Type 0
 BlocksKnown = Always (λ s w n v g. (b : ℕ) → (HasEntry v.ruling.undone b ↔ ((x : ℕ) × (m : ℕ) × (g.life b ≡ Undone x m))) × (HasEntry v.ruling.hand b → (v.ruling.phase ≡ first_half → ⊥) × (g.life b ≡ Free))
     × ((x m : ℕ) → HasEntry v.ruling.placed (b, x, m) → (g.life b ≡ Placed x m) ⊎ (g.life b ≡ Undone x m)) × (v.ruling.ever ≤ b → (g.life b ≡ Free) ⊎ ((i : ℕ) × (i < w.cursor) × (i < w.free) × (w.row i ≡ b))))
 
--- a seat that is neither the owner's nor a worker's, as one that was joined, has no claim, draw or finding; one that is not a reader's has no pin and is not ready for one; and a seat that was never made is of no kind
+-- a seat that is neither the owner's nor a worker's, as one that was joined, has no claim, draw, finding or walk at work; one that is not a reader's has no pin and is not ready for one; one of no kind, as one that was joined, was told nothing and has read and noted nothing; and a seat that was never made is of no kind
 abbrev pub OthersEmpty : Type 0
-OthersEmpty = Always (λ s w n v g. (j : ℕ) → ((v.kind j ≡ worker → ⊥) → (j ≡ 0 → ⊥) → ((x m : ℕ) (p : Progress) → HasEntry (v.claims j) (claim x m p) → ⊥) × ((v.work j).drawn ≡ []) × ((v.work j).found ≡ []) × ((v.work j).known ≡ []) × ((v.work j).open_ ≡ []) × ((v.work j).given ≡ []))
-    × ((v.kind j ≡ reader → ⊥) → ((v.read j).pin ≡ 0) × ((v.read j).ready ≡ 0)) × (n ≤ j → v.kind j ≡ 0))
+OthersEmpty = Always (λ s w n v g. (j : ℕ) → ((v.kind j ≡ worker → ⊥) → (j ≡ 0 → ⊥) → ((x m : ℕ) (p : Progress) → HasEntry (v.claims j) (claim x m p) → ⊥) × ((v.work j).drawn ≡ []) × ((v.work j).found ≡ []) × ((v.work j).known ≡ []) × ((v.work j).open_ ≡ []) × ((v.work j).given ≡ []) × ((v.work j).absent ≡ []) × ((v.work j).stood ≡ []) × ((v.work j).had ≡ []) × ((v.work j).retired ≡ []) × ((v.work j).went ≡ []) × ((v.work j).walk ≡ Still))
+    × ((v.kind j ≡ reader → ⊥) → ((v.read j).pin ≡ 0) × ((v.read j).ready ≡ 0)) × (v.kind j ≡ 0 → v.read j ≡ unread) × (n ≤ j → v.kind j ≡ 0))
 
 -- the owner's seat is the first, and no other; it knows how many workers' and readers' passes are out; and workers' are so in the two halves alone
 abbrev pub PassesCounted : Type 0

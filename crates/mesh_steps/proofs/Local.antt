@@ -147,10 +147,10 @@ split_step : Local SplitStep
 split_step s w n v after (kind, workers, readers, which, number, lone, may, notes, told, e) = subst (IsLocal w n v) (sym e) (inl refl, (0, n, inr refl, inr (refl, refl, refl), (inr (inr (inl (_, refl))), inr (inr (inl (_, refl))), inr (inr (inl (_, refl))), inr (inr (inr (_, _, refl))), inr (inr (inl (_, refl))), inr refl)))
 
 join_worker : Local JoinWorker
-join_worker s w n v after (j, far, kind, left, one, e) = subst (IsLocal w n v) (sym e) (inl refl, (0, j, inr refl, inl refl, (inr (inr (inl (_, refl))), inr (inr (inr (_, _, refl))), inr (inr (inr (_, _, refl))), inr (inr (inr (_, _, refl))), inl refl, inr refl)))
+join_worker s w n v after (j, far, kind, left, one, e) = subst (IsLocal w n v) (sym e) (inl refl, (0, j, inr refl, inl refl, (inr (inr (inl (_, refl))), inr (inr (inr (_, _, refl))), inr (inr (inr (_, _, refl))), inr (inr (inr (_, _, refl))), inr (inr (inl (_, refl))), inr refl)))
 
 join_reader : Local JoinReader
-join_reader s w n v after (j, far, kind, none, left, one, e) = subst (IsLocal w n v) (sym e) (inl refl, (0, j, inr refl, inl refl, (inr (inr (inl (_, refl))), inl refl, inl refl, inl refl, inr (inr (inr (_, _, refl))), inr refl)))
+join_reader s w n v after (j, far, kind, none, left, one, e) = subst (IsLocal w n v) (sym e) (inl refl, (0, j, inr refl, inl refl, (inr (inr (inl (_, refl))), inl refl, inl refl, inr (inr (inl (_, refl))), inr (inr (inr (_, _, refl))), inr refl)))
 
 begin_step : Local BeginStep
 begin_step s w n v after (plan, names, last, aim, room, zero_, cursor, e) = subst (IsLocal w n v) (sym e) (inl refl, (0, 0, inl refl, inl refl, (inl refl, inl refl, inr (inl (_, refl)), inl refl, inl refl, inr refl)))

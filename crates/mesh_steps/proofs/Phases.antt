@@ -303,6 +303,7 @@ module _ (s : Setup) (w : Words) (n : ℕ) (v : Views) (g : Ghost) (r : Rule s w
       past = λ j q e. let l = r.pins.past j q e in omega arith;
       few = r.pins.few;
       readers = r.pins.readers;
+      spent = r.pins.spent;
       bit = r.pins.bit;
       bound = let b = r.pins.bound in omega arith;
     };
