@@ -25,7 +25,7 @@ living_claimed = (
 pub living_blocks : LivingBlocks
 living_blocks s w n v (g, r) b x m u p z = (
   r.names.patch b x m u,
-  (λ t y c. (heads t y c, λ l. (r.names.sound (w.round + 1) (inr (refl, l)) b t y c (p, r.chains.borns b, inl z)).0)),
+  (λ t y c. (heads t y c, (λ a. r.named.heads y b t a (heads t y c) c), λ l. (r.names.sound (w.round + 1) (inr (refl, l)) b t y c (p, r.chains.borns b, inl z)).0)),
   λ c y i a q d e. r.names.one c b (y, i, a, q, d) (x, m, u, p, z) e,
 )
   where

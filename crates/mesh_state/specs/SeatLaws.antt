@@ -9,6 +9,7 @@ use Rattle.mesh_words.specs.Words.{Node, node}
 use Rattle.mesh_state.specs.Ghosts.{Free, Placed, Undone, chained, stands}
 use Rattle.mesh_state.specs.Chains.{IsPlace}
 use Rattle.mesh_state.specs.Bisections.{IsPlaceOf, IsPatch}
+use Rattle.mesh_state.specs.Inside.{IsLabel}
 use Rattle.mesh_state.specs.Laws.{Always}
 use Rattle.mesh_state.specs.Lists.{Holds}
 
@@ -21,10 +22,10 @@ abbrev pub LivingClaimed : Type 0
 LivingClaimed = Always (λ s w n v g. (b x m : ℕ) → g.life b ≡ Placed x m → w.born b ≡ w.round + 1 → (v.ruling.phase ≡ closing → ⊥) → (w.claimed x ≡ 1) × ((j : ℕ) × HasEntry (v.claims j) (claim x m (Living b))))
     × Always (λ s w n v g. (j b x m : ℕ) → HasEntry (v.claims j) (claim x m (Living b)) → (w.born b ≡ w.round + 1) × (g.life b ≡ Placed x m) × (w.head x ≡ node (b + 1) 0) × ((y : ℕ) → m ≡ y + 1 → w.head y ≡ node (b + 1) 0))
 
--- a living block, also one of a round that is taken back, has the names of a patch; the LINK of each member names it; no other living block has the patch; and until the round is taken back it bisects the patch at the round in work
+-- a living block, also one of a round that is taken back, has the names of a patch, which at a place at work are those of the elements there; the LINK of each member names it; no other living block has the patch; and until the round is taken back it bisects the patch at the round in work
 abbrev pub LivingBlocks : Type 0
 LivingBlocks = Always (λ s w n v g. (b x m : ℕ) → g.life b ≡ Placed x m → 0 < w.born b → w.died b ≡ 0 → IsPatch s w.name b m
-    × ((t : Bool) (y : ℕ) → chained (g.life b) t ≡ y + 1 → ((w.head y).block ≡ b + 1) × (v.ruling.phase < taking_back → g.who (w.round + 1) (w.name (member_of b t)) ≡ b + 1))
+    × ((t : Bool) (y : ℕ) → chained (g.life b) t ≡ y + 1 → ((w.head y).block ≡ b + 1) × (IsPlace s.elements g.life y → IsLabel s w.name g.life y (w.name (member_of b t))) × (v.ruling.phase < taking_back → g.who (w.round + 1) (w.name (member_of b t)) ≡ b + 1))
     × ((c y i : ℕ) → g.life c ≡ Placed y i → 0 < w.born c → w.died c ≡ 0 → w.name (member_of c false) ≡ w.name (member_of b false) → c ≡ b))
 
 -- what a pass found of the round in work is so: places and bisected names in the first half, and in the second names that are not bisected and blocks of patches
