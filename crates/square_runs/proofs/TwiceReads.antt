@@ -1,6 +1,5 @@
 -- What is read in the run that bisects the patch of the square twice.
-use Rattle.std.proofs.Common.{◌≡◌, ℕ, ◌+◌, ◌≤◌, List, [], ◌⊎◌, ◌↔◌, refl, inl, inr, ⊎_elim, arith}
-use Rattle.mesh_names.specs.Names.{depth}
+use Rattle.std.proofs.Common.{◌≡◌, ℕ, ◌+◌, List, [], refl, inl, inr}
 use Rattle.mesh_names.specs.Squares.{square}
 use Rattle.mesh_names.specs.Validity.{across_of}
 use Rattle.mesh_names.proofs.Squares.{squares_fit}
@@ -9,12 +8,8 @@ use Rattle.mesh_words.specs.NameWords.{name_code}
 use Rattle.mesh_words.specs.Views.{Views}
 use Rattle.mesh_words.specs.Words.{Words}
 use Rattle.mesh_state.specs.Bisections.{IsKept}
-use Rattle.mesh_state.specs.Lists.{Holds, IsListed}
-use Rattle.mesh_state.specs.Rule.{Lawful}
-use Rattle.mesh_state.proofs.RoundLaws.{differs}
-use Rattle.mesh_reading.specs.Reading.{StandsAt, Bisects}
-use Rattle.mesh_reading.proofs.Reading.{words_read}
-use Rattle.mesh_reading.proofs.ReadingLaws.{reads_history}
+use Rattle.mesh_state.specs.Lists.{IsListed}
+use Rattle.mesh_reading.proofs.ReadingLaws.{reads_history, reads_closing}
 use Rattle.mesh_steps.specs.States.{state}
 use Rattle.square_runs.specs.SquareKinds.{RunsTo}
 use Rattle.square_runs.specs.SquareTwice.{pair_setup, ReadsNames, TwiceReads, published, finished1, retired, stamped1, finished2, linked3, published_again, finished3, cut1}
@@ -31,19 +26,10 @@ reads_kept w n v run q kept names at = reads_history square (across_of square) (
 -- while the round is closed the round in work has the names of the target, but for the patches of the retire list
 pub reads_closed : (w : Words) (n : ℕ) (v : Views) → RunsTo 2 (state w n v) → v.ruling.phase ≡ 3 → (names : List ℕ) → ((i : ℕ) → HasEntry names i → HasEntry v.ruling.plan.target i × (IsListed pair_setup v.ruling.plan.retire i → ⊥))
     → ((i : ℕ) → HasEntry v.ruling.plan.target i → (IsListed pair_setup v.ruling.plan.retire i → ⊥) → HasEntry names i) → ReadsNames w (w.round + 1) names
-reads_closed w n v run closed names of all name = (
-  (λ h. let t = (words h.1).1 (h.0, h.2, h.3) in let k = target (name_code name) in (t.0, all (name_code name) (k.0 (h.1, t.1)) (λ l. k.2 closed l (h.1, t.1)))),
-  λ h. let t = of (name_code name) h.1 in ⊎_elim (λ b. let u = (words b.0).0 (h.0, b.1) in (u.0, b.0, u.1, u.2)) (λ l. absurd (t.1 l)) ((target (name_code name)).1 t.0),
+reads_closed w n v run closed names of all name = let t = reads_closing square (across_of square) (record { rounds = 4; elements = 2; pool = 2 }) 1 (squares_fit.0).2 w n v (runs_lawful 2 (state w n v) run) closed name in (
+  (λ h. let u = t.0 h in (u.0, all (name_code name) u.1 u.2)),
+  λ h. let u = of (name_code name) h.1 in t.1 (h.0, u.0, u.1),
 )
-  where
-    lawful : Lawful pair_setup w n v
-    lawful = runs_lawful 2 (state w n v) run
-
-    words : (b : ℕ) → ((depth name ≤ 24) × (lawful.0.who (w.round + 1) (name_code name) ≡ b + 1)) ↔ ((x : ℕ) × StandsAt w 2 (w.round + 1) name.0 name.1 x × Bisects w (w.round + 1) x (name_code name) b)
-    words b = words_read square (across_of square) (record { rounds = 4; elements = 2; pool = 2 }) 1 (squares_fit.0).2 w n v lawful (w.round + 1) (inr (refl, omega (arith, closed))) name b
-
-    target : (k : ℕ) → (Holds (lawful.0.who (w.round + 1)) k → HasEntry v.ruling.plan.target k) × (HasEntry v.ruling.plan.target k → Holds (lawful.0.who (w.round + 1)) k ⊎ IsListed pair_setup v.ruling.plan.retire k) × (v.ruling.phase ≡ 3 → IsListed pair_setup v.ruling.plan.retire k → Holds (lawful.0.who (w.round + 1)) k → ⊥)
-    target = differs pair_setup w n v lawful (inr closed)
 
 pub twice_reads : TwiceReads
 twice_reads = record {

@@ -9,7 +9,7 @@ use Rattle.square_runs.proofs.SquareTwice.{square_twice}
 use Rattle.square_runs.proofs.SquareChild.{square_child}
 use Rattle.square_runs.proofs.ChildReads.{child_reads}
 use Rattle.square_runs.proofs.TwiceReads.{twice_reads}
-use Rattle.square_runs.proofs.SquareKinds.{kinds_occur, runs_lawful, two_words}
+use Rattle.square_runs.proofs.SquareKinds.{kinds_occur, runs_lawful, two_words, workers_claim}
 use Rattle.square_runs.proofs.laws.laws.Goals as goal
 
 pub returns-clause-square : goal.returns-clause-square
@@ -53,3 +53,6 @@ returns-clause-twice_reads c = twice_reads
 
 pub returns-clause-two_words : goal.returns-clause-two_words
 returns-clause-two_words c = two_words
+
+pub returns-clause-workers_claim : goal.returns-clause-workers_claim
+returns-clause-workers_claim c = workers_claim
