@@ -2,7 +2,7 @@
 use Rattle.std.proofs.Common.{◌≡◌, ℕ, ◌+◌, ◌<◌, ◌≤◌, List, [], ◌∷◌, ◌⊎◌, ◌↔◌, refl, sym, ap, ◌∙◌, subst, inl, inr, ⊎_elim, arith}
 use mathlib.Core.Logic.{dite}
 use native.Mathlib.Decide.{ℕ_discrete}
-use Rattle.mesh_names.specs.Names.{Name}
+use Rattle.mesh_names.specs.Names.{Name, depth}
 use Rattle.mesh_names.specs.Triangles.{Shape}
 use Rattle.mesh_names.specs.Forests.{Names, Has, IsForest, Conforms}
 use Rattle.mesh_names.specs.Partners.{Across, Tells}
@@ -17,12 +17,13 @@ use Rattle.mesh_words.proofs.CodedNames.{code_one}
 use Rattle.mesh_state.specs.Chains.{IsHead}
 use Rattle.mesh_state.specs.Bisections.{MayRead}
 use Rattle.mesh_words.specs.Claims.{Drawn}
-use Rattle.mesh_state.specs.Lists.{Holds}
-use Rattle.mesh_reading.specs.Reading.{IsRead, GoesTo, LeastRead, ReadsHistory, ReadsForest, ReachedStays}
+use Rattle.mesh_state.specs.Lists.{Holds, IsListed}
+use Rattle.mesh_reading.specs.Reading.{StandsAt, Bisects, IsRead, GoesTo, LeastRead, ReadsHistory, ReadsForest, ReadsClosing, ReachedStays}
 use Rattle.mesh_reading.specs.RoundForests.{AreCodes, ReadableForests}
 use Rattle.mesh_state.proofs.FoundAgain.{one_more, placed}
 use Rattle.mesh_state.proofs.Across.{zero_or_more}
 use Rattle.mesh_state.proofs.HeldClaims.{free_not, loose_not}
+use Rattle.mesh_state.proofs.RoundLaws.{differs}
 use Rattle.mesh_reading.proofs.Reading.{walk_chain, chain_of_place, stands_place, words_read}
 use Rattle.mesh_reading.proofs.RoundForests.{bisected_coded, coded_set, kept_forests, least_when_needed, reads_forests}
 
@@ -118,3 +119,16 @@ reached_stays mesh across l passes tells w n v (g, r) q b may h =
     last low (inr o) k = let same : w.died o.0 ≡ w.died b = ap w.died (one_more o.0 b (sym o.2 ∙ k.0)) in ⊎_elim
         (λ z. ⊎_elim (λ a. inl (sym same ∙ a)) (λ a. inr (omega arith)) (o.5 z))
         (λ z. let e = o.4 (omega arith) in inr (omega arith)) k.1
+
+pub reads_closing : ReadsClosing
+reads_closing mesh across l passes tells w n v lawful closed m = (
+  (λ h. let t = (words h.1).1 (h.0, h.2, h.3) in (t.0, target.0 (h.1, t.1), λ a. target.2 closed a (h.1, t.1))),
+  λ h. ⊎_elim (λ b. let u = (words b.0).0 (h.0, b.1) in (u.0, b.0, u.1, u.2)) (λ a. absurd (h.2 a)) (target.1 h.1),
+)
+  where
+    words : (b : ℕ) → ((depth m ≤ 24) × (lawful.0.who (w.round + 1) (name_code m) ≡ b + 1)) ↔ ((x : ℕ) × StandsAt w l.elements (w.round + 1) m.0 m.1 x × Bisects w (w.round + 1) x (name_code m) b)
+    words b = words_read mesh across l passes tells w n v lawful (w.round + 1) (inr (refl, omega (arith, closed))) m b
+
+    target : (Holds (lawful.0.who (w.round + 1)) (name_code m) → HasEntry v.ruling.plan.target (name_code m)) × (HasEntry v.ruling.plan.target (name_code m) → Holds (lawful.0.who (w.round + 1)) (name_code m) ⊎ IsListed (setup_of mesh across l passes) v.ruling.plan.retire (name_code m))
+        × (v.ruling.phase ≡ 3 → IsListed (setup_of mesh across l passes) v.ruling.plan.retire (name_code m) → Holds (lawful.0.who (w.round + 1)) (name_code m) → ⊥)
+    target = differs (setup_of mesh across l passes) w n v lawful (inr closed) (name_code m)

@@ -10,7 +10,7 @@ use Rattle.mesh_words.specs.Views.{Read}
 use Rattle.mesh_words.proofs.Functions.{update_same, update_at, update_other}
 use Rattle.mesh_state.specs.Ghosts.{Life, Placed, chained}
 use Rattle.mesh_state.specs.Chains.{Covers, Reaches}
-use Rattle.mesh_state.specs.Bisections.{IsPlaceOf, Fits, IsSound, IsKept, MayRead, IsPatch, NamesRule}
+use Rattle.mesh_state.specs.Bisections.{IsPlaceOf, Fits, IsSound, IsKept, MayRead, IsPatch, IsLiving, NamesRule}
 use Rattle.mesh_state.proofs.FoundAgain.{one_more, chained_stands, reach_on, Moves, fits_on, sound_on}
 
 -- who, with v at the members of a patch
@@ -117,8 +117,8 @@ module _ (s : Setup) (apart : NamesApart s) (round phase : ℕ) (name : ℕ → 
         (λ e. let c' : chained (life b) t ≡ y + 1 = ap (λ (i : ℕ). chained (life i) t) (sym e) ∙ c in subst (λ (i : ℕ). (now (b + 1) (name (member_of i t)) ≡ i + 1) × IsPlaceOf s name (now (b + 1)) y (name (member_of i t))) (sym e) (marked (b + 1) t y c', seen_stays y (name (member_of b t)) (seen t y c')))
         (λ o. let h = n.sound d (inr (refl, omega arith)) a t y c (subst (λ (i : ℕ). (0 < i) × (i ≤ d) × ((died a ≡ 0) ⊎ (d < died a))) (update_other born b a d o) k) in (stays (name (member_of a t)) a h.0, seen_stays y (name (member_of a t)) h.1))
 
-    pub names_publish : (A : ℕ → ℕ → Type 0) → Moves (IsKept round read) A s.elements round head hist head hist born died born' died life life → NamesRule s round phase name head hist born' died life (who' (b + 1)) read
-    names_publish A mv = record {
+    pub names_publish : (A : ℕ → ℕ → Type 0) → Moves (IsKept round read) A s.elements round head hist head hist born died born' died life life → ((c : ℕ) → born c ≤ d) → NamesRule s round phase name head hist born' died life (who' (b + 1)) read
+    names_publish A mv borns = record {
       fits = λ q r. dite (ℕ_discrete q d)
           (λ e. subst (λ (i : ℕ). Fits s name head hist born' died life (who' (b + 1) i) i) (sym e) (subst (λ (f : ℕ → ℕ). Fits s name head hist born' died life f d) (sym (update_same who d (now (b + 1)))) fits_new))
           (λ o. let k = kept q r o in subst (λ (f : ℕ → ℕ). Fits s name head hist born' died life f q) (sym (else_ (b + 1) q (low q k))) (fits_on s name name head hist head hist born died born' died life life (λ _ _ _ _ _. refl) round phase who read (IsKept round read) A mv q k (n.fits q r)));
@@ -126,6 +126,9 @@ module _ (s : Setup) (apart : NamesApart s) (round phase : ℕ) (name : ℕ → 
           (λ e. subst (λ (i : ℕ). IsSound s name born' died life (who' (b + 1) i) i) (sym e) (subst (λ (f : ℕ → ℕ). IsSound s name born' died life f d) (sym (update_same who d (now (b + 1)))) sound_new))
           (λ o. let k = kept q r o in subst (λ (f : ℕ → ℕ). IsSound s name born' died life f q) (sym (else_ (b + 1) q (low q k))) (sound_on s name name head hist head hist born died born' died life life (λ _ _ _ _ _. refl) round phase who read (IsKept round read) A mv q k (n.fits q r) (n.sound q r)));
       patch = n.patch;
+      one = λ a c p q e. dite (ℕ_discrete a b)
+          (λ f. dite (ℕ_discrete c b) (λ h. f ∙ sym h) (λ o. absurd (other c o q (sym (ap (λ (i : ℕ). name (member_of i false)) f) ∙ e))))
+          (λ k. dite (ℕ_discrete c b) (λ h. absurd (other a k p (sym (e ∙ ap (λ (i : ℕ). name (member_of i false)) h)))) (λ o. n.one a c (was a k p) (was c o q) e));
       calm = n.calm;
       grows = λ k a l w. ap (λ (f : ℕ → ℕ). f k) (update_same who d (now (b + 1))) ∙ stays k a (n.grows k a l (sym (ap (λ (f : ℕ → ℕ). f k) (else_ (b + 1) round (omega arith))) ∙ w));
       either = λ k a l w. inl (ap (λ (f : ℕ → ℕ). f k) (update_same who d (now (b + 1))) ∙ stays k a (n.grows k a (omega arith) (sym (ap (λ (f : ℕ → ℕ). f k) (else_ (b + 1) round (omega arith))) ∙ w)));
@@ -135,6 +138,14 @@ module _ (s : Setup) (apart : NamesApart s) (round phase : ℕ) (name : ℕ → 
         kept : (q : ℕ) → MayRead round phase read q → q ≢ round + 1 → IsKept round read q
         kept q (inl k) o = k
         kept q (inr k) o = absurd (o k.0)
+
+        was : (c : ℕ) → c ≢ b → IsLiving born' died life c → IsLiving born died life c
+        was c o p = (p.0, p.1, p.2, subst (λ (i : ℕ). 0 < i) (update_other born b c d o) p.3, p.4)
+
+        -- another living block has another patch
+        other : (c : ℕ) → c ≢ b → IsLiving born' died life c → name (member_of b false) ≡ name (member_of c false) → ⊥
+        other c o p e = let k = was c o p in let z = un false x (ap (λ (l : Life). chained l false) at) in
+            let y = (n.sound d (inr (refl, omega arith)) c false k.0 (ap (λ (l : Life). chained l false) k.2) (k.3, borns c, inl k.4)).0 in let f = ap (who d) e in omega arith
 
   -- retirement
   module _ (second : phase ≡ 2) (was : (t : Bool) (y : ℕ) → chained (life b) t ≡ y + 1 → who d (name (member_of b t)) ≡ b + 1) (leaf : (t c : Bool) (y : ℕ) → chained (life b) t ≡ y + 1 → who d (s.child (name (member_of b t)) c) ≡ 0) where
@@ -186,6 +197,7 @@ module _ (s : Setup) (apart : NamesApart s) (round phase : ℕ) (name : ℕ → 
           (λ e. subst (λ (i : ℕ). IsSound s name born died' life (who' 0 i) i) (sym e) (subst (λ (f : ℕ → ℕ). IsSound s name born died' life f d) (sym (update_same who d (now 0))) sound_left))
           (λ o. let k = kept q r o in subst (λ (f : ℕ → ℕ). IsSound s name born died' life f q) (sym (else_ 0 q (low q k))) (sound_on s name name head hist head hist born died born died' life life (λ _ _ _ _ _. refl) round phase who read (IsKept round read) A mv q k (n.fits q r) (n.sound q r)));
       patch = n.patch;
+      one = λ a c p q e. n.one a c (was_living a p) (was_living c q) e;
       calm = λ c y k l. absurd (l.0 second);
       grows = λ k a l w. absurd (omega arith);
       either = λ k a l w. let e = ap (λ (f : ℕ → ℕ). f k) (update_same who d (now 0)) in ⊎_elim (λ c. inr (e ∙ c.4)) (λ c. ⊎_elim (λ u. inl (e ∙ c.0 ∙ u)) (λ u. inr (e ∙ c.0 ∙ u)) (n.either k a l (sym (ap (λ (f : ℕ → ℕ). f k) (else_ 0 round (omega arith))) ∙ w))) (is_member 0 k);
@@ -195,3 +207,6 @@ module _ (s : Setup) (apart : NamesApart s) (round phase : ℕ) (name : ℕ → 
         kept : (q : ℕ) → MayRead round phase read q → q ≢ round + 1 → IsKept round read q
         kept q (inl k) o = k
         kept q (inr k) o = absurd (o k.0)
+
+        was_living : (a : ℕ) → IsLiving born died' life a → IsLiving born died life a
+        was_living a p = (p.0, p.1, p.2, p.3, dite (ℕ_discrete a b) (λ e. let z : died' a ≡ d = update_at died b a d e in let y = p.4 in absurd (omega arith)) (λ o. sym (update_other died b a d o) ∙ p.4))

@@ -8,7 +8,7 @@ use Rattle.mesh_words.specs.Places.{member_of, child_place}
 use Rattle.mesh_words.proofs.Functions.{update_same, update_at, update_other, update_cases}
 use Rattle.mesh_words.proofs.PlaceNumbers.{member_one}
 use Rattle.mesh_state.specs.Ghosts.{Life, Loose, Placed, chained, stands}
-use Rattle.mesh_state.specs.Chains.{Covers, Finds, Reaches, IsPlace, IsHead, IsOlder, ChainsRule}
+use Rattle.mesh_state.specs.Chains.{Covers, Finds, Reaches, IsPlace, IsHead, IsOlder, IsUnborn, ChainsRule}
 use Rattle.mesh_state.proofs.FoundAgain.{one_more, placed, chained_stands, reach_on, none_found, first_block, Moves}
 
 module _ (K : ℕ → Type 0) (A : ℕ → ℕ → Type 0) (e round : ℕ) (head hist : ℕ → Node) (born died : ℕ → ℕ) (life : ℕ → Life) where
@@ -53,6 +53,7 @@ module _ (K : ℕ → Type 0) (A : ℕ → ℕ → Type 0) (e round : ℕ) (head
       borns = ch.borns;
       dieds = ch.dieds;
       undone = ch.undone;
+      unborn = ch.unborn;
       sides = ch.sides;
     }
 
@@ -114,6 +115,7 @@ module _ (K : ℕ → Type 0) (A : ℕ → ℕ → Type 0) (e round : ℕ) (head
         borns = ch.borns;
         dieds = ch.dieds;
         undone = ch.undone;
+        unborn = ch.unborn;
         sides = ch.sides;
       },
       record {
@@ -183,6 +185,7 @@ module _ (K : ℕ → Type 0) (A : ℕ → ℕ → Type 0) (e round : ℕ) (head
             borns = ch.borns;
             dieds = λ c y k u d. dite (ℕ_discrete c b) (λ s. let z : died c ≡ died b = ap died s in absurd (omega arith)) (λ o. ch.dieds c y k (sym (still c o) ∙ u) d);
             undone = λ c y k u. dite (ℕ_discrete c b) (λ s. ap born s ∙ unborn) (λ o. ch.undone c y k (sym (still c o) ∙ u));
+            unborn = λ c. dite (ℕ_discrete c b) (λ s. subst (IsUnborn round (born c) (died c)) (sym (ap life' s ∙ now)) tt) (λ o. subst (IsUnborn round (born c) (died c)) (sym (still c o)) (ch.unborn c));
             sides = λ c t u z h k. dite (ℕ_discrete c b)
                 (λ s. two t u z (sym (ap (λ (l : Life). stands l t) (ap life' s ∙ now)) ∙ h) (sym (ap (λ (l : Life). stands l u) (ap life' s ∙ now)) ∙ k))
                 (λ o. ch.sides c t u z (sym (ap (λ (l : Life). stands l t) (still c o)) ∙ h) (sym (ap (λ (l : Life). stands l u) (still c o)) ∙ k));
@@ -241,5 +244,6 @@ chains_apart e round head hist born died life ch head' same = record {
   borns = ch.borns;
   dieds = ch.dieds;
   undone = ch.undone;
+  unborn = ch.unborn;
   sides = ch.sides;
 }

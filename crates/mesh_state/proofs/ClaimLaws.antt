@@ -1,11 +1,12 @@
 -- The laws of claims.
-use Rattle.std.proofs.Common.{◌≡◌, ℕ, ◌+◌, ◌≤◌, inl, inr, refl, sym, ap, ◌∙◌, ⊎_elim, arith}
+use Rattle.std.proofs.Common.{◌≡◌, ℕ, ◌+◌, ◌≤◌, inl, inr, refl, sym, ap, ◌∙◌, subst, ⊎_elim, arith}
 use native.Mathlib.Decide.{dec_lt}
 use Rattle.mesh_words.specs.Claims.{Progress, Drawn, Half, Whole}
 use Rattle.mesh_words.specs.Setup.{places}
 use Rattle.mesh_state.specs.Ghosts.{Stage, Open, Held}
+use Rattle.mesh_state.specs.Chains.{IsUnborn}
 use Rattle.mesh_state.specs.Claims.{bit_of}
-use Rattle.mesh_state.specs.ClaimLaws.{BitsClaimed, SecondPlaces, StagesViewed, DrawsCounted, UnbornBlocks, UnbornClaimed, TargetLeast}
+use Rattle.mesh_state.specs.ClaimLaws.{BitsClaimed, SecondPlaces, StagesViewed, DrawsCounted, UnbornBlocks, FreeUnborn, UnbornClaimed, TargetLeast}
 use Rattle.mesh_state.proofs.HeldClaims.{held_one, not_open}
 
 few_bits : (t : Stage) → bit_of t ≤ 1
@@ -42,6 +43,12 @@ unborn_blocks s w n v (g, r) = (
   (λ j x m b h. r.claims.shape x j m (Whole b) (r.claims.held j x m (Whole b) h)),
   r.chains.undone,
 )
+
+pub free_unborn : FreeUnborn
+free_unborn s w n v (g, r) b u = elim (dec_lt 0 (w.born b)) [
+  | yes p ↦ ⊎_elim inl (λ k. inr (p, k.0, k.1, λ i l m e. let z : w.born (w.row i) ≡ w.born b = ap w.born e in let y = (r.claims.rows i l m).1 in omega arith)) (subst (IsUnborn w.round (w.born b) (w.died b)) u (r.chains.unborn b))
+  | no o ↦ inl (omega arith)
+]
 
 pub unborn_claimed : UnbornClaimed
 unborn_claimed s w n v (g, r) b x m u z = let t = r.claims.half b x m u z in (t.0, ⊎_elim (λ e. inl (r.claims.holds t.0 x m (Half b) e)) (λ e. inr (r.claims.holds t.0 x m (Whole b) e)) t.1)

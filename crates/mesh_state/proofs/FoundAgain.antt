@@ -9,7 +9,7 @@ use Rattle.mesh_words.specs.Views.{Plan, Work, Walk, Still, At, Past, Read}
 use Rattle.mesh_words.specs.Entries.{HasEntry}
 use Rattle.mesh_state.specs.Ghosts.{Life, Free, Loose, Placed, Undone, chained, stands}
 use Rattle.mesh_state.specs.Chains.{Covers, Finds, Reaches, IsPlace}
-use Rattle.mesh_state.specs.Bisections.{IsPlaceOf, Fits, IsSound, MayRead, IsPatch, NamesRule}
+use Rattle.mesh_state.specs.Bisections.{IsPlaceOf, Fits, IsSound, MayRead, IsPatch, IsLiving, NamesRule}
 use Rattle.mesh_state.specs.Work.{IsWorkPlace, WorkWalks, WalkRule}
 use Rattle.mesh_state.specs.Readers.{Walks, ReaderRule}
 use Rattle.mesh_state.specs.Fresh.{idle}
@@ -178,12 +178,14 @@ module _ (s : Setup) (name name' : ℕ → ℕ) (head hist head' hist' : ℕ →
         (ap (who q) n ∙ u.0, subst (λ (y : ℕ). IsPlaceOf s name' (who q) x y) (sym n) (seen_on (who q) q x _ f u.1))
 
     -- where no round's bisection changes
-    pub names_on : ((q : ℕ) → MayRead round phase read q → K q) → ((b x m : ℕ) → life' b ≡ Placed x m → IsPatch s name' b m)
+    pub names_on : ((q : ℕ) → MayRead round phase read q → K q) → ((b x m : ℕ) → life' b ≡ Placed x m → IsPatch s name' b m) → ((b : ℕ) → IsLiving born' died' life' b → IsLiving born died life b)
         → ((b x m : ℕ) → (phase ≡ 2 → ⊥) × (phase ≡ 3 → ⊥) → life' b ≡ Placed x m → died' b ≤ round) → NamesRule s round phase name head hist born died life who read → NamesRule s round phase name' head' hist' born' died' life' who read
-    names_on all patch calm n = record {
+    names_on all patch lives calm n = record {
       fits = λ q r. fits_on q (all q r) (n.fits q r);
       sound = λ q r. sound_on q (all q r) (n.fits q r) (n.sound q r);
       patch = patch;
+      one = λ b c p q e. let kept : (a : ℕ) → IsLiving born died life a → name' (member_of a false) ≡ name (member_of a false) = λ a k. same a false false k.0 (ap (λ (l : Life). stands l false) k.2) in
+          n.one b c (lives b p) (lives c q) (sym (kept b (lives b p)) ∙ e ∙ kept c (lives c q));
       calm = calm;
       grows = n.grows;
       either = n.either;

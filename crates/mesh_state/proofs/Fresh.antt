@@ -55,17 +55,18 @@ starts s a = record {
     none = λ x e. refl;
   };
   labels = λ x j m p h e. absurd (omega arith);
-  chains = record { heads = λ x l. inl refl; hists = λ b t x h. absurd (omega arith); borns = λ b. omega arith; dieds = λ b x m u l. absurd (omega arith); undone = λ b x m u. refl; sides = λ b t u x h. absurd (omega arith) };
+  chains = record { heads = λ x l. inl refl; hists = λ b t x h. absurd (omega arith); borns = λ b. omega arith; dieds = λ b x m u l. absurd (omega arith); undone = λ b x m u. refl; unborn = λ b. inl refl; sides = λ b t u x h. absurd (omega arith) };
   names = record {
     fits = λ q k. record { found = λ i b e. absurd (omega arith); both = λ b y t u e. absurd (omega arith) };
     sound = λ q k b t x e. absurd (omega arith);
     patch = λ b x m u. absurd (free_not x m u);
+    one = λ b c p q e. absurd (free_not p.0 p.1 p.2);
     calm = λ b x m l u. omega arith;
     grows = λ i b l e. absurd (omega arith);
     either = λ i b l e. absurd (omega arith);
     fresh = λ i e. refl;
   };
-  pins = record { now = refl; later = λ q l. (refl, refl); count = λ q. let z : one_where 0 (q + 1) ≡ 0 = ap (λ (t : Bool). cond {A = ℕ} t 1 0) (ne_eqb 0 (q + 1) (λ (e : 0 ≡ q + 1). omega arith)) in omega arith; past = λ j q e. absurd (omega arith); few = λ j l. few j l; readers = λ j o. (refl, refl); bit = λ j. omega arith; bound = omega arith };
+  pins = record { now = refl; later = λ q l. (refl, refl); count = λ q. let z : one_where 0 (q + 1) ≡ 0 = ap (λ (t : Bool). cond {A = ℕ} t 1 0) (ne_eqb 0 (q + 1) (λ (e : 0 ≡ q + 1). omega arith)) in omega arith; past = λ j q e. absurd (omega arith); few = λ j l. few j l; readers = λ j o. (refl, refl); spent = λ j e. refl; bit = λ j. omega arith; bound = omega arith };
   works = λ j. record { only = λ _ _. (refl, refl, refl, refl); found = λ x k h. absurd h; known = λ k h. absurd h; open_ = λ k h. absurd h; given = λ b k h. absurd h };
   walks = λ j. walks_idle s 0 0 (λ _. 0) (λ _. node 0 0) (λ _. 0) (λ _. 0) (λ _. Free) (λ _ _. 0) (fresh_kind j) j 0 0 0 no_plan (λ _. refl) (λ e. absurd (not_one j e));
   sure = sure_is;

@@ -1,14 +1,16 @@
 -- The laws of what seats know, and of blocks and claims of the round in work.
-use Rattle.std.proofs.Common.{◌⊎◌, ◌≤◌, ◌≡◌, ℕ, ◌+◌, ◌<◌, Bool, false, List, [], ◌∷◌, refl, sym, ap, ◌∙◌, subst, inl, inr, ⊎_elim, arith}
+use Rattle.std.proofs.Common.{◌⊎◌, ◌≤◌, ◌≡◌, ℕ, ◌+◌, ◌<◌, Bool, List, [], ◌∷◌, refl, sym, ap, ◌∙◌, subst, inl, inr, ⊎_elim, arith}
+use native.Mathlib.Decide.{dec_lt}
 use Rattle.mesh_words.specs.Words.{Node}
 use Rattle.mesh_words.specs.Claims.{Drawn, Half, Living}
 use Rattle.mesh_words.specs.Places.{member_of}
-use Rattle.mesh_state.specs.Ghosts.{Life, Placed, chained, stands}
+use Rattle.mesh_state.specs.Ghosts.{Held, Life, chained, stands}
 use Rattle.mesh_state.specs.Chains.{Finds}
 use Rattle.mesh_state.specs.Claims.{bit_of}
+use Rattle.mesh_state.specs.Bisections.{MayRead}
 use Rattle.mesh_state.specs.SeatLaws.{BeginsEqual, LivingClaimed, LivingBlocks, FindingsRight, FinishedFindings, WorkersWent, OneHalf, FilledStays, LoadedStays, OwnerSure, PinsCounted, LinkWords, HistoryWords, RetiredNoted, PinsOut, NumbersKnown, BlocksKnown, OthersEmpty, PassesCounted}
 use Rattle.mesh_state.proofs.FoundAgain.{one_more, placed}
-use Rattle.mesh_state.proofs.Across.{half_of, place_one}
+use Rattle.mesh_state.proofs.Across.{half_of, place_one, chained_of}
 use Rattle.mesh_state.proofs.Lawful.{walks_end}
 
 pub begins_equal : BeginsEqual
@@ -21,27 +23,38 @@ living_claimed = (
 )
 
 pub living_blocks : LivingBlocks
-living_blocks s w n v (g, r) b x m u p z l = (
+living_blocks s w n v (g, r) b x m u p z = (
   r.names.patch b x m u,
-  (λ t y c. (heads t y c, is b x m u p z t y c)),
-  λ c y i a q d e. let k = is b x m u p z false x (ap (λ (f : Life). chained f false) u) in let j = is c y i a q d false y (ap (λ (f : Life). chained f false) a) in one_more c b (sym j ∙ ap (g.who (w.round + 1)) e ∙ k),
+  (λ t y c. (heads t y c, (λ a. r.named.heads y b t a (heads t y c) c), λ l. (r.names.sound (w.round + 1) (inr (refl, l)) b t y c (p, r.chains.borns b, inl z)).0)),
+  λ c y i a q d e. r.names.one c b (y, i, a, q, d) (x, m, u, p, z) e,
 )
   where
-    is : (c y i : ℕ) → g.life c ≡ Placed y i → 0 < w.born c → w.died c ≡ 0 → (t : Bool) (z : ℕ) → chained (g.life c) t ≡ z + 1 → g.who (w.round + 1) (w.name (member_of c t)) ≡ c + 1
-    is c y i a q d t z h = (r.names.sound (w.round + 1) (inr (refl, l)) c t z h (q, r.chains.borns c, inl d)).0
-
     -- a block that a HISTORY word leads to is retired
-    later : (y : ℕ) (ts : List (ℕ × Bool)) (a : ℕ) (t : Bool) → stands (g.life a) t ≡ y + 1 → Finds w.hist w.born w.died g.life (w.round + 1) y b (w.hist (member_of a t)) ts → ⊥
-    later y [] a t h f = absurd f
-    later y (c ∷ ts) a t h f = ⊎_elim (λ e. let d = (walks_end s w n v (g, r) a c.0 y t h f.0).0 in let k : w.died c.0 ≡ w.died b = ap w.died e.0 in omega arith) (λ q. later y ts c.0 c.1 f.1 q) f.2
+    later : (q y : ℕ) (ts : List (ℕ × Bool)) (a : ℕ) (t : Bool) → stands (g.life a) t ≡ y + 1 → Finds w.hist w.born w.died g.life q y b (w.hist (member_of a t)) ts → ⊥
+    later q y [] a t h f = absurd f
+    later q y (c ∷ ts) a t h f = ⊎_elim (λ e. let d = (walks_end s w n v (g, r) a c.0 y t h f.0).0 in let k : w.died c.0 ≡ w.died b = ap w.died e.0 in omega arith) (λ o. later q y ts c.0 c.1 f.1 o) f.2
 
-    first : (y : ℕ) (ts : List (ℕ × Bool)) → Finds w.hist w.born w.died g.life (w.round + 1) y b (w.head y) ts → (w.head y).block ≡ b + 1
-    first y [] f = absurd f
-    first y (c ∷ ts) f = ⊎_elim (λ e. f.0 ∙ ap (λ (i : ℕ). i + 1) e.0) (λ q. absurd (later y ts c.0 c.1 f.1 q)) f.2
+    first : (q y : ℕ) (ts : List (ℕ × Bool)) → Finds w.hist w.born w.died g.life q y b (w.head y) ts → (w.head y).block ≡ b + 1
+    first q y [] f = absurd f
+    first q y (c ∷ ts) f = ⊎_elim (λ e. f.0 ∙ ap (λ (i : ℕ). i + 1) e.0) (λ o. absurd (later q y ts c.0 c.1 f.1 o)) f.2
+
+    -- where a round that may be read has the block
+    read_at : (q : ℕ) → MayRead w.round v.ruling.phase v.read q → w.born b ≤ q → (t : Bool) (y : ℕ) → chained (g.life b) t ≡ y + 1 → (w.head y).block ≡ b + 1
+    read_at q k l t y c = let h = r.names.sound q k b t y c (p, l, inl z) in let f = (r.names.fits q k).found (w.name (member_of b t)) b h.0 in
+        let same = place_one s w n v g r q k f.1 y (w.name (member_of b t)) f.4 h.1 in first q y f.5.0 (subst (λ (i : ℕ). Finds w.hist w.born w.died g.life q i b (w.head i) f.5.0) same f.5.1)
+
+    -- where its claim has it
+    held_at : (j : ℕ) → g.stage x ≡ Held j m (Living b) → (t : Bool) (y : ℕ) → chained (g.life b) t ≡ y + 1 → (w.head y).block ≡ b + 1
+    held_at j h t y c = let f = r.claims.shape x j m (Living b) h in ⊎_elim (λ e. ap (λ (i : ℕ). (w.head i).block) e ∙ ap (λ (l : Node). l.block) f.2) (λ e. ap (λ (l : Node). l.block) (f.3 y e)) (chained_of (g.life b) t x m y u c)
 
     heads : (t : Bool) (y : ℕ) → chained (g.life b) t ≡ y + 1 → (w.head y).block ≡ b + 1
-    heads t y c = let k = (r.names.sound (w.round + 1) (inr (refl, l)) b t y c (p, r.chains.borns b, inl z)) in let f = (r.names.fits (w.round + 1) (inr (refl, l))).found (w.name (member_of b t)) b k.0 in
-        let same = place_one s w n v g r (w.round + 1) (inr (refl, l)) f.1 y (w.name (member_of b t)) f.4 k.1 in first y f.5.0 (subst (λ (i : ℕ). Finds w.hist w.born w.died g.life (w.round + 1) i b (w.head i) f.5.0) same f.5.1)
+    heads t y c = elim (dec_lt v.ruling.phase 4) [
+      | yes l ↦ read_at (w.round + 1) (inr (refl, l)) (r.chains.borns b) t y c
+      | no o ↦ elim (dec_lt w.round (w.born b)) [
+        | yes k ↦ (let l = r.chains.borns b in let a = r.claims.kept b x m u (omega arith) (λ e. omega arith) in held_at a.0 a.1 t y c)
+        | no k ↦ read_at w.round (inl (inl refl)) (omega arith) t y c
+      ]
+    ]
 
 pub findings_right : FindingsRight
 findings_right s w n v (g, r) j k = let u = r.works j in ((λ x h. u.found x k h), (λ h. u.known k h), (λ h. u.open_ k h), λ b h. let t = u.given b k h in (t.1, t.2.3, t.2.4, t.2.5))
@@ -106,8 +119,9 @@ blocks_known s w n v (g, r) b = ((r.note.undone b, λ t. r.note.all b t.0 t.1 t.
 
 pub others_empty : OthersEmpty
 others_empty s w n v (g, r) j = (
-  (λ other second. let u = (r.works j).only other second in ((λ x m p h. ⊎_elim second other (r.holders x j m p (r.claims.held j x m p h))), r.drawn.only j other second, u.0, u.1, u.2, u.3)),
+  (λ other second. let u = (r.works j).only other second in let k = (r.walks j).only other second in let l = (r.walks j).still other in ((λ x m p h. ⊎_elim second other (r.holders x j m p (r.claims.held j x m p h))), r.drawn.only j other second, u.0, u.1, u.2, u.3, k.0, k.1, k.2, k.3, l.0, l.1)),
   r.pins.readers j,
+  r.pins.spent j,
   r.pins.few j,
 )
 

@@ -34,10 +34,16 @@ MayRead round phase read q = IsKept round read q ⊎ ((q ≡ round + 1) × (phas
 abbrev pub IsPatch : Setup → (ℕ → ℕ) → ℕ → ℕ → Type 0
 IsPatch s name b m = (s.leads (name (member_of b false)) ≡ 1) × (name (member_of b true) ≡ s.mate (name (member_of b false))) × ((m ≡ 0) × (s.mate (name (member_of b false)) ≡ 0) ⊎ ((y : ℕ) × (k : ℕ) × (m ≡ y + 1) × (s.mate (name (member_of b false)) ≡ k + 1)))
 
+-- the block was published and is not retired
+abbrev pub IsLiving : (ℕ → ℕ) → (ℕ → ℕ) → (ℕ → Life) → ℕ → Type 0
+IsLiving born died life b = (x : ℕ) × (m : ℕ) × (life b ≡ Placed x m) × (0 < born b) × (died b ≡ 0)
+
 pub record NamesRule (s : Setup) (round phase : ℕ) (name : ℕ → ℕ) (head hist : ℕ → Node) (born died : ℕ → ℕ) (life : ℕ → Life) (who : ℕ → ℕ → ℕ) (read : ℕ → Read) : Type 0 where
   pub fits : (q : ℕ) → MayRead round phase read q → Fits s name head hist born died life (who q) q
   pub sound : (q : ℕ) → MayRead round phase read q → IsSound s name born died life (who q) q
   pub patch : (b x m : ℕ) → life b ≡ Placed x m → IsPatch s name b m
+  -- no patch has two living blocks
+  pub one : (b c : ℕ) → IsLiving born died life b → IsLiving born died life c → name (member_of b false) ≡ name (member_of c false) → b ≡ c
   -- blocks are retired in the second half and while the round is closed alone
   pub calm : (b x m : ℕ) → (phase ≡ second_half → ⊥) × (phase ≡ closing → ⊥) → life b ≡ Placed x m → died b ≤ round
   -- the first half only adds to the last finished round's forest, from which the round begins

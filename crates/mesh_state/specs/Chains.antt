@@ -2,7 +2,7 @@
 use Rattle.std.specs.Prelude.{◌≡◌, ℕ, ◌+◌, ◌<◌, ◌≤◌, Bool, false, List, [], ◌∷◌, ◌⊎◌}
 use Rattle.mesh_words.specs.Places.{member_of, child_place}
 use Rattle.mesh_words.specs.Words.{Node, node}
-use Rattle.mesh_state.specs.Ghosts.{Life, Placed, Undone, chained, stands}
+use Rattle.mesh_state.specs.Ghosts.{Life, Free, Loose, Placed, Undone, chained, stands}
 
 -- the block was published by the round q and not retired by it
 abbrev pub Covers : (ℕ → ℕ) → (ℕ → ℕ) → ℕ → ℕ → Type 0
@@ -29,6 +29,13 @@ IsHead round died life x l = (l ≡ node 0 0) ⊎ ((b : ℕ) × (s : Bool) × (l
 abbrev pub IsOlder : ℕ → (ℕ → ℕ) → (ℕ → Life) → ℕ → ℕ → Node → Type 0
 IsOlder round died life x n l = (l ≡ node 0 0) ⊎ ((c : ℕ) × (t : Bool) × (l ≡ node (c + 1) (died c)) × (chained (life c) t ≡ x + 1) × (0 < died c) × (0 < n → died c < n) × (died c ≤ round))
 
+-- a block that is free or was drawn is not born; or it is free, and was retired in a finished round and not swept since
+abbrev pub IsUnborn : ℕ → ℕ → ℕ → Life → Type 0
+IsUnborn round born died Free = (born ≡ 0) ⊎ ((born < died) × (died ≤ round))
+IsUnborn round born died (Loose u) = born ≡ 0
+IsUnborn round born died (Placed x m) = Unit {0}
+IsUnborn round born died (Undone x m) = Unit {0}
+
 pub record ChainsRule (e round : ℕ) (head hist : ℕ → Node) (born died : ℕ → ℕ) (life : ℕ → Life) : Type 0 where
   pub heads : (x : ℕ) → IsPlace e life x → IsHead round died life x (head x)
   pub hists : (b : ℕ) (s : Bool) (x : ℕ) → stands (life b) s ≡ x + 1 → IsOlder round died life x (born b) (hist (member_of b s))
@@ -36,5 +43,6 @@ pub record ChainsRule (e round : ℕ) (head hist : ℕ → Node) (born died : �
   -- a block that is retired was born before
   pub dieds : (b x m : ℕ) → life b ≡ Placed x m → 0 < died b → (0 < born b) × (born b < died b) × (died b ≤ round + 1)
   pub undone : (b x m : ℕ) → life b ≡ Undone x m → born b ≡ 0
+  pub unborn : (b : ℕ) → IsUnborn round (born b) (died b) (life b)
   -- the members of a block stand at two places
   pub sides : (b : ℕ) (t u : Bool) (x : ℕ) → stands (life b) t ≡ x + 1 → stands (life b) u ≡ x + 1 → t ≡ u

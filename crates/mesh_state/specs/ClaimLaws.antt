@@ -6,7 +6,7 @@ use Rattle.mesh_words.specs.Entries.{HasEntry}
 use Rattle.mesh_words.specs.Setup.{places}
 use Rattle.mesh_words.specs.Sums.{sum_below}
 use Rattle.mesh_words.specs.Words.{node}
-use Rattle.mesh_state.specs.Ghosts.{Held, Loose, Placed, Undone}
+use Rattle.mesh_state.specs.Ghosts.{Held, Free, Loose, Placed, Undone}
 use Rattle.mesh_state.specs.Claims.{draws_of}
 use Rattle.mesh_state.specs.Laws.{Always}
 use Rattle.mesh_state.specs.Lists.{IsTarget, Holds}
@@ -34,6 +34,10 @@ UnbornBlocks = Always (λ s w n v g. ((j x m b : ℕ) → HasEntry (v.claims j) 
     × ((j x m b : ℕ) → HasEntry (v.claims j) (claim x m (Half b)) → (g.life b ≡ Placed x m) × (w.born b ≡ 0) × (w.head x ≡ node (b + 1) 0) × ((y : ℕ) → m ≡ y + 1 → (w.head y).block ≡ b + 1 → ⊥))
     × ((j x m b : ℕ) → HasEntry (v.claims j) (claim x m (Whole b)) → (g.life b ≡ Placed x m) × (w.born b ≡ 0) × (w.head x ≡ node (b + 1) 0) × ((y : ℕ) → m ≡ y + 1 → w.head y ≡ node (b + 1) 0))
     × ((b x m : ℕ) → g.life b ≡ Undone x m → w.born b ≡ 0))
+
+-- a free block has BORN 0; or it was retired in a finished round, BORN is not 0 again yet, and it is in no row from CURSOR on and below FREE
+abbrev pub FreeUnborn : Type 0
+FreeUnborn = Always (λ s w n v g. (b : ℕ) → g.life b ≡ Free → (w.born b ≡ 0) ⊎ ((0 < w.born b) × (w.born b < w.died b) × (w.died b ≤ w.round) × ((i : ℕ) → w.cursor ≤ i → i < w.free → w.row i ≡ b → ⊥)))
 
 -- a block in a chain that has BORN 0 is of a claim in a view
 abbrev pub UnbornClaimed : Type 0

@@ -2,7 +2,7 @@
 use Rattle.std.specs.Prelude.{◌≡◌, ℕ, ◌+◌, ◌<◌, ◌≤◌}
 use Rattle.mesh_words.specs.Setup.{Setup}
 use Rattle.mesh_words.specs.Sums.{sum_below, one_where}
-use Rattle.mesh_words.specs.Views.{reader, Read}
+use Rattle.mesh_words.specs.Views.{reader, Read, unread}
 
 pub record PinsRule (s : Setup) (round taken : ℕ) (released : ℕ → ℕ) (n : ℕ) (kind : ℕ → ℕ) (read : ℕ → Read) (pins : ℕ → ℕ) : Type 0 where
   pub now : pins round ≡ taken
@@ -13,6 +13,8 @@ pub record PinsRule (s : Setup) (round taken : ℕ) (released : ℕ → ℕ) (n 
   pub few : (j : ℕ) → n ≤ j → kind j ≡ 0
   -- only readers' passes have pins or are ready
   pub readers : (j : ℕ) → (kind j ≡ reader → ⊥) → ((read j).pin ≡ 0) × ((read j).ready ≡ 0)
+  -- a seat of no kind, as one that was joined, has read nothing
+  pub spent : (j : ℕ) → kind j ≡ 0 → read j ≡ unread
   pub bit : (j : ℕ) → (read j).ready ≤ 1
   -- pins taken and passes that are ready to take one stay within the bound
   pub bound : taken + sum_below n (λ j. (read j).ready) ≤ s.limit + s.passes + 1

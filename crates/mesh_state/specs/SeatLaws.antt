@@ -1,6 +1,6 @@
 -- What the rule says of what seats know, and of blocks and claims of the round in work.
 use Rattle.std.specs.Prelude.{◌≡◌, ℕ, ◌+◌, ◌<◌, ◌≤◌, Bool, false, [], ◌⊎◌, ◌↔◌}
-use Rattle.mesh_words.specs.Views.{resting, first_half, second_half, closing, taking_back, worker, reader, ruler}
+use Rattle.mesh_words.specs.Views.{resting, first_half, second_half, closing, taking_back, worker, reader, ruler, Still, unread}
 use Rattle.mesh_words.specs.Claims.{Progress, Drawn, Half, Living, claim}
 use Rattle.mesh_words.specs.Entries.{HasEntry, Noted}
 use Rattle.mesh_words.specs.Places.{member_of, child_place}
@@ -9,6 +9,7 @@ use Rattle.mesh_words.specs.Words.{Node, node}
 use Rattle.mesh_state.specs.Ghosts.{Free, Placed, Undone, chained, stands}
 use Rattle.mesh_state.specs.Chains.{IsPlace}
 use Rattle.mesh_state.specs.Bisections.{IsPlaceOf, IsPatch}
+use Rattle.mesh_state.specs.Inside.{IsLabel}
 use Rattle.mesh_state.specs.Laws.{Always}
 use Rattle.mesh_state.specs.Lists.{Holds}
 
@@ -21,10 +22,10 @@ abbrev pub LivingClaimed : Type 0
 LivingClaimed = Always (λ s w n v g. (b x m : ℕ) → g.life b ≡ Placed x m → w.born b ≡ w.round + 1 → (v.ruling.phase ≡ closing → ⊥) → (w.claimed x ≡ 1) × ((j : ℕ) × HasEntry (v.claims j) (claim x m (Living b))))
     × Always (λ s w n v g. (j b x m : ℕ) → HasEntry (v.claims j) (claim x m (Living b)) → (w.born b ≡ w.round + 1) × (g.life b ≡ Placed x m) × (w.head x ≡ node (b + 1) 0) × ((y : ℕ) → m ≡ y + 1 → w.head y ≡ node (b + 1) 0))
 
--- a living block has the names of a patch, which it bisects at the round in work; the LINK of each member names it; and no other block has a name of the patch
+-- a living block, also one of a round that is taken back, has the names of a patch, which at a place at work are those of the elements there; the LINK of each member names it; no other living block has the patch; and until the round is taken back it bisects the patch at the round in work
 abbrev pub LivingBlocks : Type 0
-LivingBlocks = Always (λ s w n v g. (b x m : ℕ) → g.life b ≡ Placed x m → 0 < w.born b → w.died b ≡ 0 → v.ruling.phase < taking_back → IsPatch s w.name b m
-    × ((t : Bool) (y : ℕ) → chained (g.life b) t ≡ y + 1 → ((w.head y).block ≡ b + 1) × (g.who (w.round + 1) (w.name (member_of b t)) ≡ b + 1))
+LivingBlocks = Always (λ s w n v g. (b x m : ℕ) → g.life b ≡ Placed x m → 0 < w.born b → w.died b ≡ 0 → IsPatch s w.name b m
+    × ((t : Bool) (y : ℕ) → chained (g.life b) t ≡ y + 1 → ((w.head y).block ≡ b + 1) × (IsPlace s.elements g.life y → IsLabel s w.name g.life y (w.name (member_of b t))) × (v.ruling.phase < taking_back → g.who (w.round + 1) (w.name (member_of b t)) ≡ b + 1))
     × ((c y i : ℕ) → g.life c ≡ Placed y i → 0 < w.born c → w.died c ≡ 0 → w.name (member_of c false) ≡ w.name (member_of b false) → c ≡ b))
 
 -- what a pass found of the round in work is so: places and bisected names in the first half, and in the second names that are not bisected and blocks of patches
@@ -89,10 +90,10 @@ abbrev pub BlocksKnown : Type 0
 BlocksKnown = Always (λ s w n v g. (b : ℕ) → (HasEntry v.ruling.undone b ↔ ((x : ℕ) × (m : ℕ) × (g.life b ≡ Undone x m))) × (HasEntry v.ruling.hand b → (v.ruling.phase ≡ first_half → ⊥) × (g.life b ≡ Free))
     × ((x m : ℕ) → HasEntry v.ruling.placed (b, x, m) → (g.life b ≡ Placed x m) ⊎ (g.life b ≡ Undone x m)) × (v.ruling.ever ≤ b → (g.life b ≡ Free) ⊎ ((i : ℕ) × (i < w.cursor) × (i < w.free) × (w.row i ≡ b))))
 
--- a seat that is neither the owner's nor a worker's, as one that was joined, has no claim, draw or finding; one that is not a reader's has no pin and is not ready for one; and a seat that was never made is of no kind
+-- a seat that is neither the owner's nor a worker's, as one that was joined, has no claim, draw, finding or walk at work; one that is not a reader's has no pin and is not ready for one; one of no kind, as one that was joined, was told nothing and has read and noted nothing; and a seat that was never made is of no kind
 abbrev pub OthersEmpty : Type 0
-OthersEmpty = Always (λ s w n v g. (j : ℕ) → ((v.kind j ≡ worker → ⊥) → (j ≡ 0 → ⊥) → ((x m : ℕ) (p : Progress) → HasEntry (v.claims j) (claim x m p) → ⊥) × ((v.work j).drawn ≡ []) × ((v.work j).found ≡ []) × ((v.work j).known ≡ []) × ((v.work j).open_ ≡ []) × ((v.work j).given ≡ []))
-    × ((v.kind j ≡ reader → ⊥) → ((v.read j).pin ≡ 0) × ((v.read j).ready ≡ 0)) × (n ≤ j → v.kind j ≡ 0))
+OthersEmpty = Always (λ s w n v g. (j : ℕ) → ((v.kind j ≡ worker → ⊥) → (j ≡ 0 → ⊥) → ((x m : ℕ) (p : Progress) → HasEntry (v.claims j) (claim x m p) → ⊥) × ((v.work j).drawn ≡ []) × ((v.work j).found ≡ []) × ((v.work j).known ≡ []) × ((v.work j).open_ ≡ []) × ((v.work j).given ≡ []) × ((v.work j).absent ≡ []) × ((v.work j).stood ≡ []) × ((v.work j).had ≡ []) × ((v.work j).retired ≡ []) × ((v.work j).went ≡ []) × ((v.work j).walk ≡ Still))
+    × ((v.kind j ≡ reader → ⊥) → ((v.read j).pin ≡ 0) × ((v.read j).ready ≡ 0)) × (v.kind j ≡ 0 → v.read j ≡ unread) × (n ≤ j → v.kind j ≡ 0))
 
 -- the owner's seat is the first, and no other; it knows how many workers' and readers' passes are out; and workers' are so in the two halves alone
 abbrev pub PassesCounted : Type 0

@@ -1,6 +1,6 @@
 //! Laws over the definitions alone.
 ghost use Rattle.mesh_state.specs.Laws.{BlocksPlaced, ClearRounds, CoversBisect, DrawsBounded, FreeRows, MembersTogether, NotesAgree, OneClaim, OneHolder, ParentsBisected, PinsBounded, PlacesAgree, ReachedKept, RetiredBorn, WalksAgree, WalksEnd, WalksShort};
-ghost use Rattle.mesh_state.specs.ClaimLaws.{BitsClaimed, DrawsCounted, SecondPlaces, StagesViewed, TargetLeast, UnbornBlocks, UnbornClaimed};
+ghost use Rattle.mesh_state.specs.ClaimLaws.{BitsClaimed, DrawsCounted, FreeUnborn, SecondPlaces, StagesViewed, TargetLeast, UnbornBlocks, UnbornClaimed};
 ghost use Rattle.mesh_state.specs.RoundLaws.{BetweenForests, BisectedClosed, ChainsStand, ClaimsAimed, ClaimsDrawn, DiffersByPatches, DrawsApart, HistoryRight, ListsKnown, LivingAimed, NotesInHistory, QuietRound, RoundsLeft, StandingKept, ToldPrefix, WalksBegin, WorkerAlone};
 ghost use Rattle.mesh_state.specs.SeatLaws.{BeginsEqual, BlocksKnown, FilledStays, FindingsRight, FinishedFindings, HistoryWords, LinkWords, LivingBlocks, LivingClaimed, LoadedStays, NumbersKnown, OneHalf, OthersEmpty, OwnerSure, PassesCounted, PinsCounted, PinsOut, RetiredNoted, WorkersWent};
 ghost use Rattle.mesh_state.specs.TableLaws.{BlocksInPool, BlocksViewed, ChainsNamed, ClaimsListedOnce, ElementsNamed, PlacesInTable, WalkSides};
@@ -17,6 +17,7 @@ pub fn laws()
     ensures stages { StagesViewed }
     ensures counted { DrawsCounted }
     ensures unborn { UnbornBlocks }
+    ensures free { FreeUnborn }
     ensures halves { UnbornClaimed }
     ensures aim { TargetLeast }
     ensures draws { DrawsBounded }

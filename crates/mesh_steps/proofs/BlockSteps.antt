@@ -6,8 +6,8 @@ use Rattle.mesh_words.specs.Functions.{update}
 use Rattle.mesh_words.specs.Words.{Node, node}
 use Rattle.mesh_words.specs.Places.{member_of}
 use Rattle.mesh_words.proofs.Functions.{update_same, update_at, update_other, update_cases}
-use Rattle.mesh_state.specs.Ghosts.{Life, Free, Placed, Undone, chained, stands}
-use Rattle.mesh_state.specs.Chains.{Covers, Reaches, IsPlace, IsHead, IsOlder, ChainsRule}
+use Rattle.mesh_state.specs.Ghosts.{Life, Free, Loose, Placed, Undone, chained, stands}
+use Rattle.mesh_state.specs.Chains.{Covers, Reaches, IsPlace, IsHead, IsOlder, IsUnborn, ChainsRule}
 use Rattle.mesh_state.proofs.FoundAgain.{chained_stands, placed_chained, standing, finds_on, reach_on, first_block, Moves}
 use Rattle.mesh_state.proofs.ChainSteps.{moves_same}
 
@@ -25,6 +25,7 @@ module _ (K : ℕ → Type 0) (A : ℕ → ℕ → Type 0) (e round : ℕ) (head
       borns = update_cases (λ c k. k ≤ round + 1) born b (round + 1) (omega arith) (λ c _. ch.borns c);
       dieds = λ c y k v d. dite (ℕ_discrete c b) (λ s. let w : died c ≡ died b = ap died s in absurd (omega arith)) (λ n. subst (λ (i : ℕ). (0 < i) × (i < died c) × (died c ≤ round + 1)) (sym (other c n)) (ch.dieds c y k v d));
       undone = λ c y k v. dite (ℕ_discrete c b) (λ s. absurd (placed_not x m y k (sym u ∙ ap life (sym s) ∙ v))) (λ n. other c n ∙ ch.undone c y k v);
+      unborn = λ c. dite (ℕ_discrete c b) (λ s. subst (IsUnborn round (born' c) (died c)) (sym (ap life s ∙ u)) tt) (λ n. subst (λ (i : ℕ). IsUnborn round i (died c) (life c)) (sym (other c n)) (ch.unborn c));
       sides = ch.sides;
     },
     moves_same K A e round head hist born died life head hist born' died (λ x _. refl) (λ c t y _. refl)
@@ -46,6 +47,7 @@ module _ (K : ℕ → Type 0) (A : ℕ → ℕ → Type 0) (e round : ℕ) (head
           borns = update_cases (λ c k. k ≤ round + 1) born b 0 (omega arith) (λ c _. ch.borns c);
           dieds = λ c y k v d. dite (ℕ_discrete c b) (λ s. let w : died c ≡ died b = ap died s in absurd (omega arith)) (λ n. subst (λ (i : ℕ). (0 < i) × (i < died c) × (died c ≤ round + 1)) (sym (other c n)) (ch.dieds c y k v d));
           undone = λ c y k v. dite (ℕ_discrete c b) (λ s. here c s) (λ n. other c n ∙ ch.undone c y k v);
+          unborn = λ c. dite (ℕ_discrete c b) (λ s. subst (IsUnborn round (born' c) (died c)) (sym (ap life s ∙ u)) tt) (λ n. subst (λ (i : ℕ). IsUnborn round i (died c) (life c)) (sym (other c n)) (ch.unborn c));
           sides = ch.sides;
         },
         moves_same K A e round head hist born died life head hist born' died (λ x _. refl) (λ c t y _. refl)
@@ -76,6 +78,7 @@ module _ (K : ℕ → Type 0) (A : ℕ → ℕ → Type 0) (e round : ℕ) (head
           dieds = λ c y k v d. dite (ℕ_discrete c b) (λ s. let h = here c s in let w : born c ≡ born b = ap born s in (omega arith, omega arith, omega arith))
               (λ n. subst (λ (i : ℕ). (0 < born c) × (born c < i) × (i ≤ round + 1)) (sym (other c n)) (ch.dieds c y k v (subst (λ (i : ℕ). 0 < i) (other c n) d)));
           undone = ch.undone;
+          unborn = λ c. dite (ℕ_discrete c b) (λ s. subst (IsUnborn round (born c) (died' c)) (sym (ap life s ∙ u)) tt) (λ n. subst (λ (i : ℕ). IsUnborn round (born c) i (life c)) (sym (other c n)) (ch.unborn c));
           sides = ch.sides;
         },
         moves_same K A e round head hist born died life head hist born died' (λ x _. refl) (λ c t y _. refl)
@@ -86,9 +89,9 @@ module _ (K : ℕ → Type 0) (A : ℕ → ℕ → Type 0) (e round : ℕ) (head
 
   -- The words of a block change that is in no chain: its history words, BORN and DIED; of one that was taken back DIED alone
   pub resets : (b : ℕ) → ((t : Bool) → chained (life b) t ≡ 0) → (hist' : ℕ → Node) (born' died' : ℕ → ℕ) → ((c : ℕ) → c ≢ b → ((t : Bool) → hist' (member_of c t) ≡ hist (member_of c t)) × (born' c ≡ born c) × (died' c ≡ died c))
-      → born' b ≤ round + 1 → ((x m : ℕ) → life b ≡ Undone x m → (born' b ≡ 0) × ((t : Bool) → hist' (member_of b t) ≡ hist (member_of b t)) × ((died' b ≡ 0) ⊎ (died' b ≡ round + 1)))
+      → born' b ≤ round + 1 → ((x m : ℕ) → life b ≡ Undone x m → (born' b ≡ 0) × ((t : Bool) → hist' (member_of b t) ≡ hist (member_of b t)) × ((died' b ≡ 0) ⊎ (died' b ≡ round + 1))) → IsUnborn round (born' b) (died' b) (life b)
       → ChainsRule e round head hist' born' died' life × Moves K A e round head hist head hist' born died born' died' life life
-  resets b off hist' born' died' same le un = let apart : (c : ℕ) (t : Bool) (x : ℕ) → chained (life c) t ≡ x + 1 → c ≢ b = λ c t x u (s : c ≡ b). let y : 0 ≡ x + 1 = sym (off t) ∙ ap (λ (i : ℕ). chained (life i) t) (sym s) ∙ u in absurd (omega arith) in
+  resets b off hist' born' died' same le un idle = let apart : (c : ℕ) (t : Bool) (x : ℕ) → chained (life c) t ≡ x + 1 → c ≢ b = λ c t x u (s : c ≡ b). let y : 0 ≡ x + 1 = sym (off t) ∙ ap (λ (i : ℕ). chained (life i) t) (sym s) ∙ u in absurd (omega arith) in
       let hists : (c : ℕ) (t : Bool) (x : ℕ) → stands (life c) t ≡ x + 1 → hist' (member_of c t) ≡ hist (member_of c t) = λ c t x u. dite (ℕ_discrete c b)
       (λ s. let y : stands (life b) t ≡ x + 1 = ap (λ (i : ℕ). stands (life i) t) (sym s) ∙ u in subst (λ (i : ℕ). hist' (member_of i t) ≡ hist (member_of i t)) (sym s) (⊎_elim (λ p. absurd (placed_off p.0 p.1 t (off false) p.2)) (λ p. (un p.0 p.1 p.2).1 t) (standing (life b) t x y)))
       (λ n. (same c n).0 t) in
@@ -106,6 +109,7 @@ module _ (K : ℕ → Type 0) (A : ℕ → ℕ → Type 0) (e round : ℕ) (head
           borns = λ c. dite (ℕ_discrete c b) (λ s. subst (λ (i : ℕ). born' i ≤ round + 1) (sym s) le) (λ n. subst (λ (i : ℕ). i ≤ round + 1) (sym (same c n).1) (ch.borns c));
           dieds = λ c x m u d. let n = same c (apart c false x (ap (λ (k : Life). chained k false) u)) in subst (λ (i : ℕ × ℕ). (0 < i.0) × (i.0 < i.1) × (i.1 ≤ round + 1)) (λ i. (sym n.1 i, sym n.2 i)) (ch.dieds c x m u (subst (λ (i : ℕ). 0 < i) n.2 d));
           undone = λ c x m u. dite (ℕ_discrete c b) (λ s. ap born' s ∙ (un x m (ap life (sym s) ∙ u)).0) (λ n. (same c n).1 ∙ ch.undone c x m u);
+          unborn = λ c. dite (ℕ_discrete c b) (λ s. subst (λ (i : ℕ). IsUnborn round (born' i) (died' i) (life i)) (sym s) idle) (λ n. subst (λ (i : ℕ × ℕ). IsUnborn round i.0 i.1 (life c)) (λ i. (sym (same c n).1 i, sym (same c n).2 i)) (ch.unborn c));
           sides = ch.sides;
         },
         record {
@@ -127,9 +131,9 @@ module _ (K : ℕ → Type 0) (A : ℕ → ℕ → Type 0) (e round : ℕ) (head
 
   -- a list of blocks that no other word names, and that no such round has, leaves the chains at once
   pub frees : (gone : ℕ → Bool) → ((c : ℕ) → gone c ≡ true → (q : ℕ) → K q → ((t : Bool) (x : ℕ) → chained (life c) t ≡ x + 1 → (died c ≡ 0) ⊎ (q < died c) → ⊥) × (A q c → ⊥)) → ((x c : ℕ) → IsPlace e life x → (head x).block ≡ c + 1 → gone c ≡ true → ⊥)
-      → ((b : ℕ) (t : Bool) (x c : ℕ) → stands (life b) t ≡ x + 1 → gone b ≡ false → (hist (member_of b t)).block ≡ c + 1 → gone c ≡ true → ⊥)
+      → ((b : ℕ) (t : Bool) (x c : ℕ) → stands (life b) t ≡ x + 1 → gone b ≡ false → (hist (member_of b t)).block ≡ c + 1 → gone c ≡ true → ⊥) → ((c : ℕ) → gone c ≡ true → IsUnborn round (born c) (died c) Free)
       → ChainsRule e round head hist born died (λ c. cond (gone c) Free (life c)) × Moves K A e round head hist head hist born died born died life (λ c. cond (gone c) Free (life c))
-  frees gone clear heads hists = let life' : ℕ → Life = λ c. cond (gone c) Free (life c) in
+  frees gone clear heads hists idle = let life' : ℕ → Life = λ c. cond (gone c) Free (life c) in
       let still : (c : ℕ) → gone c ≡ false → life' c ≡ life c = λ c g. ap (λ i. cond i Free (life c)) g in
       let left : (c : ℕ) (t : Bool) (x : ℕ) → stands (life' c) t ≡ x + 1 → gone c ≡ false = λ c t x u. by_bool (gone c) (λ g. let z : 0 ≡ x + 1 = sym (ap (λ i. stands (cond i Free (life c)) t) g) ∙ u in absurd (omega arith)) in
       let stand : (c : ℕ) (t : Bool) (x : ℕ) → gone c ≡ false → stands (life c) t ≡ x + 1 → stands (life' c) t ≡ x + 1 = λ c t x g u. ap (λ (k : Life). stands k t) (still c g) ∙ u in
@@ -147,6 +151,7 @@ module _ (K : ℕ → Type 0) (A : ℕ → ℕ → Type 0) (e round : ℕ) (head
           borns = ch.borns;
           dieds = λ b x m u d. let g = left b false x (ap (λ (k : Life). stands k false) u) in ch.dieds b x m (sym (still b g) ∙ u) d;
           undone = λ b x m u. let g = left b false x (ap (λ (k : Life). stands k false) u) in ch.undone b x m (sym (still b g) ∙ u);
+          unborn = λ c. now_free c (gone c) refl;
           sides = λ b t u x h k. let g = left b t x h in ch.sides b t u x (sym (ap (λ (l : Life). stands l t) (still b g)) ∙ h) (sym (ap (λ (l : Life). stands l u) (still b g)) ∙ k);
         },
         record {
@@ -161,6 +166,10 @@ module _ (K : ℕ → Type 0) (A : ℕ → ℕ → Type 0) (e round : ℕ) (head
         },
       )
     where
+      now_free : (c : ℕ) (t : Bool) → gone c ≡ t → IsUnborn round (born c) (died c) (cond t Free (life c))
+      now_free c true e = idle c e
+      now_free c false e = ch.unborn c
+
       by_bool : (g : Bool) → (g ≡ true → ⊥) → g ≡ false
       by_bool true h = absurd (h refl)
       by_bool false h = refl
@@ -184,6 +193,7 @@ module _ (K : ℕ → Type 0) (A : ℕ → ℕ → Type 0) (e round : ℕ) (head
           borns = ch.borns;
           dieds = λ c y k v d. dite (ℕ_discrete c b) (λ s. let w : died c ≡ died b = ap died s in absurd (omega arith)) (λ o. ch.dieds c y k (sym (still c o) ∙ v) d);
           undone = λ c y k v. dite (ℕ_discrete c b) (λ s. ap born s ∙ z) (λ o. ch.undone c y k (sym (still c o) ∙ v));
+          unborn = λ c. dite (ℕ_discrete c b) (λ s. subst (IsUnborn round (born c) (died c)) (sym (ap life' s ∙ now)) tt) (λ o. subst (IsUnborn round (born c) (died c)) (sym (still c o)) (ch.unborn c));
           sides = λ c t i y h k. ch.sides c t i y (sym (same c t) ∙ h) (sym (same c i) ∙ k);
         },
         record {
@@ -215,5 +225,22 @@ module _ (K : ℕ → Type 0) (A : ℕ → ℕ → Type 0) (e round : ℕ) (head
     borns = λ b. let l = ch.borns b in omega arith;
     dieds = λ b x m u d. let t = ch.dieds b x m u d in let l = t.2 in (t.0, t.1, omega arith);
     undone = ch.undone;
+    unborn = λ b. later (born b) (died b) (life b) (ch.unborn b);
     sides = ch.sides;
   }
+    where
+      later : (n d : ℕ) (l : Life) → IsUnborn round n d l → IsUnborn (round + 1) n d l
+      later n d Free h = ⊎_elim inl (λ k. let l = k.1 in inr (k.0, omega arith)) h
+      later n d (Loose u) h = h
+      later n d (Placed x m) h = h
+      later n d (Undone x m) h = h
+
+  -- what a block that has its last round is once it is free
+  pub gives_up : (b : ℕ) → 0 < died b → died b ≤ round → IsUnborn round (born b) (died b) Free
+  gives_up b p l = by (life b) refl
+    where
+      by : (k : Life) → life b ≡ k → IsUnborn round (born b) (died b) Free
+      by Free e = subst (IsUnborn round (born b) (died b)) e (ch.unborn b)
+      by (Loose u) e = inl (subst (IsUnborn round (born b) (died b)) e (ch.unborn b))
+      by (Placed x m) e = inr ((ch.dieds b x m e p).1, l)
+      by (Undone x m) e = inl (ch.undone b x m e)

@@ -12,7 +12,7 @@ use Rattle.mesh_words.specs.Entries.{HasEntry}
 use Rattle.mesh_words.proofs.Functions.{update_same, update_at, update_other, update_cases}
 use Rattle.mesh_words.proofs.Sums.{sum_update}
 use Rattle.mesh_state.specs.Ghosts.{Stage, Open, Held, Life, Free, Loose, Placed, Undone, chained, stands, Ghost}
-use Rattle.mesh_state.specs.Chains.{Reaches, IsPlace}
+use Rattle.mesh_state.specs.Chains.{Reaches, IsPlace, IsUnborn}
 use Rattle.mesh_state.specs.Claims.{block_of, Shape, linked, draws, draws_of, bit_of}
 use Rattle.mesh_state.specs.Bisections.{MayRead}
 use Rattle.mesh_state.specs.Sure.{GuardsBlock, GuardsHead, SureRule}
@@ -48,7 +48,7 @@ module _ (s : Setup) (w : Words) (n : ℕ) (v : Views) (g : Ghost) (r : Rule s w
 
     module _ (q : Progress) (life : ℕ → Life) (used : (b : ℕ) → uses q ≡ b + 1 → (b ≡ w.row w.cursor) × (w.cursor < w.free) × (q ≡ Drawn b))
         (shape : Shape w.round w.head w.born life x m q) (drawn : draws q ≡ 1) (unlinked : (b : ℕ) → linked q ≡ b + 1 → ⊥) (not_half : (b : ℕ) → q ≡ Half b → ⊥) (not_whole : (b : ℕ) → q ≡ Whole b → ⊥) (not_living : (b : ℕ) → q ≡ Living b → ⊥)
-        (same_life : (c : ℕ) → (g.life c ≡ Free → ⊥) → life c ≡ g.life c) (back_life : (c y k : ℕ) → life c ≡ Placed y k → g.life c ≡ Placed y k) (undone_life : (c y k : ℕ) → life c ≡ Undone y k → g.life c ≡ Undone y k) (free_life : (i : ℕ) → w.cursor < i → i < w.free → life (w.row i) ≡ Free) (left_life : (c : ℕ) → g.life c ≡ Free → (life c ≡ Free) ⊎ ((w.cursor < w.free) × (w.row w.cursor ≡ c))) (e : ℕ) (below : w.cursor < w.free → e ≡ w.row w.cursor + 1) (above : w.free ≤ w.cursor → e ≡ 0) (beyond : (c : ℕ) → s.pool ≤ c → life c ≡ Free) where
+        (same_life : (c : ℕ) → (g.life c ≡ Free → ⊥) → life c ≡ g.life c) (back_life : (c y k : ℕ) → life c ≡ Placed y k → g.life c ≡ Placed y k) (undone_life : (c y k : ℕ) → life c ≡ Undone y k → g.life c ≡ Undone y k) (free_life : (i : ℕ) → w.cursor < i → i < w.free → life (w.row i) ≡ Free) (left_life : (c : ℕ) → g.life c ≡ Free → (life c ≡ Free) ⊎ ((w.cursor < w.free) × (w.row w.cursor ≡ c))) (e : ℕ) (below : w.cursor < w.free → e ≡ w.row w.cursor + 1) (above : w.free ≤ w.cursor → e ≡ 0) (beyond : (c : ℕ) → s.pool ≤ c → life c ≡ Free) (idle : (c : ℕ) → IsUnborn w.round (w.born c) (w.died c) (life c)) where
       abbrev stage' : ℕ → Stage
       stage' = update g.stage x (Held j m q)
 
@@ -122,9 +122,10 @@ module _ (s : Setup) (w : Words) (n : ℕ) (v : Views) (g : Ghost) (r : Rule s w
           borns = r.chains.borns;
           dieds = λ b y k u. r.chains.dieds b y k (back_life b y k u);
           undone = λ b y k u. r.chains.undone b y k (undone_life b y k u);
+          unborn = idle;
           sides = λ b t i y h k. r.chains.sides b t i y (back_stand b t y h) (back_stand b i y k);
         };
-        names = names_on s w.name w.name w.head w.hist w.head w.hist w.born w.died w.born w.died g.life life (λ _ _ _ _ _. refl) w.round v.ruling.phase g.who v.read Can A moves (λ _ k. k) (λ b y k u. r.names.patch b y k (back_life b y k u)) (λ b y k l u. r.names.calm b y k l (back_life b y k u)) r.names;
+        names = names_on s w.name w.name w.head w.hist w.head w.hist w.born w.died w.born w.died g.life life (λ _ _ _ _ _. refl) w.round v.ruling.phase g.who v.read Can A moves (λ _ k. k) (λ b y k u. r.names.patch b y k (back_life b y k u)) (λ b p. (p.0, p.1, back_life b p.0 p.1 p.2, p.3, p.4)) (λ b y k l u. r.names.calm b y k l (back_life b y k u)) r.names;
         pins = r.pins;
         works = update_cases (λ i u. WorkRule s w.round v.ruling.phase w.name w.born w.died life (g.who d) (v.kind i) i u) v.work j noted
             (let k = r.works j in record { only = k.only; found = k.found; known = k.known; open_ = k.open_; given = λ c y h. let t = (k.given c y h).0 in let z = one in absurd (omega arith) })
@@ -215,6 +216,7 @@ module _ (s : Setup) (w : Words) (n : ℕ) (v : Views) (g : Ghost) (r : Rule s w
         (λ i a m. let t = r.claims.rows i (omega arith) m in update_other g.life b (w.row i) (Loose (x + 1)) (λ (e : w.row i ≡ b). let q = r.claims.apart i w.cursor (omega arith) m (omega arith) l e in omega arith) ∙ t.0)
         (λ c e. dite (ℕ_discrete c b) (λ k. inr (l, sym k)) (λ o. inl (update_other g.life b c (Loose (x + 1)) o ∙ e)))
         (w.row w.cursor + 1) (λ _. refl) (λ a. absurd (omega arith)) (inside_block s g.life b (Loose (x + 1)) (r.inside.rows w.cursor l) r.inside.blocks)
+        (λ c. dite (ℕ_discrete c b) (λ k. subst (IsUnborn w.round (w.born c) (w.died c)) (sym (update_at g.life b c (Loose (x + 1)) k)) (ap w.born k ∙ f.1)) (λ o. subst (IsUnborn w.round (w.born c) (w.died c)) (sym (update_other g.life b c (Loose (x + 1)) o)) (r.chains.unborn c)))
       where
         clash1 : (b c : ℕ) → Drawn b ≡ Half c → ⊥
         clash1 b c e = cc
@@ -230,7 +232,7 @@ module _ (s : Setup) (w : Words) (n : ℕ) (v : Views) (g : Ghost) (r : Rule s w
 
     -- it is not: the round is full
     pub draws_none : w.free ≤ w.cursor → Rule s (record w { cursor = w.cursor + 1 }) n (record v { claims = update v.claims j (moved_on (v.claims j) x Failed); work = update v.work j (record (v.work j) { drawn = (w.cursor, 0) ∷ (v.work j).drawn }); sure = update v.sure j unsure }) (record g { stage = update g.stage x (Held j m Failed); life = g.life })
-    draws_none l = draws_any Failed g.life (λ c e. absurd (omega arith)) tt refl (λ c e. absurd (omega arith)) (λ c e. clash1 c e) (λ c e. clash2 c e) (λ c e. clash3 c e) (λ _ _. refl) (λ _ _ _ u. u) (λ _ _ _ u. u) (λ i a m. absurd (omega arith)) (λ c e. inl e) 0 (λ a. absurd (omega arith)) (λ _. refl) r.inside.blocks
+    draws_none l = draws_any Failed g.life (λ c e. absurd (omega arith)) tt refl (λ c e. absurd (omega arith)) (λ c e. clash1 c e) (λ c e. clash2 c e) (λ c e. clash3 c e) (λ _ _. refl) (λ _ _ _ u. u) (λ _ _ _ u. u) (λ i a m. absurd (omega arith)) (λ c e. inl e) 0 (λ a. absurd (omega arith)) (λ _. refl) r.inside.blocks r.chains.unborn
       where
         clash1 : (c : ℕ) → Failed ≡ Half c → ⊥
         clash1 c e = cc

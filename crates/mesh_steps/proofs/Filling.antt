@@ -10,7 +10,7 @@ use Rattle.mesh_words.specs.Entries.{HasEntry}
 use Rattle.mesh_words.proofs.Functions.{update_at, update_other, update_cases}
 use Rattle.mesh_words.proofs.PlaceNumbers.{member_one, child_one}
 use Rattle.mesh_state.specs.Ghosts.{Held, Life, Loose, Placed, Undone, chained, stands, Ghost}
-use Rattle.mesh_state.specs.Chains.{IsPlace, ChainsRule}
+use Rattle.mesh_state.specs.Chains.{IsPlace, IsUnborn, ChainsRule}
 use Rattle.mesh_state.specs.Claims.{Shape, linked}
 use Rattle.mesh_state.specs.Bisections.{IsPlaceOf, MayRead}
 use Rattle.mesh_state.specs.Sure.{GuardsBlock, GuardsHead, SureRule}
@@ -74,7 +74,7 @@ module _ (s : Setup) (w : Words) (n : ℕ) (v : Views) (g : Ghost) (r : Rule s w
   module _ (hist' : ℕ → Node) (died' name' : ℕ → ℕ) (u : Sure) (off : (c : ℕ) → c ≢ b → ((t : Bool) → hist' (member_of c t) ≡ w.hist (member_of c t)) × (died' c ≡ w.died c) × ((t : Bool) → name' (member_of c t) ≡ w.name (member_of c t)))
       (sure : SureRule s.elements v.ruling.workers w.head hist' w.born died' name' w.row g.stage j u) where
     step_chains : ChainsRule s.elements w.round w.head hist' w.born died' g.life × Moves Can A s.elements w.round w.head w.hist w.head hist' w.born w.died w.born died' g.life g.life
-    step_chains = resets Can A s.elements w.round w.head w.hist w.born w.died g.life r.chains b (λ t. ap (λ (i : Life). chained i t) loose) hist' w.born died' (λ c o. ((off c o).0, refl, (off c o).1)) (r.chains.borns b) (λ y k e. absurd (clash (x + 1) y k (sym loose ∙ e)))
+    step_chains = resets Can A s.elements w.round w.head w.hist w.born w.died g.life r.chains b (λ t. ap (λ (i : Life). chained i t) loose) hist' w.born died' (λ c o. ((off c o).0, refl, (off c o).1)) (r.chains.borns b) (λ y k e. absurd (clash (x + 1) y k (sym loose ∙ e))) (subst (IsUnborn w.round (w.born b) (died' b)) (sym loose) (r.claims.shape x j m (Drawn b) is).1)
       where
         clash : (u y k : ℕ) → Loose u ≡ Undone y k → ⊥
         clash u y k e = cc
@@ -94,6 +94,7 @@ module _ (s : Setup) (w : Words) (n : ℕ) (v : Views) (g : Ghost) (r : Rule s w
       chains = step_chains.0;
       names = names_on s w.name name' w.head w.hist w.head hist' w.born w.died w.born died' g.life g.life same w.round v.ruling.phase g.who v.read Can A step_chains.1 (λ _ k. k)
           (λ c y k h. let o = off c (other c false y (ap (λ (l : Life). chained l false) h)) in subst (λ (i : ℕ × ℕ). (s.leads i.0 ≡ 1) × (i.1 ≡ s.mate i.0) × ((k ≡ 0) × (s.mate i.0 ≡ 0) ⊎ ((a : ℕ) × (e : ℕ) × (k ≡ a + 1) × (s.mate i.0 ≡ e + 1)))) (λ t. (sym (o.2 false) t, sym (o.2 true) t)) (r.names.patch c y k h))
+          (λ c p. (p.0, p.1, p.2, p.3, sym (off c (other c false p.0 (ap (λ (l : Life). chained l false) p.2))).1 ∙ p.4))
           (λ c y k l h. subst (λ (i : ℕ). i ≤ w.round) (sym (off c (other c false y (ap (λ (l : Life). chained l false) h))).1) (r.names.calm c y k l h)) r.names;
       pins = r.pins;
       works = λ i. let k = r.works i in record { only = k.only; found = λ y a h. let t = k.found y a h in (t.0, place_on y a t.1); known = k.known; open_ = k.open_; given = λ c y h. let t = (k.given c y h).0 in let e = one in absurd (omega arith) };
@@ -185,7 +186,7 @@ module _ (s : Setup) (w : Words) (n : ℕ) (v : Views) (g : Ghost) (r : Rule s w
         };
         labels = r.labels;
         chains = chains_apart s.elements w.round w.head w.hist w.born w.died g.life r.chains head' stays;
-        names = names_on s w.name w.name w.head w.hist head' w.hist w.born w.died w.born w.died g.life g.life (λ _ _ _ _ _. refl) w.round v.ruling.phase g.who v.read Can A mv (λ _ k. k) r.names.patch r.names.calm r.names;
+        names = names_on s w.name w.name w.head w.hist head' w.hist w.born w.died w.born w.died g.life g.life (λ _ _ _ _ _. refl) w.round v.ruling.phase g.who v.read Can A mv (λ _ k. k) r.names.patch (λ _ p. p) r.names.calm r.names;
         pins = r.pins;
         works = r.works;
         walks = λ i. workers_on s w.name w.name w.head w.hist head' w.hist w.born w.died w.born w.died g.life g.life (λ _ _ _ _ _. refl) w.round v.ruling.phase g.who v.read Can A mv (inl (inl refl)) (r.names.fits w.round (inl (inl refl))) (λ e. r.names.fits d can) (v.kind i) i (v.work i) (λ b k h x. (inr (i, k, refl, h), x)) (r.walks i);

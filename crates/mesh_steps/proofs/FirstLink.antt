@@ -131,6 +131,7 @@ module _ (s : Setup) (w : Words) (n : ℕ) (v : Views) (g : Ghost) (r : Rule s w
       chains = step_chains.0;
       names = names_on s w.name w.name w.head w.hist head' w.hist w.born w.died w.born w.died g.life life' (λ _ _ _ _ _. refl) w.round v.ruling.phase g.who v.read Can A step_chains.1 (λ _ t. t)
           (λ c y i u. ⊎_elim (λ t. subst (λ (y : ℕ × ℕ). IsPatch s w.name y.0 y.1) (λ z. (sym t.0 z, sym t.2 z)) patch) (λ t. r.names.patch c y i t.1) (back c y i u))
+          (λ c p. ⊎_elim (λ t. let f : w.born c ≡ w.born b = ap w.born t.0 in let z = shape.1 in let l = p.3 in absurd (omega arith)) (λ t. (p.0, p.1, t.1, p.3, p.4)) (back c p.0 p.1 p.2))
           (λ c y i l u. ⊎_elim (λ t. let f : w.died c ≡ w.died b = ap w.died t.0 in let z = (r.sure j).died_is b 0 died guard in omega arith) (λ t. r.names.calm c y i l t.1) (back c y i u)) r.names;
       pins = r.pins;
       works = λ i. let k = r.works i in record {

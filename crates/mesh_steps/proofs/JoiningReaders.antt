@@ -1,5 +1,5 @@
 -- A reader's pass ends, and the owner has its notes.
-use Rattle.std.proofs.Common.{◌≡◌, ◌≢◌, ℕ, ◌+◌, ◌<◌, ◌≤◌, cond, Bool, [], ◌++◌, refl, sym, ap, ◌∙◌, inl, inr, ⊎_elim, arith, eq-eqb, ne_eqb}
+use Rattle.std.proofs.Common.{◌≡◌, ◌≢◌, ℕ, ◌+◌, ◌<◌, ◌≤◌, cond, Bool, ◌++◌, refl, sym, ap, ◌∙◌, inl, inr, ⊎_elim, arith, eq-eqb, ne_eqb}
 use mathlib.Core.Logic.{dite}
 use native.Mathlib.Decide.{ℕ_discrete, dec_lt}
 use Rattle.mesh_words.specs.Setup.{Setup}
@@ -7,7 +7,7 @@ use Rattle.mesh_words.specs.Functions.{update}
 use Rattle.mesh_words.specs.Sums.{sum_below, one_where}
 use Rattle.mesh_words.specs.Words.{Words}
 use Rattle.mesh_words.specs.Entries.{HasEntry}
-use Rattle.mesh_words.specs.Views.{Views, Read}
+use Rattle.mesh_words.specs.Views.{Views, Read, unread, unsure}
 use Rattle.mesh_words.proofs.Functions.{update_same, update_at, update_other, update_cases}
 use Rattle.mesh_words.proofs.Sums.{sum_update, sum_same, sum_le}
 use Rattle.mesh_words.proofs.Entries.{entry_of_both}
@@ -15,24 +15,24 @@ use Rattle.mesh_state.specs.Bisections.{MayRead}
 use Rattle.mesh_state.specs.Readers.{ReaderRule}
 use Rattle.mesh_state.specs.Ghosts.{Ghost}
 use Rattle.mesh_state.specs.Owner.{NoneWent}
+use Rattle.mesh_state.specs.Sure.{SureRule}
 use Rattle.mesh_state.specs.Rule.{Rule}
 use Rattle.mesh_state.proofs.FoundAgain.{still_not}
 use Rattle.mesh_state.proofs.Lists.{plan_on, history_read}
-use Rattle.mesh_state.specs.Fresh.{blank}
 
 module _ (s : Setup) (w : Words) (n : ℕ) (v : Views) (g : Ghost) (r : Rule s w n v g) (j : ℕ) (far : j ≢ 0) (kind : v.kind j ≡ 2) (none : (v.read j).pin ≡ 0) where
   abbrev own : Read
   own = record (v.read 0) { notes = (v.read 0).notes ++ (v.read j).notes }
 
   abbrev read' : ℕ → Read
-  read' = update (update v.read 0 (record (v.read 0) { notes = (v.read 0).notes ++ (v.read j).notes })) j (blank [])
+  read' = update (update v.read 0 (record (v.read 0) { notes = (v.read 0).notes ++ (v.read j).notes })) j unread
 
   -- each view has its pin, and none is ready that was not
   pin_is : (i : ℕ) → (read' i).pin ≡ (v.read i).pin
-  pin_is = update_cases (λ i u. u.pin ≡ (v.read i).pin) (update v.read 0 own) j (blank []) (sym none) (λ i _. update_cases (λ i u. u.pin ≡ (v.read i).pin) v.read 0 own refl (λ _ _. refl) i)
+  pin_is = update_cases (λ i u. u.pin ≡ (v.read i).pin) (update v.read 0 own) j unread (sym none) (λ i _. update_cases (λ i u. u.pin ≡ (v.read i).pin) v.read 0 own refl (λ _ _. refl) i)
 
   ready_le : (i : ℕ) → (read' i).ready ≤ (v.read i).ready
-  ready_le = update_cases (λ i u. u.ready ≤ (v.read i).ready) (update v.read 0 own) j (blank []) (omega arith) (λ i _. update_cases (λ i u. u.ready ≤ (v.read i).ready) v.read 0 own (omega arith) (λ _ _. omega arith) i)
+  ready_le = update_cases (λ i u. u.ready ≤ (v.read i).ready) (update v.read 0 own) j unread (omega arith) (λ i _. update_cases (λ i u. u.ready ≤ (v.read i).ready) v.read 0 own (omega arith) (λ _ _. omega arith) i)
 
   inside : j < n
   inside = elim (dec_lt j n) [ yes l ↦ l | no o ↦ let z = r.pins.few j (omega arith) in absurd (omega arith) ]
@@ -53,32 +53,36 @@ module _ (s : Setup) (w : Words) (n : ℕ) (v : Views) (g : Ghost) (r : Rule s w
   kept_work i o k = o (dite (ℕ_discrete i j) (λ e. let y : v.kind i ≡ v.kind j = ap v.kind e in absurd (omega arith)) (λ f. update_other v.kind j i 0 f ∙ k))
 
   none_went : NoneWent w.round v.read v.ruling.undone → NoneWent w.round read' v.ruling.undone
-  none_went ok = update_cases (λ _ x. (b : ℕ) → x.pin ≡ w.round + 1 → HasEntry x.went b → HasEntry v.ruling.undone b → ⊥) (update v.read 0 own) j (blank []) (λ b p h m. absurd h)
+  none_went ok = update_cases (λ _ x. (b : ℕ) → x.pin ≡ w.round + 1 → HasEntry x.went b → HasEntry v.ruling.undone b → ⊥) (update v.read 0 own) j unread (λ b p h m. absurd h)
       (λ i _. update_cases (λ _ x. (b : ℕ) → x.pin ≡ w.round + 1 → HasEntry x.went b → HasEntry v.ruling.undone b → ⊥) v.read 0 own (λ b p h m. ok 0 b p h m) (λ i _. ok i) i)
 
   pub leaves : (readers : ℕ) → v.ruling.readers ≡ readers + 1
-      → Rule s w n (record v { kind = update v.kind j 0; read = update (update v.read 0 (record (v.read 0) { notes = (v.read 0).notes ++ (v.read j).notes })) j (blank []); ruling = record v.ruling { readers = readers } }) g
+      → Rule s w n (record v { kind = update v.kind j 0; sure = update v.sure j unsure; read = update (update v.read 0 (record (v.read 0) { notes = (v.read 0).notes ++ (v.read j).notes })) j unread; ruling = record v.ruling { readers = readers } }) g
   leaves readers one = record {
     names_apart = r.names_apart;
     claims = r.claims;
     labels = r.labels;
     chains = r.chains;
-    names = record { fits = λ q k. r.names.fits q (back q k); sound = λ q k. r.names.sound q (back q k); patch = r.names.patch; calm = r.names.calm; grows = r.names.grows; either = r.names.either; fresh = r.names.fresh };
+    names = record { fits = λ q k. r.names.fits q (back q k); sound = λ q k. r.names.sound q (back q k); patch = r.names.patch; one = r.names.one; calm = r.names.calm; grows = r.names.grows; either = r.names.either; fresh = r.names.fresh };
     pins = record {
       now = r.pins.now;
       later = r.pins.later;
       count = λ q. r.pins.count q ∙ ap (λ (x : ℕ). w.released q + x) (sym (sum_same n (λ i. one_where (v.read i).pin (q + 1)) (λ i. one_where (read' i).pin (q + 1)) (λ i _. ap (λ (x : ℕ). one_where x (q + 1)) (pin_is i))));
       past = λ i q e. r.pins.past i q (sym (pin_is i) ∙ e);
       few = update_cases (λ i x. n ≤ i → x ≡ 0) v.kind j 0 (λ _. refl) (λ i _. r.pins.few i);
-      readers = λ i o. dite (ℕ_discrete i j) (λ e. let u = update_at (update v.read 0 own) j i (blank []) e in (ap (λ (x : Read). x.pin) u, ap (λ (x : Read). x.ready) u))
+      readers = λ i o. dite (ℕ_discrete i j) (λ e. let u = update_at (update v.read 0 own) j i unread e in (ap (λ (x : Read). x.pin) u, ap (λ (x : Read). x.ready) u))
           (λ f. let t = r.pins.readers i (λ k. o (update_other v.kind j i 0 f ∙ k)) in let l = ready_le i in let t1 = t.1 in (pin_is i ∙ t.0, omega arith));
+      spent = update_cases (λ i u. update v.kind j 0 i ≡ 0 → u ≡ unread) (update v.read 0 own) j unread (λ _. refl)
+          (λ i ne. update_cases (λ i u. i ≢ j → update v.kind j 0 i ≡ 0 → u ≡ unread) v.read 0 own (λ o e. let y = r.rules.owner.0 in let z = update_other v.kind j 0 0 o in absurd (omega arith)) (λ i _ o e. r.pins.spent i (sym (update_other v.kind j i 0 o) ∙ e)) i ne);
       bit = λ i. let a = ready_le i in let b = r.pins.bit i in omega arith;
       bound = let a = sum_le n (λ i. (read' i).ready) (λ i. (v.read i).ready) ready_le in let b = r.pins.bound in omega arith;
     };
     works = λ i. let t = r.works i in record { only = λ o z. t.only (λ k. o (dite (ℕ_discrete i j) (λ e. let y : v.kind i ≡ v.kind j = ap v.kind e in absurd (omega arith)) (λ f. update_other v.kind j i 0 f ∙ k))) z; found = t.found; known = t.known; open_ = t.open_; given = t.given };
     walks = λ i. let t = r.walks i in record { still = λ o. t.still (kept_work i o); only = λ o. t.only (kept_work i o); half = λ e. t.half (was i 1 (λ z. omega arith) e); at_work = λ e. t.at_work (was i 1 (λ z. omega arith) e); retired_in = t.retired_in; absent = t.absent; stood = t.stood; had = t.had; went = t.went; walk = t.walk; sided = t.sided };
-    sure = r.sure;
-    goes = update_cases (λ _ u. ReaderRule s w.round w.name w.hist w.born w.died g.life g.who u) (update v.read 0 own) j (blank [])
+    sure = update_cases (λ i u. SureRule s.elements v.ruling.workers w.head w.hist w.born w.died w.name w.row g.stage i u) v.sure j unsure
+        record { head_is = λ z l f h. absurd f; hist_is = λ b t l f h. absurd f; died_is = λ b k f h. absurd f; name_is = λ b t k f h. absurd f; born_is = λ b k f h i. absurd f; row_is = λ b k f h i. absurd f }
+        (λ i _. r.sure i);
+    goes = update_cases (λ _ u. ReaderRule s w.round w.name w.hist w.born w.died g.life g.who u) (update v.read 0 own) j unread
         record { went = λ q b p f. absurd f; walk = λ q p. tt; sided = λ q x k b t p h. absurd (still_not x k b t h); places = λ q x k p h. absurd h; yes_notes = λ k q h. absurd h; no_notes = λ k q h. absurd h }
         (λ i _. update_cases (λ _ u. ReaderRule s w.round w.name w.hist w.born w.died g.life g.who u) v.read 0 own
         (let a = r.goes 0 in let b = r.goes j in record { went = a.went; walk = a.walk; sided = a.sided; places = a.places; yes_notes = λ k q h. ⊎_elim (λ t. a.yes_notes k q t) (λ t. b.yes_notes k q t) (entry_of_both (v.read 0).notes (v.read j).notes _ h); no_notes = λ k q h. ⊎_elim (λ t. a.no_notes k q t) (λ t. b.no_notes k q t) (entry_of_both (v.read 0).notes (v.read j).notes _ h) })
@@ -96,7 +100,7 @@ module _ (s : Setup) (w : Words) (n : ℕ) (v : Views) (g : Ghost) (r : Rule s w
     note = record { undone = r.note.undone; all = r.note.all; placed = r.note.placed; seen = λ x e. let t = r.note.seen x e in (t.0, t.1, t.2, λ f. none_went (t.3 f)); quiet = λ e. none_went (r.note.quiet e) };
     retired = r.retired;
     plan = plan_on s w.round v.ruling.phase g.who v.kind (update v.kind j 0) v.work v.work v.ruling.plan (λ i k. r.plan.same i (was i 1 (λ z. omega arith) k)) r.plan;
-    history = history_read w.round g.who (update v.read 0 own) v.ruling.history j (blank []) (v.ruling.history, refl) (omega arith, omega arith) (omega arith, λ q e. absurd (omega arith))
+    history = history_read w.round g.who (update v.read 0 own) v.ruling.history j unread (v.ruling.history, refl) (omega arith, omega arith) (omega arith, λ q e. absurd (omega arith))
         (history_read w.round g.who v.read v.ruling.history 0 own (r.history.told 0) (r.history.seen 0) (r.history.made 0) r.history);
     drawn = record { only = λ i o. r.drawn.only i (kept_work i o); drawn = r.drawn.drawn; apart = r.drawn.apart };
     draws = r.draws;

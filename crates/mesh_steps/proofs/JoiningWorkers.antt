@@ -6,7 +6,7 @@ use Rattle.mesh_words.specs.Setup.{Setup, places}
 use Rattle.mesh_words.specs.Functions.{update}
 use Rattle.mesh_words.specs.Sums.{sum_below, one_where}
 use Rattle.mesh_words.specs.Words.{Words}
-use Rattle.mesh_words.specs.Views.{no_plan, Views, Work, Still, unsure}
+use Rattle.mesh_words.specs.Views.{no_plan, Views, Work, Still, unsure, unread}
 use Rattle.mesh_words.specs.Claims.{Progress, Drawn, Half, Whole, Living, claim}
 use Rattle.mesh_words.specs.Entries.{HasEntry}
 use Rattle.mesh_words.proofs.Functions.{update_same, update_at, update_other, update_cases}
@@ -23,6 +23,8 @@ use Rattle.mesh_state.proofs.FoundAgain.{still_not, walks_idle}
 use Rattle.mesh_state.proofs.HeldClaims.{not_open, held_one}
 use Rattle.mesh_state.proofs.Lists.{plan_on}
 use Rattle.mesh_state.specs.Fresh.{idle}
+use Rattle.mesh_steps.specs.OwnerSteps.{joined_work}
+use Rattle.mesh_steps.proofs.Pinning.{forgets}
 
 abbrev pub moved : ℕ → Stage → Stage
 moved j Open = Open
@@ -74,10 +76,10 @@ module _ (s : Setup) (w : Words) (n : ℕ) (v : Views) (g : Ghost) (r : Rule s w
   abbrev joined : Work
   joined = record { half = 0; round = 0; number = 0; plan = no_plan; drawn = (v.work 0).drawn ++ (v.work j).drawn; found = (v.work 0).found ++ (v.work j).found; known = (v.work 0).known ++ (v.work j).known; open_ = (v.work 0).open_ ++ (v.work j).open_; given = (v.work 0).given ++ (v.work j).given; absent = (v.work 0).absent ++ (v.work j).absent; stood = (v.work 0).stood ++ (v.work j).stood; had = (v.work 0).had ++ (v.work j).had; retired = (v.work 0).retired ++ (v.work j).retired; went = []; walk = Still }
 
-  -- the owner has the claims and the knowledge of both, and is sure of no word
-  pub joins : (workers : ℕ) → v.ruling.workers ≡ workers + 1
+  -- the owner has the claims and the knowledge of both, and is sure of no word, where the pass has read nothing
+  takes : v.read j ≡ unread → (workers : ℕ) → v.ruling.workers ≡ workers + 1
       → Rule s w n (record v { kind = update v.kind j 0; claims = update (update v.claims 0 (v.claims 0 ++ v.claims j)) j []; work = update (update v.work 0 record { half = 0; round = 0; number = 0; plan = no_plan; drawn = (v.work 0).drawn ++ (v.work j).drawn; found = (v.work 0).found ++ (v.work j).found; known = (v.work 0).known ++ (v.work j).known; open_ = (v.work 0).open_ ++ (v.work j).open_; given = (v.work 0).given ++ (v.work j).given; absent = (v.work 0).absent ++ (v.work j).absent; stood = (v.work 0).stood ++ (v.work j).stood; had = (v.work 0).had ++ (v.work j).had; retired = (v.work 0).retired ++ (v.work j).retired; went = []; walk = Still }) j idle; sure = update (update v.sure 0 unsure) j unsure; ruling = record v.ruling { workers = workers; lone = 0 } }) (record g { stage = λ x. moved j (g.stage x) })
-  joins workers one = record {
+  takes spent workers one = record {
     names_apart = r.names_apart;
     claims = record {
       held = two_at (λ i cs. (x m : ℕ) (p : Progress) → HasEntry cs (claim x m p) → stage' x ≡ Held i m p) v.claims (v.claims 0 ++ v.claims j) []
@@ -102,7 +104,7 @@ module _ (s : Setup) (w : Words) (n : ℕ) (v : Views) (g : Ghost) (r : Rule s w
     labels = λ x i m p h. let k = was x i m p h in r.labels x k.0 m p k.1;
     chains = r.chains;
     names = r.names;
-    pins = record { now = r.pins.now; later = r.pins.later; count = r.pins.count; past = r.pins.past; few = λ i l. update_cases (λ i x. n ≤ i → x ≡ 0) v.kind j 0 (λ _. refl) (λ i _. r.pins.few i) i l; readers = λ i o. r.pins.readers i (λ k. o (update_other v.kind j i 0 (λ (e : i ≡ j). let z : v.kind i ≡ v.kind j = ap v.kind e in omega arith) ∙ k)); bit = r.pins.bit; bound = r.pins.bound };
+    pins = record { now = r.pins.now; later = r.pins.later; count = r.pins.count; past = r.pins.past; few = λ i l. update_cases (λ i x. n ≤ i → x ≡ 0) v.kind j 0 (λ _. refl) (λ i _. r.pins.few i) i l; readers = λ i o. r.pins.readers i (λ k. o (update_other v.kind j i 0 (λ (e : i ≡ j). let z : v.kind i ≡ v.kind j = ap v.kind e in omega arith) ∙ k)); spent = λ i e. dite (ℕ_discrete i j) (λ f. ap v.read f ∙ spent) (λ o. r.pins.spent i (sym (update_other v.kind j i 0 o) ∙ e)); bit = r.pins.bit; bound = r.pins.bound };
     works = λ i. let K : ℕ → ℕ = update v.kind j 0 in two_at (λ i u. WorkRule s w.round v.ruling.phase w.name w.born w.died g.life (g.who (w.round + 1)) (K i) i u) v.work _ idle
         (let a = r.works 0 in let b = r.works j in record {
           only = λ _ z. absurd (z refl);
@@ -211,3 +213,8 @@ module _ (s : Setup) (w : Words) (n : ℕ) (v : Views) (g : Ghost) (r : Rule s w
       head_was : (i : ℕ) → i ≢ 0 → (z : ℕ) → GuardsHead s.elements workers stage' i z → GuardsHead s.elements v.ruling.workers g.stage i z
       head_was i a z (inl t) = absurd (a t.0)
       head_was i a z (inr t) = inr (t.0, t.1, t.2, ⊎_elim (λ h. inl (stage_was i a t.0 t.1 (Drawn t.2) h.0, h.1)) (λ h. inr (stage_was i a t.0 t.1 (Half t.2) h.0, h.1)) t.3)
+
+-- and so where it has, which it forgets
+pub joins : (s : Setup) (w : Words) (n : ℕ) (v : Views) (g : Ghost) → Rule s w n v g → (j : ℕ) → j ≢ 0 → v.kind j ≡ 1 → (workers : ℕ) → v.ruling.workers ≡ workers + 1
+    → Rule s w n (record v { kind = update v.kind j 0; claims = update (update v.claims 0 (v.claims 0 ++ v.claims j)) j []; work = update (update v.work 0 (joined_work (v.work 0) (v.work j))) j idle; sure = update (update v.sure 0 unsure) j unsure; read = update v.read j unread; ruling = record v.ruling { workers = workers; lone = 0 } }) (record g { stage = λ x. moved j (g.stage x) })
+joins s w n v g r j far kind = takes s w n (record v { read = update v.read j unread }) g (forgets s w n v g r j (λ e. omega arith)) j far kind (update_same v.read j unread)

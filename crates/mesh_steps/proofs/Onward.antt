@@ -1,5 +1,5 @@
 -- Walks, passes and claims go on.
-use Rattle.std.proofs.Common.{◌≡◌, ℕ, zero, suc, ◌+◌, ◌<◌, ◌≤◌, Bool, true, false, List, [], ◌∷◌, ◌⊎◌, refl, sym, ap, ◌∙◌, subst, inl, inr, ⊎_elim, arith}
+use Rattle.std.proofs.Common.{◌≡◌, ℕ, zero, suc, ◌+◌, ◌<◌, ◌≤◌, Bool, true, false, List, [], ◌∷◌, ◌++◌, ◌⊎◌, refl, sym, ap, ◌∙◌, subst, inl, inr, ⊎_elim, arith}
 use mathlib.Core.Logic.{dite}
 use native.Mathlib.Decide.{ℕ_discrete, dec_lt}
 use Rattle.mesh_words.specs.Setup.{Setup, setup_of}
@@ -8,7 +8,7 @@ use Rattle.mesh_words.specs.Entries.{HasEntry, Noted}
 use Rattle.mesh_words.specs.Functions.{update}
 use Rattle.mesh_words.specs.Places.{member_of, child_place}
 use Rattle.mesh_words.specs.Words.{Node, Words}
-use Rattle.mesh_words.specs.Views.{Views, Work, Read, Plan, Still, At, Past}
+use Rattle.mesh_words.specs.Views.{Views, Work, Read, Plan, Still, At, Past, unread, unsure}
 use Rattle.mesh_words.specs.Sums.{one_where}
 use Rattle.mesh_words.proofs.Functions.{update_same, update_at, update_other}
 use Rattle.mesh_words.proofs.Entries.{entry_right}
@@ -178,13 +178,13 @@ passes_joined s w n v (g, r) j = (
   (λ kind none. (
     _,
     ByJoinReader (j, other 2 (omega arith) kind, kind, none, (some_reader kind).0, (some_reader kind).1, refl),
-    (update_same v.kind j 0, λ k h. first_of (λ (u : Read). HasEntry u.notes k) v.read j _ _ (other 2 (omega arith) kind) (entry_right (v.read 0).notes (v.read j).notes k h)),
+    ((update_same v.kind j 0, update_same (update v.read 0 (record (v.read 0) { notes = (v.read 0).notes ++ (v.read j).notes })) j unread, update_same v.sure j unsure), λ k h. first_of (λ (u : Read). HasEntry u.notes k) v.read j _ _ (other 2 (omega arith) kind) (entry_right (v.read 0).notes (v.read j).notes k h)),
   )),
   λ kind. (
     _,
     ByJoinWorker (j, other 1 (omega arith) kind, kind, (before v.ruling.workers (some_worker s w n v g r j kind)).0, (before v.ruling.workers (some_worker s w n v g r j kind)).1, refl),
     (
-      update_same v.kind j 0,
+      (update_same v.kind j 0, update_same v.read j unread, update_same (update v.sure 0 unsure) j unsure),
       refl,
       (λ c h. first_of (λ (cs : List Claim). HasEntry cs c) v.claims j _ _ (other 1 (omega arith) kind) (entry_right (v.claims 0) (v.claims j) c h)),
       λ k. (

@@ -142,6 +142,7 @@ module _ (s : Setup) (w : Words) (n : ℕ) (v : Views) (g : Ghost) (r : Rule s w
     fits = λ q k. r.names.fits q (back q k);
     sound = λ q k. r.names.sound q (back q k);
     patch = r.names.patch;
+    one = r.names.one;
     calm = λ b x m l. r.names.calm b x m (calm l);
     grows = λ i b l. r.names.grows i b (grows l);
     either = λ i b l. r.names.either i b (said l);
@@ -235,6 +236,7 @@ module _ (s : Setup) (w : Words) (n : ℕ) (v : Views) (g : Ghost) (r : Rule s w
         sound = λ q k. ⊎_elim (λ e. subst (λ (f : ℕ → ℕ). IsSound s w.name w.born w.died g.life f q) (sym (old q (low s w n v g r q e))) (r.names.sound q (inl e)))
             (λ e. subst (λ (i : ℕ). IsSound s w.name w.born w.died g.life (who' i) i) (sym e.0) (subst (λ (f : ℕ → ℕ). IsSound s w.name w.born w.died g.life f d) (sym (update_same g.who d (g.who w.round))) (resounds w.round same_ (g.who w.round) (r.names.sound w.round (inl (inl refl)))))) k;
         patch = r.names.patch;
+        one = r.names.one;
         calm = λ b x m l u. r.names.calm b x m ((λ e. omega arith), λ e. omega arith) u;
         grows = λ i b l e. ap (λ (f : ℕ → ℕ). f i) (update_same g.who d (g.who w.round)) ∙ (sym (ap (λ (f : ℕ → ℕ). f i) (old w.round (omega arith))) ∙ e);
         either = λ i b l e. inl (ap (λ (f : ℕ → ℕ). f i) (update_same g.who d (g.who w.round)) ∙ (sym (ap (λ (f : ℕ → ℕ). f i) (old w.round (omega arith))) ∙ e));
@@ -288,6 +290,7 @@ module _ (s : Setup) (w : Words) (n : ℕ) (v : Views) (g : Ghost) (r : Rule s w
       sound = λ q k. ⊎_elim (λ e. kept_sound q e)
           (λ e. subst (λ (i : ℕ). IsSound s w.name w.born w.died g.life (who' i) i) (sym e.0) (subst (λ (f : ℕ → ℕ). IsSound s w.name w.born w.died g.life f (d + 1)) (sym (update_same g.who (d + 1) (g.who d))) (resounds d same_ (g.who d) (r.names.sound d said)))) k;
       patch = r.names.patch;
+      one = r.names.one;
       calm = λ b x m l u. elim (dec_lt 0 (w.died b)) [ yes p ↦ (r.chains.dieds b x m u p).2 | no o ↦ omega arith ];
       grows = λ i b l e. ap (λ (f : ℕ → ℕ). f i) (update_same g.who (d + 1) (g.who d)) ∙ (sym (ap (λ (f : ℕ → ℕ). f i) (old d (omega arith))) ∙ e);
       either = λ i b l e. inl (ap (λ (f : ℕ → ℕ). f i) (update_same g.who (d + 1) (g.who d)) ∙ (sym (ap (λ (f : ℕ → ℕ). f i) (old d (omega arith))) ∙ e));
@@ -300,6 +303,7 @@ module _ (s : Setup) (w : Words) (n : ℕ) (v : Views) (g : Ghost) (r : Rule s w
       past = λ j q e. let l = r.pins.past j q e in omega arith;
       few = r.pins.few;
       readers = r.pins.readers;
+      spent = r.pins.spent;
       bit = r.pins.bit;
       bound = let b = r.pins.bound in omega arith;
     };

@@ -6,11 +6,11 @@ use Rattle.mesh_words.specs.Setup.{Setup}
 use Rattle.mesh_words.specs.Functions.{update}
 use Rattle.mesh_words.specs.Sums.{sum_below, one_where}
 use Rattle.mesh_words.specs.Words.{Words, Node}
-use Rattle.mesh_words.specs.Views.{Views, Walk, Still, At, Past, Note, Read}
+use Rattle.mesh_words.specs.Views.{Views, Walk, Still, At, Past, Note, Read, unread}
 use Rattle.mesh_words.specs.Places.{member_of, child_place}
 use Rattle.mesh_words.specs.Entries.{HasEntry}
 use Rattle.mesh_words.proofs.Functions.{update_same, update_at, update_other, update_cases}
-use Rattle.mesh_words.proofs.Sums.{one_if, none_if, sum_update, sum_le}
+use Rattle.mesh_words.proofs.Sums.{one_if, none_if, sum_update, sum_same, sum_le}
 use Rattle.mesh_state.specs.Ghosts.{Life, Undone, chained, stands, Ghost}
 use Rattle.mesh_state.specs.Chains.{Reaches, IsHead}
 use Rattle.mesh_state.specs.Bisections.{IsPlaceOf, IsKept, MayRead}
@@ -35,7 +35,7 @@ module _ (s : Setup) (w : Words) (n : ℕ) (v : Views) (g : Ghost) (r : Rule s w
     claims = r.claims;
     labels = r.labels;
     chains = r.chains;
-    names = record { fits = λ q k. r.names.fits q (back q k); sound = λ q k. r.names.sound q (back q k); patch = r.names.patch; calm = r.names.calm; grows = r.names.grows; either = r.names.either; fresh = r.names.fresh };
+    names = record { fits = λ q k. r.names.fits q (back q k); sound = λ q k. r.names.sound q (back q k); patch = r.names.patch; one = r.names.one; calm = r.names.calm; grows = r.names.grows; either = r.names.either; fresh = r.names.fresh };
     pins = p;
     works = r.works;
     walks = r.walks;
@@ -89,6 +89,7 @@ module _ (s : Setup) (w : Words) (n : ℕ) (v : Views) (g : Ghost) (r : Rule s w
     past = update_cases (λ i x. (q : ℕ) → x.pin ≡ q + 1 → q ≤ w.round) v.read j u (λ q h. r.pins.past j q (sym e ∙ h)) (λ i _. r.pins.past i);
     few = r.pins.few;
     readers = update_cases (λ i x. (v.kind i ≡ 2 → ⊥) → (x.pin ≡ 0) × (x.ready ≡ 0)) v.read j u (λ o. absurd (o k)) (λ i _. r.pins.readers i);
+    spent = update_cases (λ i x. v.kind i ≡ 0 → x ≡ unread) v.read j u (λ z. absurd (omega arith)) (λ i _. r.pins.spent i);
     bit = update_cases (λ _ x. x.ready ≤ 1) v.read j u b (λ i _. r.pins.bit i);
     bound = bound;
   }
@@ -99,6 +100,27 @@ module _ (s : Setup) (w : Words) (n : ℕ) (v : Views) (g : Ghost) (r : Rule s w
       history_read w.round g.who v.read v.ruling.history j u (subst (λ (x : List (List ℕ)). (rest : List (List ℕ)) × (v.ruling.history ≡ x ++ rest)) (sym same) (h.told j))
       (⊎_elim (λ e. omega arith) (λ e. omega arith) seen, ⊎_elim (λ e. omega arith) (λ e. omega arith) seen)
       (⊎_elim (λ e. omega arith) (λ e. omega arith) seen, λ q e. ⊎_elim (λ t. let c = b.1 q t in omega arith) (λ t. omega arith) (pin q e)) h
+
+  -- a pass that is no reader's forgets what it was told and has noted
+  pub forgets : (j : ℕ) → (v.kind j ≡ 2 → ⊥) → Rule s w n (record v { read = update v.read j unread }) g
+  forgets j o = rereads j w.taken w.released g.pins unread
+      record {
+        now = r.pins.now;
+        later = r.pins.later;
+        count = λ q. r.pins.count q ∙ ap (λ (x : ℕ). w.released q + x) (sym (sum_same n (λ i. one_where (v.read i).pin (q + 1)) (λ i. one_where (update v.read j unread i).pin (q + 1)) (λ i _. ap (λ (x : ℕ). one_where x (q + 1)) (same i))));
+        past = update_cases (λ i x. (q : ℕ) → x.pin ≡ q + 1 → q ≤ w.round) v.read j unread (λ q e. absurd (omega arith)) (λ i _. r.pins.past i);
+        few = r.pins.few;
+        readers = update_cases (λ i x. (v.kind i ≡ 2 → ⊥) → (x.pin ≡ 0) × (x.ready ≡ 0)) v.read j unread (λ _. (refl, refl)) (λ i _. r.pins.readers i);
+        spent = update_cases (λ i x. v.kind i ≡ 0 → x ≡ unread) v.read j unread (λ _. refl) (λ i _. r.pins.spent i);
+        bit = update_cases (λ _ x. x.ready ≤ 1) v.read j unread (omega arith) (λ i _. r.pins.bit i);
+        bound = let a = sum_le n (λ i. (update v.read j unread i).ready) (λ i. (v.read i).ready) (update_cases (λ i x. x.ready ≤ (v.read i).ready) v.read j unread (omega arith) (λ _ _. omega arith)) in let b = r.pins.bound in omega arith;
+      }
+      r.rules.clear r.stock.left (omega arith) (λ b p h. absurd h) (λ q e. absurd (omega arith))
+      record { went = λ q b p h. absurd h; walk = λ q p. tt; sided = λ q x k b t p h. absurd (still_not x k b t h); places = λ q x k p h. absurd h; yes_notes = λ k q h. absurd h; no_notes = λ k q h. absurd h }
+      (history_read w.round g.who v.read v.ruling.history j unread (v.ruling.history, refl) (omega arith, omega arith) (omega arith, λ q e. absurd (omega arith)) r.history)
+    where
+      same : (i : ℕ) → (update v.read j unread i).pin ≡ (v.read i).pin
+      same = update_cases (λ i x. x.pin ≡ (v.read i).pin) v.read j unread (sym (r.pins.readers j o).0) (λ _ _. refl)
 
   -- ROUND is loaded: the view is ready where fewer pins than the limit were shown
   pub shows_round : (j : ℕ) → v.kind j ≡ 2 → (ready : ℕ) → ((ready ≡ 1) × (w.taken < s.limit)) ⊎ (ready ≡ 0) → Rule s w n (record v { read = update v.read j (record (v.read j) { ready = ready; seen = w.round }) }) g
@@ -122,6 +144,7 @@ module _ (s : Setup) (w : Words) (n : ℕ) (v : Views) (g : Ghost) (r : Rule s w
         past = update_cases (λ i x. (q : ℕ) → x.pin ≡ q + 1 → q ≤ w.round) v.read j u (λ q h. omega arith) (λ i _. r.pins.past i);
         few = r.pins.few;
         readers = update_cases (λ i x. (v.kind i ≡ 2 → ⊥) → (x.pin ≡ 0) × (x.ready ≡ 0)) v.read j u (λ o. absurd (o k)) (λ i _. r.pins.readers i);
+        spent = update_cases (λ i x. v.kind i ≡ 0 → x ≡ unread) v.read j u (λ z. absurd (omega arith)) (λ i _. r.pins.spent i);
         bit = update_cases (λ _ x. x.ready ≤ 1) v.read j u (omega arith) (λ i _. r.pins.bit i);
         bound = let a = ready_sum j u (inside j k) in let b = r.pins.bound in omega arith;
       }
@@ -143,6 +166,7 @@ module _ (s : Setup) (w : Words) (n : ℕ) (v : Views) (g : Ghost) (r : Rule s w
         past = update_cases (λ i x. (q : ℕ) → x.pin ≡ q + 1 → q ≤ w.round) v.read j u (λ q h. absurd (omega arith)) (λ i _. r.pins.past i);
         few = r.pins.few;
         readers = update_cases (λ i x. (v.kind i ≡ 2 → ⊥) → (x.pin ≡ 0) × (x.ready ≡ 0)) v.read j u (λ o. absurd (o k)) (λ i _. r.pins.readers i);
+        spent = update_cases (λ i x. v.kind i ≡ 0 → x ≡ unread) v.read j u (λ z. absurd (omega arith)) (λ i _. r.pins.spent i);
         bit = update_cases (λ _ x. x.ready ≤ 1) v.read j u (r.pins.bit j) (λ i _. r.pins.bit i);
         bound = let a = ready_sum j u (inside j k) in let b = r.pins.bound in omega arith;
       }

@@ -144,7 +144,7 @@ module _ (s : Setup) (w : Words) (n : ℕ) (v : Views) (g : Ghost) (r : Rule s w
           (λ f. let t = held_one j i m k (Living b) q (sym (update_at g.stage x z (Held j m (Living b)) f) ∙ h) in relabel z k q (subst (λ (y : ℕ × ℕ × Progress). Label y.0 y.1 y.2) (λ i. (sym f i, t.1 i, t.2 i)) label))
           (λ o. relabel z k q (r.labels z i k q (sym (update_other g.stage x z (Held j m (Living b)) o) ∙ h) e));
       chains = step_chains.0;
-      names = rounds.names_publish s r.names_apart w.round v.ruling.phase w.name w.head w.hist w.born w.died g.life g.who v.read r.names (low s w n v g r) b x m at shape.1 one un seen linked_ live A step_chains.1;
+      names = rounds.names_publish s r.names_apart w.round v.ruling.phase w.name w.head w.hist w.born w.died g.life g.who v.read r.names (low s w n v g r) b x m at shape.1 one un seen linked_ live A step_chains.1 r.chains.borns;
       pins = r.pins;
       works = update_cases (λ i u. WorkRule s w.round v.ruling.phase w.name born' w.died g.life (who' d) (v.kind i) i u) v.work j (record (v.work j) { known = known })
           record {

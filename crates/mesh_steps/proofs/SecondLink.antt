@@ -86,7 +86,7 @@ module _ (s : Setup) (w : Words) (n : ℕ) (v : Views) (g : Ghost) (r : Rule s w
           (λ f. let t = held_one j i (y + 1) c (Whole b) p (sym (update_at g.stage x z (Held j (y + 1) (Whole b)) f) ∙ h) in subst (λ (y : ℕ × ℕ × Progress). Label s w n v g r y.0 y.1 y.2) (λ i. (sym f i, t.1 i, t.2 i)) (r.labels x j (y + 1) (Half b) is one))
           (λ o. r.labels z i c p (sym (update_other g.stage x z (Held j (y + 1) (Whole b)) o) ∙ h) e);
       chains = chains_head Can A s.elements w.round w.head w.hist w.born w.died g.life r.chains y (node (b + 1) 0) (inr (b, true, refl, at, (λ e. absurd (omega arith)), λ _. inl (undead Can A s.elements w.round w.head w.hist w.born w.died g.life r.chains b x (y + 1) shape.0 shape.1)));
-      names = names_on s w.name w.name w.head w.hist head' w.hist w.born w.died w.born w.died g.life g.life (λ _ _ _ _ _. refl) w.round v.ruling.phase g.who v.read Can A moves (λ _ t. t) r.names.patch r.names.calm r.names;
+      names = names_on s w.name w.name w.head w.hist head' w.hist w.born w.died w.born w.died g.life g.life (λ _ _ _ _ _. refl) w.round v.ruling.phase g.who v.read Can A moves (λ _ t. t) r.names.patch (λ _ p. p) r.names.calm r.names;
       pins = r.pins;
       works = r.works;
       sure = λ i. sure_on s.elements v.ruling.workers v.ruling.workers w.head w.hist head' w.hist w.born w.died w.name w.row w.born w.died w.name w.row g.stage (update g.stage x (Held j (y + 1) (Whole b))) i (v.sure i)

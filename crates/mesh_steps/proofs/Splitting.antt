@@ -96,7 +96,7 @@ module _ (s : Setup) (w : Words) (n : ℕ) (v : Views) (g : Ghost) (r : Rule s w
       };
       labels = r.labels;
       chains = r.chains;
-      names = record { fits = λ q k. r.names.fits q (back q k); sound = λ q k. r.names.sound q (back q k); patch = r.names.patch; calm = r.names.calm; grows = r.names.grows; either = r.names.either; fresh = r.names.fresh };
+      names = record { fits = λ q k. r.names.fits q (back q k); sound = λ q k. r.names.sound q (back q k); patch = r.names.patch; one = r.names.one; calm = r.names.calm; grows = r.names.grows; either = r.names.either; fresh = r.names.fresh };
       pins = record {
         now = r.pins.now;
         later = r.pins.later;
@@ -105,6 +105,8 @@ module _ (s : Setup) (w : Words) (n : ℕ) (v : Views) (g : Ghost) (r : Rule s w
         few = λ j l. update_other v.kind n j kind (λ (e : j ≡ n). omega arith) ∙ r.pins.few j (omega arith);
         readers = λ j o. dite (ℕ_discrete j n) (λ e. let u = update_at v.read n j (new_read notes) e in (ap (λ (x : Read). x.pin) u, ap (λ (x : Read). x.ready) u))
             (λ f. subst (λ (x : Read). (x.pin ≡ 0) × (x.ready ≡ 0)) (sym (update_other v.read n j (new_read notes) f)) (r.pins.readers j (λ k. o (update_other v.kind n j kind f ∙ k))));
+        spent = λ j e. dite (ℕ_discrete j n) (λ f. let z = update_at v.kind n j kind f in absurd (⊎_elim (λ t. let y = t.0 in omega arith) (λ t. let y = t.0 in omega arith) which))
+            (λ f. update_other v.read n j (new_read notes) f ∙ r.pins.spent j (sym (update_other v.kind n j kind f) ∙ e));
         bit = update_cases (λ _ u. u.ready ≤ 1) v.read n (new_read notes) (omega arith) (λ j _. r.pins.bit j);
         bound = let a = sum (λ (u : Read). u.ready) refl in let b = r.pins.bound in omega arith;
       };

@@ -12,7 +12,7 @@ use Rattle.mesh_words.specs.Entries.{HasEntry, Noted}
 use Rattle.mesh_words.proofs.Functions.{update_same, update_at, update_other}
 use Rattle.mesh_words.proofs.Entries.{noted_after}
 use Rattle.mesh_state.specs.Ghosts.{Stage, Held, Life, Free, Placed, Undone, chained, stands, Ghost}
-use Rattle.mesh_state.specs.Chains.{Covers, IsPlace, ChainsRule}
+use Rattle.mesh_state.specs.Chains.{Covers, IsPlace, IsUnborn, ChainsRule}
 use Rattle.mesh_state.specs.Claims.{ClaimsRule}
 use Rattle.mesh_state.specs.Bisections.{MayRead}
 use Rattle.mesh_state.specs.Sure.{GuardsBlock, GuardsHead, SureRule}
@@ -24,7 +24,7 @@ use Rattle.mesh_words.proofs.PlaceNumbers.{child_one, child_outside}
 use Rattle.mesh_state.proofs.Lists.{crew_free}
 use Rattle.mesh_state.proofs.FoundAgain.{placed, chained_stands, names_on, goes_on, walks_home, Moves}
 use Rattle.mesh_state.proofs.ChainSteps.{moves_same, skips, cuts_hist}
-use Rattle.mesh_steps.proofs.BlockSteps.{resets, frees}
+use Rattle.mesh_steps.proofs.BlockSteps.{resets, frees, gives_up}
 use Rattle.mesh_state.proofs.HeldClaims.{not_open, free_not}
 use Rattle.mesh_state.proofs.Across.{Went, some_worker, no_pin}
 
@@ -74,7 +74,7 @@ module _ (s : Setup) (w : Words) (n : ℕ) (v : Views) (g : Ghost) (r : Rule s w
   -- what a sweep is to show: the rest of the rule reads nothing that it changes
   pub sweeps_to : Quiet → (cursor free : ℕ) (row claimed : ℕ → ℕ) (head hist : ℕ → Node) (born died : ℕ → ℕ) (life : ℕ → Life) (stage : ℕ → Stage) (cs : ℕ → List Claim) (us : ℕ → Sure) (hand : List ℕ) (cursor_is free_is : ℕ) (undone : List ℕ) (placed : List (ℕ × ℕ × ℕ)) (seen quiet : ℕ)
       → ClaimsRule s w.round cursor free v.ruling.phase row claimed head born life stage cs → ChainsRule s.elements w.round head hist born died life × Moves Can A s.elements w.round w.head w.hist head hist w.born w.died born died g.life life
-      → ((b x m : ℕ) → life b ≡ Placed x m → (g.life b ≡ Placed x m) × (died b ≡ w.died b)) → ((x j m : ℕ) (p : Progress) → stage x ≡ Held j m p → j ≡ 0) → OwnSure head hist born died w.name row (us 0)
+      → ((b x m : ℕ) → life b ≡ Placed x m → (g.life b ≡ Placed x m) × (died b ≡ w.died b) × (0 < born b → 0 < w.born b)) → ((x j m : ℕ) (p : Progress) → stage x ≡ Held j m p → j ≡ 0) → OwnSure head hist born died w.name row (us 0)
       → ((b : ℕ) → HasEntry hand b → (v.ruling.phase ≡ 1 → ⊥) × (life b ≡ Free)) → StockRule w.round cursor free row life g.pins (record v.ruling { hand = hand; cursor = cursor_is; free = free_is; undone = undone; placed = placed; seen = seen; quiet = quiet }) → NoteRule w.round w.taken life v.read (record v.ruling { hand = hand; cursor = cursor_is; free = free_is; undone = undone; placed = placed; seen = seen; quiet = quiet }) → InsideRule s free row life stage hand v.ruling.retired → LabelRule s w.name head hist life → ((j : ℕ) → ListedOnce (cs j))
       → Rule s (record w { cursor = cursor; free = free; row = row; claimed = claimed; head = head; hist = hist; born = born; died = died }) n (record v { claims = cs; sure = us; ruling = record v.ruling { hand = hand; cursor = cursor_is; free = free_is; undone = undone; placed = placed; seen = seen; quiet = quiet } }) (record g { stage = stage; life = life })
   sweeps_to q cursor free row claimed head hist born died life stage cs us hand cursor_is free_is undone placed seen quiet claims ch back own sure hands stock note inside named once = record {
@@ -82,7 +82,7 @@ module _ (s : Setup) (w : Words) (n : ℕ) (v : Views) (g : Ghost) (r : Rule s w
     claims = claims;
     labels = λ x j m p h e. absurd (q.0 e);
     chains = ch.0;
-    names = names_on s w.name w.name w.head w.hist head hist w.born w.died born died g.life life (λ _ _ _ _ _. refl) w.round v.ruling.phase g.who v.read Can A ch.1 (λ _ k. k) (λ b x m h. r.names.patch b x m (back b x m h).0)
+    names = names_on s w.name w.name w.head w.hist head hist w.born w.died born died g.life life (λ _ _ _ _ _. refl) w.round v.ruling.phase g.who v.read Can A ch.1 (λ _ k. k) (λ b x m h. r.names.patch b x m (back b x m h).0) (λ b p. let t = back b p.0 p.1 p.2 in (p.0, p.1, t.0, t.2 p.3, sym t.1 ∙ p.4))
         (λ b x m l h. let t = back b x m h in let e = t.1 in let c = r.names.calm b x m l t.0 in omega arith) r.names;
     pins = r.pins;
     works = λ j. let k = r.works j in record {
@@ -138,10 +138,10 @@ module _ (s : Setup) (w : Words) (n : ℕ) (v : Views) (g : Ghost) (r : Rule s w
   -- where the rows, CURSOR, FREE and the lives stay
   pub sweeps : Quiet → (claimed : ℕ → ℕ) (head hist : ℕ → Node) (born died : ℕ → ℕ) (stage : ℕ → Stage) (cs : ℕ → List Claim) (us : ℕ → Sure) (hand : List ℕ)
       → ClaimsRule s w.round w.cursor w.free v.ruling.phase w.row claimed head born g.life stage cs → ChainsRule s.elements w.round head hist born died g.life × Moves Can A s.elements w.round w.head w.hist head hist w.born w.died born died g.life g.life
-      → ((b x m : ℕ) → g.life b ≡ Placed x m → died b ≡ w.died b) → ((x j m : ℕ) (p : Progress) → stage x ≡ Held j m p → j ≡ 0) → OwnSure head hist born died w.name w.row (us 0)
+      → ((b x m : ℕ) → g.life b ≡ Placed x m → (died b ≡ w.died b) × (0 < born b → 0 < w.born b)) → ((x j m : ℕ) (p : Progress) → stage x ≡ Held j m p → j ≡ 0) → OwnSure head hist born died w.name w.row (us 0)
       → ((b : ℕ) → HasEntry hand b → (v.ruling.phase ≡ 1 → ⊥) × (g.life b ≡ Free)) → InsideRule s w.free w.row g.life stage hand v.ruling.retired → LabelRule s w.name head hist g.life → ((j : ℕ) → ListedOnce (cs j))
       → Rule s (record w { claimed = claimed; head = head; hist = hist; born = born; died = died }) n (record v { claims = cs; sure = us; ruling = record v.ruling { hand = hand } }) (record g { stage = stage })
-  sweeps q claimed head hist born died stage cs us hand claims ch same own sure hands inside named once = sweeps_to q w.cursor w.free w.row claimed head hist born died g.life stage cs us hand v.ruling.cursor v.ruling.free v.ruling.undone v.ruling.placed v.ruling.seen v.ruling.quiet claims ch (λ b x m h. (h, same b x m h)) own sure hands
+  sweeps q claimed head hist born died stage cs us hand claims ch same own sure hands inside named once = sweeps_to q w.cursor w.free w.row claimed head hist born died g.life stage cs us hand v.ruling.cursor v.ruling.free v.ruling.undone v.ruling.placed v.ruling.seen v.ruling.quiet claims ch (λ b x m h. let e = same b x m h in (h, e.0, e.1)) own sure hands
       (let k = r.stock in record { finished = k.finished; cursor_is = k.cursor_is; free_is = k.free_is; left = k.left; never = k.never })
       record { undone = r.note.undone; all = r.note.all; placed = r.note.placed; seen = r.note.seen; quiet = r.note.quiet } inside named once
 
@@ -207,7 +207,7 @@ module _ (s : Setup) (w : Words) (n : ℕ) (v : Views) (g : Ghost) (r : Rule s w
         sweeps quiet w.claimed (update w.head x l) w.hist w.born w.died g.stage v.claims (update v.sure 0 (record (v.sure 0) { head = (x, l) ∷ (v.sure 0).head })) v.ruling.hand
         (calm_claims w.cursor w.free w.row (update w.head x l) w.born g.life (λ _ _ _ u. (u, refl)) r.claims.rows r.claims.apart)
         (subst (λ (i : Node). ChainsRule s.elements w.round (update w.head x i) w.hist w.born w.died g.life × Moves Can A s.elements w.round w.head w.hist (update w.head x i) w.hist w.born w.died w.born w.died g.life g.life) hh k)
-        (λ _ _ _ _. refl) (λ y j k p h. absurd (no_stage y j k p h)) (add_head x l) r.hand r.inside (labels_skip s w.name w.head w.hist g.life x b t l (ap (λ (i : Node). i.block) h) at hh r.named) r.once
+        (λ _ _ _ _. (refl, λ p. p)) (λ y j k p h. absurd (no_stage y j k p h)) (add_head x l) r.hand r.inside (labels_skip s w.name w.head w.hist g.life x b t l (ap (λ (i : Node). i.block) h) at hh r.named) r.once
 
     -- so is a history word, of a block in chains or of one that was taken back
     pub cuts_history : (a y' m' x b e y m : ℕ) (u t : Bool) (l : Node) → Noted (v.sure 0).hist (member_of a u) (node (b + 1) e) → Noted (v.sure 0).died b e → Noted (v.sure 0).hist (member_of b t) l → 0 < e → Clear e
@@ -220,7 +220,7 @@ module _ (s : Setup) (w : Words) (n : ℕ) (v : Views) (g : Ghost) (r : Rule s w
         sweeps quiet w.claimed w.head (update w.hist (member_of a u) l) w.born w.died g.stage v.claims (update v.sure 0 (record (v.sure 0) { hist = (member_of a u, l) ∷ (v.sure 0).hist })) v.ruling.hand
         (calm_claims w.cursor w.free w.row w.head w.born g.life (λ _ _ _ u. (u, refl)) r.claims.rows r.claims.apart)
         (subst (λ (i : Node). ChainsRule s.elements w.round w.head (update w.hist (member_of a u) i) w.born w.died g.life × Moves Can A s.elements w.round w.head w.hist w.head (update w.hist (member_of a u) i) w.born w.died w.born w.died g.life g.life) hh k)
-        (λ _ _ _ _. refl) (λ y j k p h. absurd (no_stage y j k p h))
+        (λ _ _ _ _. (refl, λ p. p)) (λ y j k p h. absurd (no_stage y j k p h))
         record { heads = own.heads; hists = λ i j k f. ⊎_elim (λ y. update_at w.hist (member_of a u) (member_of i j) l (sym y.0) ∙ y.1) (λ y. update_other w.hist (member_of a u) (member_of i j) l (λ z. y.0 (sym z)) ∙ own.hists i j k y.1) f; dieds = own.dieds; names = own.names; borns = own.borns; rows = own.rows } r.hand r.inside (labels_skip_history s w.name w.head w.hist g.life a x b u t l ua (ap (λ (i : Node). i.block) h) at hh r.named) r.once
 
     moves_id : ChainsRule s.elements w.round w.head w.hist w.born w.died g.life × Moves Can A s.elements w.round w.head w.hist w.head w.hist w.born w.died w.born w.died g.life g.life
@@ -325,8 +325,9 @@ module _ (s : Setup) (w : Words) (n : ℕ) (v : Views) (g : Ghost) (r : Rule s w
           (λ t. let dd = own.dieds c t.0 t.1 in let t2 = t.2 in let t3 = t.3 in let fin = r.stock.finished in let o = over c (omega arith) (omega arith) (subst Clear (sym dd) t.4) q k in ((λ _ _ _. o), λ a. o a.1))
           (λ t. let y = r.note.undone c t.0 in ((λ u i h. absurd (not_chained c u i y.0 y.1 y.2 h)), λ a. unvisited c q t.0 t.1 t.2 a)) (clear c e))
           (λ x c l h e. let t = clean_head x l in clash (gone c) e (t.2 c (sym (ap (λ (i : Node). i.block) (own.heads x t.0 t.1)) ∙ h)))
-          (λ b t x c u f h e. let k = clean_history b t x u f in clash (gone c) e (k.2 c (sym (ap (λ (i : Node). i.block) (own.hists b t k.0 k.1)) ∙ h))))
-          (λ b x m u. (back b x m u, refl)) (λ y j k p h. absurd (no_stage y j k p h)) own
+          (λ b t x c u f h e. let k = clean_history b t x u f in clash (gone c) e (k.2 c (sym (ap (λ (i : Node). i.block) (own.hists b t k.0 k.1)) ∙ h)))
+          (λ c e. ⊎_elim (λ t. let dd = own.dieds c t.0 t.1 in let t2 = t.2 in let t3 = t.3 in let fin = r.stock.finished in gives_up Can A s.elements w.round w.head w.hist w.born w.died g.life r.chains c (omega arith) (omega arith)) (λ t. let y = r.note.undone c t.0 in inl (r.chains.undone c y.0 y.1 y.2)) (clear c e)))
+          (λ b x m u. (back b x m u, refl, λ p. p)) (λ y j k p h. absurd (no_stage y j k p h)) own
           (λ c h. ((λ e. omega arith), ⊎_elim (λ k. either_free gone c (r.hand c k).1) (λ k. gone_free gone c k.0) (more c h)))
           (let k = r.stock in record { finished = k.finished; cursor_is = k.cursor_is; free_is = k.free_is; left = k.left; never = λ b l. ⊎_elim (λ e. inl (either_free gone b e)) inr (k.never b l) })
           record {
@@ -344,8 +345,8 @@ module _ (s : Setup) (w : Words) (n : ℕ) (v : Views) (g : Ghost) (r : Rule s w
         sweeps quiet w.claimed w.head w.hist (update w.born b 0) w.died g.stage v.claims (update v.sure 0 (record (v.sure 0) { born = (b, 0) ∷ (v.sure 0).born })) v.ruling.hand
         (calm_claims w.cursor w.free w.row w.head (update w.born b 0) g.life (λ c x m u. (u, off c (λ (e : c ≡ b). free_not x m (sym fr ∙ ap g.life (sym e) ∙ u)))) (λ i a l. let t = r.claims.rows i a l in (t.0, zero_at i t.1)) r.claims.apart)
         (resets Can A s.elements w.round w.head w.hist w.born w.died g.life r.chains b (λ t. ap (λ (l : Life). chained l t) fr) w.hist (update w.born b 0) w.died (λ c o. ((λ _. refl), off c o, refl)) (let z = update_same w.born b 0 in omega arith)
-        (λ x m u. absurd (free_undone x m (sym fr ∙ u))))
-        (λ _ _ _ _. refl) (λ y j k p u. absurd (no_stage y j k p u))
+        (λ x m u. absurd (free_undone x m (sym fr ∙ u))) (subst (IsUnborn w.round (update w.born b 0 b) (w.died b)) (sym fr) (inl (update_same w.born b 0))))
+        (λ c x m u. (refl, λ p. subst (λ (i : ℕ). 0 < i) (off c (λ (e : c ≡ b). free_not x m (sym fr ∙ ap g.life (sym e) ∙ u))) p)) (λ y j k p u. absurd (no_stage y j k p u))
         record { heads = own.heads; hists = own.hists; dieds = own.dieds; names = own.names; borns = noted_after (v.sure 0).born w.born b 0 own.borns; rows = own.rows } r.hand r.inside r.named r.once
       where
         free_undone : (x m : ℕ) → Free ≡ Undone x m → ⊥
@@ -359,7 +360,7 @@ module _ (s : Setup) (w : Words) (n : ℕ) (v : Views) (g : Ghost) (r : Rule s w
         → Rule s (record w { free = 0 }) n (record v { ruling = record v.ruling { free = 1 } }) g
     stops k c fk ck used = sweeps_to quiet w.cursor 0 w.row w.claimed w.head w.hist w.born w.died g.life g.stage v.claims v.sure v.ruling.hand v.ruling.cursor 1 v.ruling.undone v.ruling.placed v.ruling.seen v.ruling.quiet
         (calm_claims w.cursor 0 w.row w.head w.born g.life (λ _ _ _ u. (u, refl)) (λ i a l. absurd (omega arith)) (λ i j a l. absurd (omega arith))) moves_id
-        (λ _ _ _ u. (u, refl)) (λ y j k p u. absurd (no_stage y j k p u)) own r.hand
+        (λ _ _ _ u. (u, refl, λ p. p)) (λ y j k p u. absurd (no_stage y j k p u)) own r.hand
         record {
           finished = r.stock.finished;
           cursor_is = r.stock.cursor_is;
@@ -374,14 +375,14 @@ module _ (s : Setup) (w : Words) (n : ℕ) (v : Views) (g : Ghost) (r : Rule s w
     pub rewinds : v.ruling.free ≡ 1 → Rule s (record w { cursor = 0 }) n (record v { ruling = record v.ruling { cursor = 1 } }) g
     rewinds f = let z = r.stock.free_is 0 f in sweeps_to quiet 0 w.free w.row w.claimed w.head w.hist w.born w.died g.life g.stage v.claims v.sure v.ruling.hand 1 v.ruling.free v.ruling.undone v.ruling.placed v.ruling.seen v.ruling.quiet
         (calm_claims 0 w.free w.row w.head w.born g.life (λ _ _ _ u. (u, refl)) (λ i a l. absurd (omega arith)) (λ i j a l. absurd (omega arith))) moves_id
-        (λ _ _ _ u. (u, refl)) (λ y j k p u. absurd (no_stage y j k p u)) own r.hand
+        (λ _ _ _ u. (u, refl, λ p. p)) (λ y j k p u. absurd (no_stage y j k p u)) own r.hand
         record { finished = r.stock.finished; cursor_is = λ k e. ((λ a. absurd (omega arith)), omega arith); free_is = r.stock.free_is; left = r.stock.left; never = λ b l. ⊎_elim inl (λ t. let t2 = t.2 in absurd (omega arith)) (r.stock.never b l) } record { undone = r.note.undone; all = r.note.all; placed = r.note.placed; seen = r.note.seen; quiet = r.note.quiet } r.inside r.named r.once
 
     -- a row is written while FREE is 0
     pub lays : (i b : ℕ) → v.ruling.free ≡ 1 → Rule s (record w { row = update w.row i b }) n (record v { sure = update v.sure 0 (record (v.sure 0) { row = (i, b) ∷ (v.sure 0).row }) }) g
     lays i b f = let z = r.stock.free_is 0 f in sweeps_to quiet w.cursor w.free (update w.row i b) w.claimed w.head w.hist w.born w.died g.life g.stage v.claims (update v.sure 0 (record (v.sure 0) { row = (i, b) ∷ (v.sure 0).row })) v.ruling.hand v.ruling.cursor v.ruling.free v.ruling.undone v.ruling.placed v.ruling.seen v.ruling.quiet
         (calm_claims w.cursor w.free (update w.row i b) w.head w.born g.life (λ _ _ _ u. (u, refl)) (λ k a l. absurd (omega arith)) (λ k j a l. absurd (omega arith))) moves_id
-        (λ _ _ _ u. (u, refl)) (λ y j k p u. absurd (no_stage y j k p u))
+        (λ _ _ _ u. (u, refl, λ p. p)) (λ y j k p u. absurd (no_stage y j k p u))
         record { heads = own.heads; hists = own.hists; dieds = own.dieds; names = own.names; borns = own.borns; rows = noted_after (v.sure 0).row w.row i b own.rows } r.hand
         record { finished = r.stock.finished; cursor_is = r.stock.cursor_is; free_is = r.stock.free_is; left = r.stock.left; never = λ b l. ⊎_elim inl (λ t. let t2 = t.2 in absurd (omega arith)) (r.stock.never b l) } record { undone = r.note.undone; all = r.note.all; placed = r.note.placed; seen = r.note.seen; quiet = r.note.quiet }
         record { few = r.inside.few; rows = λ k l. absurd (omega arith); blocks = r.inside.blocks; stand_in = r.inside.stand_in; seconds = r.inside.seconds; hand_in = r.inside.hand_in; retired_in = r.inside.retired_in } r.named r.once
@@ -393,6 +394,6 @@ module _ (s : Setup) (w : Words) (n : ℕ) (v : Views) (g : Ghost) (r : Rule s w
         (calm_claims w.cursor k w.row w.head w.born g.life (λ _ _ _ u. (u, refl))
         (λ i a l. let t = rows i l in let e : w.row i ≡ at i = own.rows i (at i) t.0 in (ap g.life e ∙ (r.hand (at i) t.1).1, ap w.born e ∙ own.borns (at i) 0 t.2))
         (λ i j a l b m e. one i j l m (sym (own.rows i (at i) (rows i l).0) ∙ e ∙ own.rows j (at j) (rows j m).0))) moves_id
-        (λ _ _ _ u. (u, refl)) (λ y j k p u. absurd (no_stage y j k p u)) own r.hand
+        (λ _ _ _ u. (u, refl, λ p. p)) (λ y j k p u. absurd (no_stage y j k p u)) own r.hand
         record { finished = r.stock.finished; cursor_is = r.stock.cursor_is; free_is = λ i e. omega arith; left = r.stock.left; never = λ b l. ⊎_elim inl (λ t. let t2 = t.2 in absurd (omega arith)) (r.stock.never b l) } record { undone = r.note.undone; all = r.note.all; placed = r.note.placed; seen = r.note.seen; quiet = r.note.quiet }
         record { few = few_below k s.pool at (λ i l. r.inside.hand_in (at i) (rows i l).1) one; rows = λ i l. let e : w.row i ≡ at i = own.rows i (at i) (rows i l).0 in let q = r.inside.hand_in (at i) (rows i l).1 in omega arith; blocks = r.inside.blocks; stand_in = r.inside.stand_in; seconds = r.inside.seconds; hand_in = r.inside.hand_in; retired_in = r.inside.retired_in } r.named r.once

@@ -12,7 +12,7 @@ use Rattle.mesh_words.specs.Entries.{HasEntry, Noted}
 use Rattle.mesh_words.proofs.Functions.{update_same, update_at, update_other}
 use Rattle.mesh_words.proofs.Entries.{noted_after}
 use Rattle.mesh_state.specs.Ghosts.{Stage, Open, Held, Life, Free, Loose, Placed, Undone, chained, stands, Ghost}
-use Rattle.mesh_state.specs.Chains.{Covers, ChainsRule}
+use Rattle.mesh_state.specs.Chains.{Covers, IsUnborn, ChainsRule}
 use Rattle.mesh_state.specs.Claims.{ClaimsRule, Shape}
 use Rattle.mesh_state.specs.Bisections.{IsPatch, MayRead}
 use Rattle.mesh_state.specs.Rule.{Rule}
@@ -89,7 +89,7 @@ module _ (s : Setup) (w : Words) (n : ℕ) (v : Views) (g : Ghost) (r : Rule s w
           none = r.claims.none;
         }
         (subst (λ (i : ℕ). ChainsRule s.elements w.round (update w.head x (node (b + 1) i)) w.hist w.born w.died g.life × Moves Can_ A_ s.elements w.round w.head w.hist (update w.head x (node (b + 1) i)) w.hist w.born w.died w.born w.died g.life g.life) dd mv)
-        (λ _ _ _ _. refl) back_own (add_head x (node (b + 1) d)) r.hand r.inside (labels_heads s w.name w.head head' w.hist g.life (λ y. dite (ℕ_discrete y x) (λ e. ap (λ (l : Node). l.block) (update_at w.head x y (node (b + 1) d) e) ∙ sym (ap (λ (l : Node). l.block) (ap w.head e ∙ h))) (λ o. ap (λ (l : Node). l.block) (update_other w.head x y (node (b + 1) d) o))) r.named) r.once
+        (λ _ _ _ _. (refl, λ p. p)) back_own (add_head x (node (b + 1) d)) r.hand r.inside (labels_heads s w.name w.head head' w.hist g.life (λ y. dite (ℕ_discrete y x) (λ e. ap (λ (l : Node). l.block) (update_at w.head x y (node (b + 1) d) e) ∙ sym (ap (λ (l : Node). l.block) (ap w.head e ∙ h))) (λ o. ap (λ (l : Node). l.block) (update_other w.head x y (node (b + 1) d) o))) r.named) r.once
       where
         shape_at : (head' : ℕ → Node) → ((y : ℕ) → y ≢ x → head' y ≡ w.head y) → ((y : ℕ) → (head' y).block ≡ (w.head y).block) → ((a m k : ℕ) → g.life a ≡ Placed m k → w.born a ≡ d → w.head x ≡ node (a + 1) 0 → ⊥) → ((a m k : ℕ) → g.life a ≡ Placed m k → w.born a ≡ 0 → w.head x ≡ node (a + 1) 0 → ⊥)
             → (z k : ℕ) (p : Progress) → Shape w.round w.head w.born g.life z k p → Shape w.round head' w.born g.life z k p
@@ -117,7 +117,7 @@ module _ (s : Setup) (w : Words) (n : ℕ) (v : Views) (g : Ghost) (r : Rule s w
           (λ b y k u e l. (u, e, λ q. dead b q l))
           (λ b y k u e. (u, e, λ q. let f = lives b q in let t = subst (Shape w.round w.head w.born g.life x m) f (r.claims.shape x 0 m p is) in let t1 = t.1 in omega arith)) (λ b u e. (u, e)))
           (r.chains, moves_same Can_ A_ s.elements w.round w.head w.hist w.born w.died g.life w.head w.hist w.born w.died (λ _ _. refl) (λ _ _ _ _. refl) (λ _ _ _ _ _ _ h. h) (λ _ _ _ _ _ _ h. h) (λ _ _ _ _ _ _ h. h))
-          (λ _ _ _ _. refl) (λ z j k q h. back_own z j k q (dite (ℕ_discrete z x) (λ e. absurd (not_open j k q (sym h ∙ update_at g.stage x z Open e))) (λ o. sym (update_other g.stage x z Open o) ∙ h))) own r.hand (inside_ends s w.free w.row g.life g.stage v.ruling.hand v.ruling.retired x r.inside) r.named (once_update v.claims (ended (v.claims 0) x) (once_ended (v.claims 0) x (r.once 0)) r.once)
+          (λ _ _ _ _. (refl, λ p. p)) (λ z j k q h. back_own z j k q (dite (ℕ_discrete z x) (λ e. absurd (not_open j k q (sym h ∙ update_at g.stage x z Open e))) (λ o. sym (update_other g.stage x z Open o) ∙ h))) own r.hand (inside_ends s w.free w.row g.life g.stage v.ruling.hand v.ruling.retired x r.inside) r.named (once_update v.claims (ended (v.claims 0) x) (once_ended (v.claims 0) x (r.once 0)) r.once)
 
       stage_own : (q : Progress) (z j k : ℕ) (t : Progress) → update g.stage x (Held 0 m q) z ≡ Held j k t → j ≡ 0
       stage_own q z j k t h = dite (ℕ_discrete z x) (λ e. sym (held_one 0 j m k q t (sym (update_at g.stage x z (Held 0 m q) e) ∙ h)).0) (λ o. back_own z j k t (sym (update_other g.stage x z (Held 0 m q) o) ∙ h))
@@ -137,8 +137,11 @@ module _ (s : Setup) (w : Words) (n : ℕ) (v : Views) (g : Ghost) (r : Rule s w
         (λ c y k u e. dite (ℕ_discrete c b) (λ f. let t = placed_one y k x m (sym u ∙ ap g.life f ∙ sh.0) in inl (t.0, t.1, inr (ap Whole (sym f)))) (λ o. inr (u, sym (off c o) ∙ e, λ (h : b + 1 ≡ c + 1). o (omega arith))))
         (λ c u e. (u, off c (λ (f : c ≡ b). free_not x m (sym u ∙ ap g.life f ∙ sh.0)) ∙ e)))
         (unbears Can_ A_ s.elements w.round w.head w.hist w.born w.died g.life r.chains b x m sh.0 sh.1 (low_can (λ l. absurd (omega arith)) x m (Living b) mine four))
-        (λ _ _ _ _. refl) (stage_own (λ l. absurd (omega arith)) x m (Living b) mine (Whole b))
+        (λ c _ _ _. (refl, born_was c)) (stage_own (λ l. absurd (omega arith)) x m (Living b) mine (Whole b))
         record { heads = own.heads; hists = own.hists; dieds = own.dieds; names = own.names; borns = noted_after (v.sure 0).born w.born b 0 own.borns; rows = own.rows } r.hand (inside_goes s w.free w.row g.life g.stage v.ruling.hand v.ruling.retired x 0 m (Living b) 0 (Whole b) is r.inside) r.named (once_update v.claims (moved_on (v.claims 0) x (Whole b)) (once_moved (v.claims 0) x (Whole b) (r.once 0)) r.once)
+      where
+        born_was : (c : ℕ) → 0 < update w.born b 0 c → 0 < w.born c
+        born_was c p = dite (ℕ_discrete c b) (λ e. let z : update w.born b 0 c ≡ 0 = update_at w.born b c 0 e in absurd (omega arith)) (λ o. subst (λ (i : ℕ). 0 < i) (update_other w.born b c 0 o) p)
 
     not_covers : (b : ℕ) → w.born b ≡ 0 → (q : ℕ) → Can_ q → Covers w.born w.died q b → ⊥
     not_covers b z q k c = let p = c.0 in omega arith
@@ -162,7 +165,7 @@ module _ (s : Setup) (w : Words) (n : ℕ) (v : Views) (g : Ghost) (r : Rule s w
         (λ c z k u e. dite (ℕ_discrete c b) (λ f. let t = placed_one z k x (y + 1) (sym u ∙ ap g.life f ∙ sh.0) in inl (t.0, t.1, inl (ap Half (sym f)))) (λ o. inr (u, e, λ (h : b + 1 ≡ c + 1). o (omega arith))))
         (λ c u e. (u, e)))
         (subst (λ (i : Node). ChainsRule s.elements w.round (update w.head y i) w.hist w.born w.died g.life × Moves Can_ A_ s.elements w.round w.head w.hist (update w.head y i) w.hist w.born w.died w.born w.died g.life g.life) hh m)
-        (λ _ _ _ _. refl) (stage_own (λ t. absurd (omega arith)) x (y + 1) (Whole b) mine (Half b)) (add_head y l) r.hand (inside_goes s w.free w.row g.life g.stage v.ruling.hand v.ruling.retired x 0 (y + 1) (Whole b) 0 (Half b) is r.inside) (labels_skip s w.name w.head w.hist g.life y b true l (ap (λ (i : Node). i.block) (sh.3 y refl)) (ap (λ (i : Life). chained i true) sh.0) hh r.named) (once_update v.claims (moved_on (v.claims 0) x (Half b)) (once_moved (v.claims 0) x (Half b) (r.once 0)) r.once)
+        (λ _ _ _ _. (refl, λ p. p)) (stage_own (λ t. absurd (omega arith)) x (y + 1) (Whole b) mine (Half b)) (add_head y l) r.hand (inside_goes s w.free w.row g.life g.stage v.ruling.hand v.ruling.retired x 0 (y + 1) (Whole b) 0 (Half b) is r.inside) (labels_skip s w.name w.head w.hist g.life y b true l (ap (λ (i : Node). i.block) (sh.3 y refl)) (ap (λ (i : Life). chained i true) sh.0) hh r.named) (once_update v.claims (moved_on (v.claims 0) x (Half b)) (once_moved (v.claims 0) x (Half b) (r.once 0)) r.once)
 
     -- the first member's head gets back what it had, and the claim ends
     pub unlinks_first : v.ruling.phase ≡ 4 → (x m b : ℕ) (l : Node) (p : Progress) → HasEntry (v.claims 0) (claim x m p) → (p ≡ Half b) ⊎ ((p ≡ Whole b) × (m ≡ 0)) → Noted (v.sure 0).hist (member_of b false) l
@@ -181,7 +184,7 @@ module _ (s : Setup) (w : Words) (n : ℕ) (v : Views) (g : Ghost) (r : Rule s w
         (λ c y k u e. let t = left c y k u in (t.1, e, λ h. let q : b + 1 ≡ c + 1 = sym up ∙ h in absurd (t.0 (omega arith))))
         (λ c u e. (off c (λ (q : c ≡ b). free_not x m (sym u ∙ ap g.life q ∙ sh.0)) ∙ u, e)))
         (subst (λ (i : Node). ChainsRule s.elements w.round (update w.head x i) w.hist w.born w.died life' × Moves Can_ A_ s.elements w.round w.head w.hist (update w.head x i) w.hist w.born w.died w.born w.died g.life life') hh mv)
-        (λ c y k u. ((left c y k u).1, refl)) (λ z j k q h. back_own z j k q (dite (ℕ_discrete z x) (λ e. absurd (not_open j k q (sym h ∙ update_at g.stage x z Open e))) (λ o. sym (update_other g.stage x z Open o) ∙ h))) (add_head x l)
+        (λ c y k u. ((left c y k u).1, refl, λ p. p)) (λ z j k q h. back_own z j k q (dite (ℕ_discrete z x) (λ e. absurd (not_open j k q (sym h ∙ update_at g.stage x z Open e))) (λ o. sym (update_other g.stage x z Open o) ∙ h))) (add_head x l)
         (λ c h. let t = r.hand c h in (t.0, off c (λ (e : c ≡ b). free_not x m (sym t.1 ∙ ap g.life e ∙ sh.0)) ∙ t.1))
         (let k = r.stock in record { finished = k.finished; cursor_is = k.cursor_is; free_is = k.free_is; left = k.left; never = λ c i. ⊎_elim (λ e. inl (off c (λ (f : c ≡ b). free_not x m (sym e ∙ ap g.life f ∙ sh.0)) ∙ e)) inr (k.never c i) })
         record { undone = λ c h. ⊎_elim (λ e. (x, m, update_at g.life b c (Undone x m) e)) (λ t. let q = r.note.undone c t in (q.0, q.1, off c (λ (f : c ≡ b). undone_not q.0 q.1 x m (sym q.2 ∙ ap g.life f ∙ sh.0)) ∙ q.2)) h; all = λ c y k h. dite (ℕ_discrete c b) (λ f. inl f) (λ o. inr (r.note.all c y k (sym (off c o) ∙ h))); placed = λ c y k h. dite (ℕ_discrete c b) (λ f. inr (update_at g.life b c (Undone x m) f ∙ same_places c y k f (r.note.placed c y k h))) (λ o. ⊎_elim (λ e. inl (off c o ∙ e)) (λ e. inr (off c o ∙ e)) (r.note.placed c y k h)); seen = λ i e. absurd (omega arith); quiet = λ e. absurd (omega arith) }
@@ -243,8 +246,8 @@ module _ (s : Setup) (w : Words) (n : ℕ) (v : Views) (g : Ghost) (r : Rule s w
           none = r.claims.none;
         }
         (resets Can_ A_ s.elements w.round w.head w.hist w.born w.died g.life r.chains b (λ t. ap (λ (l : Life). chained l t) u) w.hist w.born (update w.died b d) (λ c o. ((λ _. refl), refl, off c o)) (r.chains.borns b)
-        (λ y k h. (r.chains.undone b y k h, (λ _. refl), inr here)))
-        (λ c y k h. off c (λ (e : c ≡ b). undone_not x m y k (sym u ∙ ap g.life (sym e) ∙ h))) back_own
+        (λ y k h. (r.chains.undone b y k h, (λ _. refl), inr here)) (subst (IsUnborn w.round (w.born b) (update w.died b d b)) (sym u) tt))
+        (λ c y k h. (off c (λ (e : c ≡ b). undone_not x m y k (sym u ∙ ap g.life (sym e) ∙ h)), λ p. p)) back_own
         record { heads = own.heads; hists = own.hists; dieds = noted_after (v.sure 0).died w.died b d own.dieds; names = own.names; borns = own.borns; rows = own.rows } r.hand r.inside r.named r.once
 
     -- DIED of a block that was taken back becomes the round
@@ -264,8 +267,9 @@ module _ (s : Setup) (w : Words) (n : ℕ) (v : Views) (g : Ghost) (r : Rule s w
         (frees Can_ A_ s.elements w.round w.head w.hist w.born w.died g.life r.chains (λ c. c == b)
         (λ c h q k. let e : c ≡ b = eqb-true c b h in ((λ t y u _. not_chained sh.0 e t y u), λ a. unvisited sh.0 e q a))
         (λ y c live h e. let t = named Can_ A_ s.elements w.round w.head w.hist w.born w.died g.life r.chains y c (w.head y) (r.chains.heads y live) h in not_chained sh.0 (eqb-true c b e) t.0 y t.1)
-        (λ c t y a st _ h e. let k = older_named Can_ A_ s.elements w.round w.head w.hist w.born w.died g.life r.chains y a (w.born c) (w.hist (member_of c t)) (r.chains.hists c t y st) h in not_chained sh.0 (eqb-true a b e) k.0 y k.1))
-        (λ c y k u. ((back c y k u).1, refl)) (λ z j k q h. back_own z j k q (dite (ℕ_discrete z x) (λ e. absurd (not_open j k q (sym h ∙ update_at g.stage x z Open e))) (λ o. sym (update_other g.stage x z Open o) ∙ h))) own
+        (λ c t y a st _ h e. let k = older_named Can_ A_ s.elements w.round w.head w.hist w.born w.died g.life r.chains y a (w.born c) (w.hist (member_of c t)) (r.chains.hists c t y st) h in not_chained sh.0 (eqb-true a b e) k.0 y k.1)
+        (λ c e. inl (ap w.born (eqb-true c b e) ∙ sh.1)))
+        (λ c y k u. ((back c y k u).1, refl, λ p. p)) (λ z j k q h. back_own z j k q (dite (ℕ_discrete z x) (λ e. absurd (not_open j k q (sym h ∙ update_at g.stage x z Open e))) (λ o. sym (update_other g.stage x z Open o) ∙ h))) own
         (λ c h. ⊎_elim (λ e. ((λ f. omega arith), update_at g.life b c Free e)) (λ u. let t = r.hand c u in (t.0, dite (ℕ_discrete c b) (λ f. update_at g.life b c Free f) (λ o. off c o ∙ t.1))) h)
         (let k = r.stock in record { finished = k.finished; cursor_is = k.cursor_is; free_is = k.free_is; left = k.left; never = λ c i. ⊎_elim (λ e. inl (dite (ℕ_discrete c b) (λ f. update_at g.life b c Free f) (λ o. off c o ∙ e))) inr (k.never c i) })
         record {

@@ -7,7 +7,7 @@ use Rattle.mesh_words.specs.Claims.{Progress, Claimed, Failed, Drawn, Half, Whol
 use Rattle.mesh_words.specs.Entries.{HasEntry, Noted}
 use Rattle.mesh_words.specs.Places.{member_of, child_place}
 use Rattle.mesh_words.specs.Setup.{Setup, setup_of}
-use Rattle.mesh_words.specs.Views.{first_half, second_half, taking_back, worker, reader, Note, Still, At, Past, Views}
+use Rattle.mesh_words.specs.Views.{first_half, second_half, taking_back, worker, reader, Note, Still, At, Past, unread, unsure, Views}
 use Rattle.mesh_words.specs.Words.{Node, node, Words}
 use Rattle.mesh_state.specs.Laws.{Always}
 use Rattle.mesh_state.specs.Rule.{Lawful}
@@ -62,10 +62,14 @@ PassesMade = Always (λ s w n v g. (v.ruling.readers ≤ s.passes → Onward s w
     × ((number : ℕ) → (v.ruling.phase ≡ second_half) ⊎ ((v.ruling.phase ≡ first_half) × (((0 < number) × (v.ruling.lone ≡ 0)) ⊎ ((number ≡ 0) × (v.ruling.workers ≡ 0) × ((x m : ℕ) (p : Progress) → HasEntry (v.claims 0) (claim x m p) → (c : ℕ) × (p ≡ Living c)))))
     → Onward s w n v (λ b. (b.views.kind n ≡ worker) × ((b.views.work n).number ≡ number) × ((b.views.work n).plan ≡ v.ruling.plan) × ((b.views.read n).told ≡ v.ruling.history))))
 
--- the law that each worker's pass, and each reader's without a pin, can be joined: the owner has what it knew, and knows that no worker 0 is out
+-- the seat is of no kind, has read nothing and is sure of no word
+abbrev pub IsSpent : Views → ℕ → Type 0
+IsSpent v j = (v.kind j ≡ 0) × (v.read j ≡ unread) × (v.sure j ≡ unsure)
+
+-- the law that each worker's pass, and each reader's without a pin, can be joined: the owner has what it knew, and knows that no worker 0 is out; the seat has read nothing and is sure of no word
 abbrev pub PassesJoined : Type 0
-PassesJoined = Always (λ s w n v g. (j : ℕ) → (v.kind j ≡ reader → (v.read j).pin ≡ 0 → Onward s w n v (λ b. (b.views.kind j ≡ 0) × ((k : Note) → HasEntry (v.read j).notes k → HasEntry (b.views.read 0).notes k)))
-    × (v.kind j ≡ worker → Onward s w n v (λ b. (b.views.kind j ≡ 0) × (b.views.ruling.lone ≡ 0) × ((c : Claim) → HasEntry (v.claims j) c → HasEntry (b.views.claims 0) c)
+PassesJoined = Always (λ s w n v g. (j : ℕ) → (v.kind j ≡ reader → (v.read j).pin ≡ 0 → Onward s w n v (λ b. IsSpent b.views j × ((k : Note) → HasEntry (v.read j).notes k → HasEntry (b.views.read 0).notes k)))
+    × (v.kind j ≡ worker → Onward s w n v (λ b. IsSpent b.views j × (b.views.ruling.lone ≡ 0) × ((c : Claim) → HasEntry (v.claims j) c → HasEntry (b.views.claims 0) c)
     × ((k : ℕ) → (HasEntry (v.work j).known k → HasEntry (b.views.work 0).known k) × (HasEntry (v.work j).open_ k → HasEntry (b.views.work 0).open_ k) × (HasEntry (v.work j).retired k → HasEntry (b.views.work 0).retired k)))))
 
 -- the place has no claim of the owner's

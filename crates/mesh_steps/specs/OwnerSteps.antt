@@ -3,7 +3,7 @@ use Rattle.std.specs.Prelude.{◌≡◌, ℕ, ◌+◌, ◌<◌, ◌≤◌, ◌==
 use Rattle.mesh_words.specs.Claims.{Progress, Living, claim}
 use Rattle.mesh_words.specs.Entries.{HasEntry, EntryAt, Noted}
 use Rattle.mesh_words.specs.Functions.{update}
-use Rattle.mesh_words.specs.Views.{resting, first_half, second_half, closing, taking_back, worker, reader, no_plan, Plan, Still, Note, Work, unsure, Views}
+use Rattle.mesh_words.specs.Views.{resting, first_half, second_half, closing, taking_back, worker, reader, no_plan, Plan, Still, Note, Work, unread, unsure, Views}
 use Rattle.mesh_words.specs.Words.{Node}
 use Rattle.mesh_state.specs.Fresh.{idle, blank}
 use Rattle.mesh_state.specs.Lists.{IsTarget, IsListed}
@@ -58,15 +58,15 @@ SplitStep s w n v after = (kind workers readers : ℕ) × (((kind ≡ worker) ×
 abbrev pub joined_work : Work → Work → Work
 joined_work a b = record { half = 0; round = 0; number = 0; plan = no_plan; drawn = a.drawn ++ b.drawn; found = a.found ++ b.found; known = a.known ++ b.known; open_ = a.open_ ++ b.open_; given = a.given ++ b.given; absent = a.absent ++ b.absent; stood = a.stood ++ b.stood; had = a.had ++ b.had; retired = a.retired ++ b.retired; went = []; walk = Still }
 
--- join of a worker's pass: the owner has its claims and what it knew, and is sure of no word
+-- join of a worker's pass: the owner has its claims and what it knew, and is sure of no word; the seat has nothing left
 abbrev pub JoinWorker : Kind
 JoinWorker s w n v after = (j : ℕ) × (j ≡ 0 → ⊥) × (v.kind j ≡ worker) × (workers : ℕ) × (v.ruling.workers ≡ workers + 1)
-    × (after ≡ state w n (record v { kind = update v.kind j 0; claims = update (update v.claims 0 (v.claims 0 ++ v.claims j)) j []; work = update (update v.work 0 (joined_work (v.work 0) (v.work j))) j idle; sure = update (update v.sure 0 unsure) j unsure; ruling = record v.ruling { workers = workers; lone = 0 } }))
+    × (after ≡ state w n (record v { kind = update v.kind j 0; claims = update (update v.claims 0 (v.claims 0 ++ v.claims j)) j []; work = update (update v.work 0 (joined_work (v.work 0) (v.work j))) j idle; sure = update (update v.sure 0 unsure) j unsure; read = update v.read j unread; ruling = record v.ruling { workers = workers; lone = 0 } }))
 
--- join of a reader's pass without a pin: the owner has its notes
+-- join of a reader's pass without a pin: the owner has its notes, and the seat has nothing left
 abbrev pub JoinReader : Kind
 JoinReader s w n v after = (j : ℕ) × (j ≡ 0 → ⊥) × (v.kind j ≡ reader) × ((v.read j).pin ≡ 0) × (readers : ℕ) × (v.ruling.readers ≡ readers + 1)
-    × (after ≡ state w n (record v { kind = update v.kind j 0; read = update (update v.read 0 (record (v.read 0) { notes = (v.read 0).notes ++ (v.read j).notes })) j (blank []); ruling = record v.ruling { readers = readers } }))
+    × (after ≡ state w n (record v { kind = update v.kind j 0; sure = update v.sure j unsure; read = update (update v.read 0 (record (v.read 0) { notes = (v.read 0).notes ++ (v.read j).notes })) j unread; ruling = record v.ruling { readers = readers } }))
 
 -- The first half begins, with lists over the last forest of the history
 abbrev pub BeginStep : Kind

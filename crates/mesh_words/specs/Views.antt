@@ -111,6 +111,10 @@ pub record Read : Type 0 where
   pub seen : ℕ
   pub made : ℕ
 
+-- a pass that has read nothing
+abbrev pub unread : Read
+unread = record { pin = 0; ready = 0; went = []; walk = Still; notes = []; places = []; told = []; seen = 0; made = 0 }
+
 -- what the owner knows
 pub record Ruling : Type 0 where
   -- 0 before the round's first pass, 1 in the first half, 2 in the second half, 3 while the round is closed, 4 while it is taken back

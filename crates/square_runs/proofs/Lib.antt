@@ -20,3 +20,7 @@ pub mod SquareTwice3
 pub mod SquareTwice
 pub mod SquareKinds
 pub mod TwiceReads
+pub mod ChildNotes
+pub mod SquareChild1
+pub mod SquareChild
+pub mod ChildReads

@@ -1,6 +1,10 @@
 -- Each kind of step occurs in a run on the square, and what a run reaches is lawful.
 use Rattle.std.proofs.Common.{◌≡◌, ℕ, zero, suc, List, [], ◌∷◌, refl, ap, subst, inl, inr, arith}
+use Rattle.mesh_words.specs.Functions.{update}
+use Rattle.mesh_words.specs.Views.{Views}
 use Rattle.mesh_words.specs.Words.{Words}
+use Rattle.mesh_words.proofs.Functions.{update_cases}
+use Rattle.mesh_steps.specs.Local.{OwnerChanges}
 use Rattle.mesh_names.specs.Squares.{square}
 use Rattle.mesh_names.specs.Validity.{across_of}
 use Rattle.mesh_names.proofs.Squares.{squares_fit}
@@ -10,7 +14,7 @@ use Rattle.mesh_state.proofs.Fresh.{fresh_is_lawful}
 use Rattle.mesh_steps.specs.States.{State, state, IsLawful}
 use Rattle.mesh_steps.specs.Steps.{Run, ByClaimStep, ByDrawStep, ByFullStep, ByFillHistory, ByFillName, ByFillDied, ByFillChild, ByLinkFirst, ByLinkSecond, ByPublishStep, ByRetireStep, ByRetiredStep, ByWorkTop, ByWorkEnds, ByWorkGoes, ByWorkFinds, ByWorkHad, ByWorkPasses, ByWorkGives, ByWorkDead, ByWorkOpen, ByLoadHead, ByLoadHistory, ByLoadBorn, ByLoadDied, ByLoadName, ByLoadRow, ByLoadRound, ByPinStep, ByUnpinStep, ByReadEnds, ByReadGoes, ByReadFinds, ByReadPasses, ByNoteClear, ByLoadCursor, ByLoadFree, ByNoteEver, ByNoteFree, ByLoadReleased, ByNoteQuiet, ByNotePlaces, BySplitStep, ByJoinWorker, ByJoinReader, ByBeginStep, ByPlanStep, ByCloseStep, ByRefuseStep, ByRestoreStep, ByAdvanceStep, ByStampStep, ByUnclaimStep, ByCutLink, ByCutHistory, ByFreeStep, ByZeroStep, ByStopStep, ByRewindStep, ByRowStep, ByOpenStep, ByUnbearStep, ByUnlinkSecond, ByUnlinkFirst, ByBuryStep, ByUndrawStep}
 use Rattle.mesh_steps.proofs.StepsKeep.{steps_keep}
-use Rattle.square_runs.specs.SquareKinds.{square_with, fresh_state, last_of, RunsTo, RunsLawful, TwoWords, KindsOccur}
+use Rattle.square_runs.specs.SquareKinds.{square_with, fresh_state, last_of, RunsTo, RunsLawful, TwoWords, WorkersClaim, KindsOccur}
 use Rattle.square_runs.specs.SquareRun as one
 use Rattle.square_runs.specs.SquareFull as full_words
 use Rattle.square_runs.specs.SquareTwice as pair
@@ -68,6 +72,32 @@ two_words (inr (inr (inr (inr (inr (inr (inr (inr (inl h))))))))) = counted _ h.
 two_words (inr (inr (inr (inr (inr (inr (inr (inr (inr (inl h)))))))))) = counted _ h.2 refl
 two_words (inr (inr (inr (inr (inr (inr (inr (inr (inr (inr (inl h))))))))))) = counted _ h.2 refl
 two_words (inr (inr (inr (inr (inr (inr (inr (inr (inr (inr (inr h))))))))))) = counted _ h.2 refl
+
+-- the claim bit is set after the claim
+unset : (w : Words) → one.claimed ≡ w → w.claimed 0 ≡ 0 → ⊥
+unset w e z = let a : 1 ≡ w.claimed 0 = ap (λ (u : Words). u.claimed 0) e in omega arith
+
+taken_away : (x : ℕ) → update (fresh_words 1).claimed x 0 0 ≡ 0
+taken_away x = update_cases (λ _ b. b ≡ 0) (fresh_words 1).claimed x 0 refl (λ _ _. refl) 0
+
+not_owners : (v : Views) (j : ℕ) → OwnerChanges (fresh_words 1) v j one.claimed → ⊥
+not_owners v j (_, _, inl h) = unset _ h.1 refl
+not_owners v j (_, _, inr (inl (_, inl e))) = unset _ e refl
+not_owners v j (_, _, inr (inl (_, inr (inl h)))) = unset _ h.1 refl
+not_owners v j (_, _, inr (inl (_, inr (inr (inl h))))) = unset _ h.2 refl
+not_owners v j (_, _, inr (inl (_, inr (inr (inr h))))) = unset _ h.2 refl
+not_owners v j (_, _, inr (inr (inl h))) = unset _ h.1 (taken_away h.0)
+not_owners v j (_, _, inr (inr (inr (inl h)))) = unset _ h.2 refl
+not_owners v j (_, _, inr (inr (inr (inr (inl h))))) = unset _ h.2 (taken_away h.0)
+not_owners v j (_, _, inr (inr (inr (inr (inr (inl h)))))) = unset _ h.1 refl
+not_owners v j (_, _, inr (inr (inr (inr (inr (inr h)))))) = unset _ h.2 refl
+
+pub workers_claim : WorkersClaim
+workers_claim v j (inl e) = absurd (unset _ e refl)
+workers_claim v j (inr (inl h)) = h.0
+workers_claim v j (inr (inr (inl (_, inl h)))) = absurd (unset _ h.1 refl)
+workers_claim v j (inr (inr (inl (_, inr h)))) = absurd (unset _ h.2 refl)
+workers_claim v j (inr (inr (inr h))) = absurd (not_owners v j h)
 
 pub kinds_occur : KindsOccur
 kinds_occur = record {

@@ -8,7 +8,7 @@ use Rattle.mesh_words.specs.Places.{member_of, child_place}
 use Rattle.mesh_words.specs.Words.{node}
 use Rattle.mesh_words.specs.Claims.{moved_on, ended}
 use Rattle.mesh_words.specs.Functions.{update}
-use Rattle.mesh_words.specs.Views.{no_plan, Views, Still, unsure}
+use Rattle.mesh_words.specs.Views.{no_plan, Views, Still, unsure, unread}
 use Rattle.mesh_state.specs.Ghosts.{Open, Held, Loose, Placed, Ghost}
 use Rattle.mesh_state.specs.Fresh.{fresh_words, fresh_views, fresh_ghost, idle, blank}
 use Rattle.mesh_state.proofs.Bisections.{marks}
@@ -190,7 +190,7 @@ pub r22 : Rule square_setup published 2 v22 g22
 r22 = publishes square_setup linked1 2 v21 g21 r21 1 0 2 0 (inl refl) refl (name0 ∷ []) (λ k h. ⊎_elim (λ e. inr (0, inl refl, inr (inl (ap (λ (i : ℕ). (0, i)) e)))) (λ f. absurd f) h)
 
 abbrev pub v23 : Views
-v23 = record v22 { kind = update v22.kind 1 0; claims = update (update v22.claims 0 (v22.claims 0 ++ v22.claims 1)) 1 []; work = update (update v22.work 0 record { half = 0; round = 0; number = 0; plan = no_plan; drawn = (v22.work 0).drawn ++ (v22.work 1).drawn; found = (v22.work 0).found ++ (v22.work 1).found; known = (v22.work 0).known ++ (v22.work 1).known; open_ = (v22.work 0).open_ ++ (v22.work 1).open_; given = (v22.work 0).given ++ (v22.work 1).given; absent = (v22.work 0).absent ++ (v22.work 1).absent; stood = (v22.work 0).stood ++ (v22.work 1).stood; had = (v22.work 0).had ++ (v22.work 1).had; retired = (v22.work 0).retired ++ (v22.work 1).retired; went = []; walk = Still }) 1 idle; sure = update (update v22.sure 0 unsure) 1 unsure; ruling = record v22.ruling { workers = 0; lone = 0 } }
+v23 = record v22 { kind = update v22.kind 1 0; claims = update (update v22.claims 0 (v22.claims 0 ++ v22.claims 1)) 1 []; work = update (update v22.work 0 record { half = 0; round = 0; number = 0; plan = no_plan; drawn = (v22.work 0).drawn ++ (v22.work 1).drawn; found = (v22.work 0).found ++ (v22.work 1).found; known = (v22.work 0).known ++ (v22.work 1).known; open_ = (v22.work 0).open_ ++ (v22.work 1).open_; given = (v22.work 0).given ++ (v22.work 1).given; absent = (v22.work 0).absent ++ (v22.work 1).absent; stood = (v22.work 0).stood ++ (v22.work 1).stood; had = (v22.work 0).had ++ (v22.work 1).had; retired = (v22.work 0).retired ++ (v22.work 1).retired; went = []; walk = Still }) 1 idle; sure = update (update v22.sure 0 unsure) 1 unsure; read = update v22.read 1 unread; ruling = record v22.ruling { workers = 0; lone = 0 } }
 
 abbrev pub g23 : Ghost
 g23 = record g22 { stage = λ x. moved 1 (g22.stage x) }

@@ -3,7 +3,7 @@ use Rattle.std.proofs.Common.{◌≡◌, ℕ, ◌+◌, ◌++◌, Bool, true, fal
 use Rattle.mesh_words.specs.Places.{child_place}
 use Rattle.mesh_words.specs.Words.{node}
 use Rattle.mesh_words.specs.Functions.{update}
-use Rattle.mesh_words.specs.Views.{no_plan, Views, Still, At, unsure}
+use Rattle.mesh_words.specs.Views.{no_plan, Views, Still, At, unsure, unread}
 use Rattle.mesh_state.specs.Ghosts.{Ghost}
 use Rattle.mesh_state.specs.Fresh.{idle, blank}
 use Rattle.mesh_state.specs.Rule.{Rule}
@@ -191,7 +191,7 @@ pub held1 : who_left 1 name1 ≡ 1
 held1 = (r50.walks 3).had 0 name1 (inl refl)
 
 abbrev pub v51 : Views
-v51 = record v50 { kind = update v50.kind 3 0; claims = update (update v50.claims 0 (v50.claims 0 ++ v50.claims 3)) 3 []; work = update (update v50.work 0 record { half = 0; round = 0; number = 0; plan = no_plan; drawn = (v50.work 0).drawn ++ (v50.work 3).drawn; found = (v50.work 0).found ++ (v50.work 3).found; known = (v50.work 0).known ++ (v50.work 3).known; open_ = (v50.work 0).open_ ++ (v50.work 3).open_; given = (v50.work 0).given ++ (v50.work 3).given; absent = (v50.work 0).absent ++ (v50.work 3).absent; stood = (v50.work 0).stood ++ (v50.work 3).stood; had = (v50.work 0).had ++ (v50.work 3).had; retired = (v50.work 0).retired ++ (v50.work 3).retired; went = []; walk = Still }) 3 idle; sure = update (update v50.sure 0 unsure) 3 unsure; ruling = record v50.ruling { workers = 0; lone = 0 } }
+v51 = record v50 { kind = update v50.kind 3 0; claims = update (update v50.claims 0 (v50.claims 0 ++ v50.claims 3)) 3 []; work = update (update v50.work 0 record { half = 0; round = 0; number = 0; plan = no_plan; drawn = (v50.work 0).drawn ++ (v50.work 3).drawn; found = (v50.work 0).found ++ (v50.work 3).found; known = (v50.work 0).known ++ (v50.work 3).known; open_ = (v50.work 0).open_ ++ (v50.work 3).open_; given = (v50.work 0).given ++ (v50.work 3).given; absent = (v50.work 0).absent ++ (v50.work 3).absent; stood = (v50.work 0).stood ++ (v50.work 3).stood; had = (v50.work 0).had ++ (v50.work 3).had; retired = (v50.work 0).retired ++ (v50.work 3).retired; went = []; walk = Still }) 3 idle; sure = update (update v50.sure 0 unsure) 3 unsure; read = update v50.read 3 unread; ruling = record v50.ruling { workers = 0; lone = 0 } }
 
 abbrev pub g51 : Ghost
 g51 = record g50 { stage = λ x. moved 3 (g50.stage x) }

@@ -2,3 +2,4 @@ pub mod SquareRun
 pub mod SquareKinds
 pub mod SquareFull
 pub mod SquareTwice
+pub mod SquareChild

@@ -3,6 +3,7 @@ use Rattle.std.specs.Prelude.{◌≡◌, ℕ, List, [], ◌∷◌}
 use Rattle.mesh_names.specs.Squares.{square}
 use Rattle.mesh_names.specs.Validity.{across_of}
 use Rattle.mesh_words.specs.Setup.{Setup, setup_of}
+use Rattle.mesh_words.specs.Views.{worker, Views}
 use Rattle.mesh_state.specs.Fresh.{fresh_words, fresh_views}
 use Rattle.mesh_steps.specs.WorkSteps.{ClaimStep, DrawStep, FullStep, FillHistory, FillName, FillDied, FillChild, LinkFirst, LinkSecond, PublishStep, RetireStep, RetiredStep}
 use Rattle.mesh_steps.specs.WalkSteps.{WorkTop, WorkEnds, WorkGoes, WorkFinds, WorkHad, WorkPasses, WorkGives, WorkDead, WorkOpen, LoadHead, LoadHistory, LoadBorn, LoadDied, LoadName, LoadRow}
@@ -11,8 +12,8 @@ use Rattle.mesh_steps.specs.OwnerSteps.{NoteClear, LoadCursor, LoadFree, NoteEve
 use Rattle.mesh_steps.specs.SweepSteps.{StampStep, UnclaimStep, CutLink, CutHistory, FreeStep, ZeroStep, StopStep, RewindStep, RowStep, OpenStep, UnbearStep, UnlinkSecond, UnlinkFirst, BuryStep, UndrawStep}
 use Rattle.mesh_steps.specs.States.{Kind, State, state, IsLawful}
 use Rattle.mesh_steps.specs.Steps.{Run, Step}
-use Rattle.mesh_steps.specs.Local.{ChangesWord}
-use Rattle.square_runs.specs.SquareRun.{drawn}
+use Rattle.mesh_steps.specs.Local.{ChangesWord, MayChange}
+use Rattle.square_runs.specs.SquareRun.{claimed, drawn}
 
 -- a table over the square with so many blocks, for four rounds and one reader's pass, and its fresh state
 abbrev pub square_with : ℕ → Setup
@@ -41,6 +42,10 @@ Occurs pool K = (a b : State) × RunsTo pool a × K (square_with pool) a.words a
 -- the law that a claim and a draw are not one change of a word
 abbrev pub TwoWords : Type 0
 TwoWords = ChangesWord (fresh_words 1) drawn → ⊥
+
+-- the law that the first claim of a run is a change that a worker's pass alone may make
+abbrev pub WorkersClaim : Type 0
+WorkersClaim = (v : Views) (j : ℕ) → MayChange (square_with 1) (fresh_words 1) v j claimed → v.kind j ≡ worker
 
 -- the law that each kind of step occurs, with one block or with two
 pub record KindsOccur : Type 0 where

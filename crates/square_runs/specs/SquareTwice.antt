@@ -168,12 +168,14 @@ SquareTwice = (states : List State) × Run pair_setup (fresh_state 2) states × 
 abbrev pub ReadsNames : Words → ℕ → List ℕ → Type 0
 ReadsNames w q names = (n : Name) → IsRead w 2 q n ↔ ((depth n ≤ 24) × HasEntry names (name_code n))
 
--- the law of what is read in its states at finished rounds: the cuts change nothing of it
+-- the law of what is read in its states, at finished rounds and at the round in work: the cuts change nothing of it
 pub record TwiceReads : Type 0 where
+  pub published : ReadsNames published 1 (name0 ∷ name1 ∷ [])
   pub finished1 : ReadsNames finished1 1 (name0 ∷ name1 ∷ [])
+  pub retired : ReadsNames retired 1 (name0 ∷ name1 ∷ []) × ReadsNames retired 2 []
   pub stamped : ReadsNames stamped1 1 (name0 ∷ name1 ∷ [])
   pub finished2 : ReadsNames finished2 2 []
   pub linked_again : ReadsNames linked3 2 []
-  pub published_again : ReadsNames published_again 2 []
+  pub published_again : ReadsNames published_again 2 [] × ReadsNames published_again 3 (name0 ∷ name1 ∷ [])
   pub finished3 : ReadsNames finished3 2 [] × ReadsNames finished3 3 (name0 ∷ name1 ∷ [])
   pub cut : ReadsNames cut1 2 [] × ReadsNames cut1 3 (name0 ∷ name1 ∷ [])

@@ -1,6 +1,7 @@
 //! Laws over the definitions alone.
+ghost use Rattle.square_runs.specs.SquareChild.{ChildReads, SquareChild};
 ghost use Rattle.square_runs.specs.SquareFull.{SquareFull, SquareUndrawn};
-ghost use Rattle.square_runs.specs.SquareKinds.{KindsOccur, RunsLawful, TwoWords};
+ghost use Rattle.square_runs.specs.SquareKinds.{KindsOccur, RunsLawful, TwoWords, WorkersClaim};
 ghost use Rattle.square_runs.specs.SquareRun.{SquareFollows, SquareReads, SquareRefused, SquareRuns, SquareVisits};
 ghost use Rattle.square_runs.specs.SquareTwice.{SquareTwice, TwiceReads};
 
@@ -16,7 +17,10 @@ pub fn laws()
     ensures undrawn { SquareUndrawn }
     ensures twice { SquareTwice }
     ensures twice_reads { TwiceReads }
+    ensures child { SquareChild }
+    ensures child_reads { ChildReads }
     ensures lawful { RunsLawful }
     ensures two_words { TwoWords }
+    ensures workers_claim { WorkersClaim }
     ensures kinds { KindsOccur }
 {}

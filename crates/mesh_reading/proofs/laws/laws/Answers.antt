@@ -1,5 +1,5 @@
 use Rattle.mesh_reading.proofs.RoundForests.{least_is_target, bisected_coded, reads_forests, kept_forests, least_when_needed}
-use Rattle.mesh_reading.proofs.ReadingLaws.{readable_forests, reads_history, reads_forest, least_read, reached_stays}
+use Rattle.mesh_reading.proofs.ReadingLaws.{reads_closing, readable_forests, reads_history, reads_forest, least_read, reached_stays}
 use Rattle.mesh_reading.proofs.Reading.{words_read}
 use Rattle.mesh_reading.proofs.RoundCoarsens.{history_coarsens}
 use Rattle.mesh_reading.proofs.laws.laws.Goals as goal
@@ -39,3 +39,6 @@ returns-clause-coarsened c = history_coarsens
 
 pub returns-clause-least : goal.returns-clause-least
 returns-clause-least c = least_when_needed
+
+pub returns-clause-closing : goal.returns-clause-closing
+returns-clause-closing c = reads_closing

@@ -1,5 +1,5 @@
 use Rattle.mesh_state.proofs.Lawful.{bounded, one_holder, one_claim, draws_bounded, free_rows, walks_agree, blocks_placed, walks_end, retired_born, walks_short, parents_bisected, members_together, places_agree, notes_agree, reached_kept, clear_rounds, covers_bisect}
-use Rattle.mesh_state.proofs.ClaimLaws.{bits_claimed, second_places, stages_viewed, draws_counted, unborn_blocks, unborn_claimed, target_least}
+use Rattle.mesh_state.proofs.ClaimLaws.{bits_claimed, second_places, stages_viewed, draws_counted, unborn_blocks, free_unborn, unborn_claimed, target_least}
 use Rattle.mesh_state.proofs.RoundLaws.{living_aimed, between, differs, closed, aimed, lists_known, history_right, told_prefix, notes_told, draws_apart, claims_drawn, quiet_round, walks_begin, chains_stand, standing_kept, rounds_left, worker_alone}
 use Rattle.mesh_state.proofs.SeatLaws.{begins_equal, living_claimed, living_blocks, findings_right, finished_findings, workers_went, one_half, filled_stays, loaded_stays, owner_sure, pins_counted, link_words, history_words, retired_noted, pins_out, numbers_known, blocks_known, others_empty, passes_counted}
 use Rattle.mesh_state.proofs.TableLaws.{blocks_in_pool, blocks_viewed, places_in_table, chains_named, elements_named, walk_sides, claims_listed_once}
@@ -30,6 +30,9 @@ returns-clause-counted c = draws_counted
 
 pub returns-clause-unborn : goal.returns-clause-unborn
 returns-clause-unborn c = unborn_blocks
+
+pub returns-clause-free : goal.returns-clause-free
+returns-clause-free c = free_unborn
 
 pub returns-clause-halves : goal.returns-clause-halves
 returns-clause-halves c = unborn_claimed

@@ -6,8 +6,10 @@ use Rattle.square_runs.proofs.SquareVisits.{square_visits}
 use Rattle.square_runs.proofs.SquareFull.{square_full}
 use Rattle.square_runs.proofs.SquareUndrawn.{square_undrawn}
 use Rattle.square_runs.proofs.SquareTwice.{square_twice}
+use Rattle.square_runs.proofs.SquareChild.{square_child}
+use Rattle.square_runs.proofs.ChildReads.{child_reads}
 use Rattle.square_runs.proofs.TwiceReads.{twice_reads}
-use Rattle.square_runs.proofs.SquareKinds.{kinds_occur, runs_lawful, two_words}
+use Rattle.square_runs.proofs.SquareKinds.{kinds_occur, runs_lawful, two_words, workers_claim}
 use Rattle.square_runs.proofs.laws.laws.Goals as goal
 
 pub returns-clause-square : goal.returns-clause-square
@@ -34,6 +36,12 @@ returns-clause-undrawn c = square_undrawn
 pub returns-clause-twice : goal.returns-clause-twice
 returns-clause-twice c = square_twice
 
+pub returns-clause-child : goal.returns-clause-child
+returns-clause-child c = square_child
+
+pub returns-clause-child_reads : goal.returns-clause-child_reads
+returns-clause-child_reads c = child_reads
+
 pub returns-clause-lawful : goal.returns-clause-lawful
 returns-clause-lawful c = runs_lawful
 
@@ -45,3 +53,6 @@ returns-clause-twice_reads c = twice_reads
 
 pub returns-clause-two_words : goal.returns-clause-two_words
 returns-clause-two_words c = two_words
+
+pub returns-clause-workers_claim : goal.returns-clause-workers_claim
+returns-clause-workers_claim c = workers_claim
