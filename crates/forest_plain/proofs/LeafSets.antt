@@ -1,15 +1,21 @@
 -- The set of leaves, name by name.
 use Rattle.std.proofs.Common.{◌≡◌, ◌⊎◌, ℕ, suc, ◌+◌, ◌<◌, Bool, true, false, cond, not, refl, sym, ap, ◌∙◌, subst, List, [], ◌∷◌, ◌++◌, take, length, inl, inr, ⊎_elim, arith, append_assoc, slice_index_or, take-suc}
 use Rattle.std.specs.FinSet.{contains, insert, empty, from_list, items, difference, contains-empty}
-use Rattle.mesh_names.specs.Names.{Name, depth, name_cmp}
+use Rattle.std.specs.List.{Contains, dedup}
+use Rattle.std.specs.List.Sorted.{IsPermutation, IsSorted, IsStrictlySortedBy}
+use Rattle.std.proofs.lemmas.Cmp.{eq_by_cmp_equiv}
+use Rattle.std.proofs.lemmas.List.Kept.{Contains-dedup, Contains-from_dedup, IsStrictlySortedBy-dedup}
+use Rattle.std.proofs.lemmas.List.Sorted.{Contains-permutation, IsPermutation-sym}
+use Rattle.mesh_names.specs.Names.{Name, depth, name_cmp, name_eq}
+use Rattle.mesh_names.specs.Order.{name_cmp_total}
 use Rattle.mesh_names.specs.Triangles.{Shape, size}
 use Rattle.mesh_names.specs.Forests.{Names, Has, IsForest, IsListOf}
 use Rattle.mesh_names.specs.Leaves.{tops, children, leaves}
 use Rattle.mesh_names.proofs.Booleans.{and_both, and-both, not-true, true-not, left}
-use Rattle.mesh_names.proofs.Sets.{In, item-in, is_or_not, both_sides, has-in, in-has, has-item, item-has, in-append, in-first, in-second, within-both}
+use Rattle.mesh_names.proofs.Sets.{In, item-in, is_or_not, both_sides, has-in, in-has, has-item, item-has, tied-same, in-append, in-first, in-second, within-both}
 use Rattle.mesh_names.proofs.Inserting.{has-insert, new-insert, insert-either}
 use Rattle.mesh_names.proofs.Leaving.{in-children, children-in}
-use Rattle.forest_plain.specs.Rounds.{IsUnsplit}
+use Rattle.forest_plain.specs.Rounds.{IsUnsplit, set_of}
 
 has-left : (all : List Name) (members : Names) (q : Name) → In q all → contains members q ≡ false → Has (difference (from_list all) members) q
 has-left all members q i out = left (from_list all) members q ∙ and-both (contains (from_list {R = name_cmp} all) q) (not (contains members q)) (in-has q all i) (not-true (contains members q) out)
@@ -53,6 +59,22 @@ unsplit-push all n members found next is step = ⊎_elim (λ h. member h) (λ h.
         (λ a. has-insert found n q (subst (λ (s : Names). Has s q) (sym is) (has-left all members q a b.1)))
         (λ (e : q ≡ n). subst (λ (y : Name). Has (insert found n) y) (sym e) (new-insert found n))
         (from_more q b.0))
+
+-- a name at the end of a list is one more of its set
+pub pushed-insert : (list : List Name) (n : Name) → set_of (list ++ n ∷ []) ≡ insert (set_of list) n
+pushed-insert list n = within-both (set_of (list ++ n ∷ [])) (insert (set_of list) n)
+    (λ q i. ⊎_elim
+    (λ (a : In q list). has-insert (set_of list) n q (in-has q list a))
+    (λ (b : (q ≡ n) ⊎ ⊥). ⊎_elim (λ (e : q ≡ n). subst (λ (y : Name). Has (insert (set_of list) n) y) (sym e) (new-insert (set_of list) n)) (λ (f : ⊥). absurd f) b)
+    (in-append q list (n ∷ []) (has-in q (list ++ n ∷ []) i)))
+    (λ q i. ⊎_elim
+    (λ (e : q ≡ n). in-has q (list ++ n ∷ []) (in-second q list (n ∷ []) (inl e)))
+    (λ (k : Has (set_of list) q). in-has q (list ++ n ∷ []) (in-first q list (n ∷ []) (has-in q list k)))
+    (insert-either (set_of list) n q i))
+
+-- lists of the same names have one set
+pub one_set : (xs ys : List Name) → ((q : Name) → In q xs → In q ys) → ((q : Name) → In q ys → In q xs) → set_of xs ≡ set_of ys
+one_set xs ys f g = within-both (set_of xs) (set_of ys) (λ q h. in-has q ys (f q (has-in q xs h))) (λ q h. in-has q xs (g q (has-in q ys h)))
 
 pub nothing_found : (members : Names) → IsUnsplit [] members empty
 nothing_found members = within-both empty (difference (from_list []) members)
@@ -101,3 +123,23 @@ pub members_short : (mesh : Shape) (members : Names) (names : List Name) → IsF
 members_short mesh members names forest is i d h =
     let low = forest.shallow (slice_index_or names i d) (subst (λ (s : Names). Has s (slice_index_or names i d)) is.all (in-has (slice_index_or names i d) names (item-in names i d h))) in
     omega (arith, low)
+
+-- names of a list, by their places
+in-contains : (q : Name) (xs : List Name) → In q xs → Contains xs q
+in-contains q [] i = absurd i
+in-contains q (x ∷ xs) i = ⊎_elim
+    (λ (e : q ≡ x). (0, omega arith, sym e))
+    (λ (r : In q xs). let c = in-contains q xs r in let low = c.1 in (suc c.0, omega (arith, low), c.2))
+    i
+
+contains-in : (q : Name) (xs : List Name) → Contains xs q → In q xs
+contains-in q xs c = subst (λ (y : Name). In y xs) c.2 (item-in xs c.0 q c.1)
+
+-- what is left of a list that is sorted and stripped of equal neighbours is the list of its set
+pub listed : (found sorted last : List Name) → IsPermutation found sorted → IsSorted name_cmp sorted → last ≡ dedup name_eq sorted → IsListOf (set_of found) last
+listed found sorted last moved order is = record {
+  in_order = subst (IsStrictlySortedBy name_cmp) (sym is) (IsStrictlySortedBy-dedup name_cmp_total (λ x y. refl) sorted order);
+  all = one_set last found
+      (λ q i. contains-in q found (Contains-permutation sorted found q (IsPermutation-sym found sorted moved) (Contains-from_dedup name_eq sorted q (subst (λ (l : List Name). Contains l q) is (in-contains q last i)))))
+      (λ q i. contains-in q last (subst (λ (l : List Name). Contains l q) (sym is) (Contains-dedup (eq_by_cmp_equiv name_cmp_total) (λ x y e. tied-same x y e) sorted q (Contains-permutation found sorted q moved (in-contains q found i)))));
+}

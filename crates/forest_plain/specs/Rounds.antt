@@ -18,6 +18,10 @@ use Rattle.forest_plain.specs.Deltas.{AreBorn, AreDied}
 use Rattle.forest_plain.specs.declared.refusal.RoundRefusal.{RoundRefusal}
 use Rattle.forest_plain.specs.declared.refusal.RoundRefusal.TheVariants.{RoundsUsedUp, NotALeaf, LevelTooDeep, PoolFull, Memory}
 
+-- the set of the names of a list
+abbrev pub set_of : List Name → Names
+set_of list = from_list list
+
 -- the set has the names of the list that are no members
 abbrev pub IsUnsplit : List Name → Names → Names → Type 0
 IsUnsplit list members names = names ≡ difference (from_list list) members

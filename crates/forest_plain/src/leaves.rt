@@ -1,13 +1,12 @@
 //! The leaves of a forest.
-ghost use Rattle.std.specs.Prelude.{◌≡◌, ◌<◌, ◌↔◌, ◌++◌, cond, All, List, IfOk, OnOk, IsTrue};
+ghost use Rattle.std.specs.Prelude.{◌≡◌, ◌<◌, ◌↔◌, ◌++◌, [], cond, All, List, IfOk, OnOk, IsTrue};
 ghost use Rattle.std.specs.FinSet as set;
-ghost use Rattle.std.specs.FinSet.{empty};
 ghost use Rattle.mesh_names.specs.Names.{Name, depth};
 ghost use Rattle.mesh_names.specs.Triangles.{size};
 ghost use Rattle.mesh_names.specs.Forests.{IsForest, IsLeaf, IsListOf};
 ghost use Rattle.mesh_names.specs.Leaves.{children, leaves, tops};
 ghost use Rattle.compat_check.specs.Meshes.{shape_of};
-ghost use Rattle.forest_plain.specs.Rounds.{IsUnsplit};
+ghost use Rattle.forest_plain.specs.Rounds.{IsUnsplit, set_of};
 
 use crate::name_set::NameSet;
 use compat_check::mesh::MacroMesh;
@@ -36,17 +35,24 @@ pub fn leaf_list(
     requires { IsForest (shape_of mesh.now) members.now }
     ensures { IfOk result (λ v. IsListOf (leaves (shape_of mesh.now) members.now) v.items) }
 {
-    let mut found = NameSet::new(alloc);
+    let mut found = Vec::new(alloc);
     add_tops(mesh, members, &mut found)?;
     let names = members.to_vec(alloc)?;
     add_children(members, &names, &mut found)?;
-    found.to_vec(alloc)
+    found.sort_unstable();
+    // No name was added twice; this is a pass that finds nothing, and shows it.
+    found.dedup();
+    Ok(found)
 }
 
 // Adds the macro elements that are not members.
-fn add_tops(mesh: &MacroMesh, members: &NameSet, found: &mut NameSet) -> Result<(), AllocError>
-    requires { found.old ≡ empty }
-    ensures { OnOk result (IsUnsplit (tops (size (shape_of mesh.now))) members.now found.new) }
+fn add_tops(
+    mesh: &MacroMesh,
+    members: &NameSet,
+    found: &mut Vec<ElemName>,
+) -> Result<(), AllocError>
+    requires { found.old.items ≡ [] }
+    ensures { OnOk result (IsUnsplit (tops (size (shape_of mesh.now))) members.now (set_of found.new.items)) }
 {
     for root in 0..mesh.element_count() {
         add_leaf(members, ElemName::top(root), found)?;
@@ -58,10 +64,10 @@ fn add_tops(mesh: &MacroMesh, members: &NameSet, found: &mut NameSet) -> Result<
 fn add_children(
     members: &NameSet,
     names: &[ElemName],
-    found: &mut NameSet,
+    found: &mut Vec<ElemName>,
 ) -> Result<(), AllocError>
     requires { All (λ n. depth n < 24) names.now }
-    ensures { OnOk result ((all : List Name) → IsUnsplit all members.now found.old → IsUnsplit (all ++ children names.now) members.now found.new) }
+    ensures { OnOk result ((all : List Name) → IsUnsplit all members.now (set_of found.old.items) → IsUnsplit (all ++ children names.now) members.now (set_of found.new.items)) }
 {
     for name in names {
         add_leaf(members, name.child_at(false), found)?;
@@ -71,11 +77,11 @@ fn add_children(
 }
 
 // Adds the name unless it is a member.
-fn add_leaf(members: &NameSet, name: ElemName, found: &mut NameSet) -> Result<(), AllocError>
-    ensures { OnOk result (found.new ≡ cond (set.contains members.now name) found.old (set.insert found.old name)) }
+fn add_leaf(members: &NameSet, name: ElemName, found: &mut Vec<ElemName>) -> Result<(), AllocError>
+    ensures { OnOk result (set_of found.new.items ≡ cond (set.contains members.now name) (set_of found.old.items) (set.insert (set_of found.old.items) name)) }
 {
     if !members.contains(name) {
-        found.insert(name)?;
+        found.push(name)?;
     }
     Ok(())
 }

@@ -1,8 +1,8 @@
 use Rattle.std.proofs.Common.{List, take, ◌++◌}
 use Rattle.mesh_names.specs.Names.{Name}
 use Rattle.mesh_names.specs.Leaves.{children}
-use Rattle.forest_plain.specs.Rounds.{IsUnsplit}
+use Rattle.forest_plain.specs.Rounds.{IsUnsplit, set_of}
 use Rattle.forest_plain.proofs.leaves.add_children.Given as goal
 
 abbrev pub invariant-loop-name : goal.invariant-loop-name
-invariant-loop-name l = (all : List Name) → IsUnsplit all l.members l.fn.found → IsUnsplit (all ++ children (take l.name-index l.names)) l.members l.found
+invariant-loop-name l = (all : List Name) → IsUnsplit all l.members (set_of l.fn.found.items) → IsUnsplit (all ++ children (take l.name-index l.names)) l.members (set_of l.found.items)
