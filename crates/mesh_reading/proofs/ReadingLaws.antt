@@ -12,6 +12,7 @@ use Rattle.mesh_words.specs.NameWords.{name_code}
 use Rattle.mesh_words.specs.Setup.{setup_of}
 use Rattle.mesh_words.specs.Words.{Node, Words}
 use Rattle.mesh_words.specs.Views.{Views}
+use Rattle.mesh_state.specs.Owner.{InRows}
 use Rattle.mesh_state.specs.Rule.{Lawful}
 use Rattle.mesh_words.proofs.CodedNames.{code_one}
 use Rattle.mesh_state.specs.Chains.{IsHead}
@@ -109,7 +110,7 @@ reached_stays mesh across l passes tells w n v (g, r) q b may h =
     let c = walk_chain (setup_of mesh across l passes) w n v g r q h.1 (name_code h.0) b h.3.0 (w.head h.1) (chain_of_place (setup_of mesh across l passes) w n v g r q may h.1 (name_code h.0) p.0) h.3.1 in
     let at = placed (g.life b) c.0 h.1 c.1 in (
       (λ i a k e. free_not at.0 at.1 (sym (r.claims.rows i a k).0 ∙ ap g.life e ∙ at.2)),
-      (λ k. free_not at.0 at.1 (sym (r.hand b k).1 ∙ at.2)),
+      (λ k. free_not at.0 at.1 (sym (⊎_elim (r.hand b) (λ (t : InRows v.ruling.low v.ruling.high w.row b). ap g.life (sym t.3) ∙ (r.frees.stocked t.0 t.1 t.2).0) k) ∙ at.2)),
       (λ j x m k. loose_not (x + 1) at.0 at.1 (sym (r.claims.shape x j m (Drawn b) (r.claims.held j x m (Drawn b) k)).0 ∙ at.2)),
       λ low. last low c.3 c.4,
     )

@@ -12,6 +12,7 @@ use Rattle.mesh_words.specs.Places.{member_of, child_place}
 use Rattle.mesh_words.specs.Setup.{setup_of}
 use Rattle.mesh_words.specs.Views.{first_half, closing, Views}
 use Rattle.mesh_words.specs.Words.{Node, Words}
+use Rattle.mesh_state.specs.Owner.{InRows}
 use Rattle.mesh_state.specs.Bisections.{IsKept, MayRead}
 use Rattle.mesh_names.specs.LeastForest.{IsLeast}
 use Rattle.mesh_reading.specs.RoundForests.{AreCodes}
@@ -75,6 +76,6 @@ abbrev pub ReadsClosing : Type 0
 ReadsClosing = (mesh : Shape) (across : Across) (l : Layout) (passes : ℕ) → Tells mesh across → (w : Words) (n : ℕ) (v : Views) → Lawful (setup_of mesh across l passes) w n v → v.ruling.phase ≡ closing
     → (name : Name) → IsRead w l.elements (w.round + 1) name ↔ ((depth name ≤ 24) × HasEntry v.ruling.plan.target (name_code name) × (IsListed (setup_of mesh across l passes) v.ruling.plan.retire (name_code name) → ⊥))
 
--- the law that a block to which a walk goes at a round that may be read is in no free row, not free in the owner's hand, and of no claim that may fill its words; and its last round is above the round, where this is a finished one
+-- the law that a block to which a walk goes at a round that may be read is in no free row, not free in the owner's hand or stock, and of no claim that may fill its words; and its last round is above the round, where this is a finished one
 abbrev pub ReachedStays : Type 0
-ReachedStays = OverTables (λ mesh e w v. (q b : ℕ) → MayRead w.round v.ruling.phase v.read q → IsReached w e q b → ((i : ℕ) → w.cursor ≤ i → i < w.free → w.row i ≡ b → ⊥) × (HasEntry v.ruling.hand b → ⊥) × ((j x m : ℕ) → HasEntry (v.claims j) (claim x m (Drawn b)) → ⊥) × (q ≤ w.round → (w.died b ≡ 0) ⊎ (q < w.died b)))
+ReachedStays = OverTables (λ mesh e w v. (q b : ℕ) → MayRead w.round v.ruling.phase v.read q → IsReached w e q b → ((i : ℕ) → w.cursor ≤ i → i < w.free → w.row i ≡ b → ⊥) × (HasEntry v.ruling.hand b ⊎ InRows v.ruling.low v.ruling.high w.row b → ⊥) × ((j x m : ℕ) → HasEntry (v.claims j) (claim x m (Drawn b)) → ⊥) × (q ≤ w.round → (w.died b ≡ 0) ⊎ (q < w.died b)))

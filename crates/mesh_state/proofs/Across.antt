@@ -18,6 +18,8 @@ use Rattle.mesh_state.specs.Bisections.{IsPlaceOf, IsKept, MayRead}
 use Rattle.mesh_state.specs.Rule.{Rule}
 use Rattle.mesh_state.proofs.FoundAgain.{placed, found_covers}
 use Rattle.mesh_state.proofs.Bisections.{one_place, two_names}
+use Rattle.mesh_state.specs.Owner.{is_early}
+use Rattle.mesh_state.proofs.Known.{early_one}
 
 -- a reader with a pin of the round, or, of the last finished round, a worker has gone to the block, which has not died by it
 abbrev pub Went : ℕ → (ℕ → ℕ) → (ℕ → ℕ) → (ℕ → Work) → (ℕ → Read) → ℕ → ℕ → Type 0
@@ -122,6 +124,19 @@ module _ (s : Setup) (w : Words) (n : ℕ) (v : Views) (g : Ghost) (r : Rule s w
               (zero_or_more (w.born a))
 
   -- of a round that the owner knows as clear no seat has a pin
+  -- where no pass is out that was made before the last finished round was, each pin is of that round
+  pub no_early : v.ruling.early ≡ 0 → (j q : ℕ) → (v.read j).pin ≡ q + 1 → q ≡ w.round
+  no_early e j q p = let past = r.pins.past j q p in let made = (r.history.made j).1 q p in elim (dec_lt (v.read j).made w.round) [
+    | yes l ↦ absurd (elim (dec_lt j n) [
+      | yes i ↦ (let one = early_one w.round (v.kind j) (v.read j) is_reader l in let m = summand n (λ i. is_early w.round (v.kind i) (v.read i)) j i in let a = r.early in omega arith)
+      | no o ↦ let k = r.pins.few j (omega arith) in let z = is_reader in omega arith
+    ])
+    | no o ↦ omega arith
+  ]
+    where
+      is_reader : v.kind j ≡ 2
+      is_reader = dite (ℕ_discrete (v.kind j) 2) (λ e. e) (λ o. let z = (r.pins.readers j o).0 in absurd (omega arith))
+
   pub no_pin : (q : ℕ) → HasEntry v.ruling.clear q → (j : ℕ) → (v.read j).pin ≡ q + 1 → ⊥
   no_pin q h j e = let c = r.rules.clear q h in let a = r.pins.count q in let b = c.1 in let z : sum_below n (λ i. one_where (v.read i).pin (q + 1)) ≡ 0 = omega arith in elim (dec_lt j n) [
     | yes l ↦ let o : one_where (v.read j).pin (q + 1) ≡ 1 = ap (λ (t : Bool). cond {A = ℕ} t 1 0) (eq-eqb (v.read j).pin (q + 1) e) in let m = summand n (λ i. one_where (v.read i).pin (q + 1)) j l in omega arith

@@ -24,6 +24,7 @@ module _ (K : ℕ → Type 0) (A : ℕ → ℕ → Type 0) (e round : ℕ) (head
     stays = λ q b t x k c u. u;
     fresh = λ q b t x k c u. u;
     stand = λ q b t x k a u. u;
+    later = λ b t x u. let e : (hist' (member_of b t)).died ≡ (hist (member_of b t)).died = ap (λ (n : Node). n.died) (ts b t x u) in omega arith;
     alive = alive;
   }
     where
@@ -42,6 +43,7 @@ module _ (K : ℕ → Type 0) (A : ℕ → ℕ → Type 0) (e round : ℕ) (head
     stays = λ q b t x k c u. u;
     fresh = λ q b t x k c u. u;
     stand = λ q b t x k a u. u;
+    later = λ b t x u. omega arith;
     alive = λ q b t x l u a. a;
   }
 
@@ -129,6 +131,16 @@ module _ (K : ℕ → Type 0) (A : ℕ → ℕ → Type 0) (e round : ℕ) (head
         stays = λ q b t x k c u. u;
         fresh = λ q b t x k c u. u;
         stand = λ q b t x k a u. u;
+        later = λ c v z w. dite (ℕ_discrete (member_of c v) (member_of a u))
+            (λ s. let e : (update hist (member_of a u) (hist (member_of b t)) (member_of c v)).died ≡ (hist (member_of b t)).died = ap (λ (n : Node). n.died) (update_at hist (member_of a u) (member_of c v) (hist (member_of b t)) s) in
+            let f : (hist (member_of c v)).died ≡ (hist (member_of a u)).died = ap (λ (i : ℕ). (hist i).died) s in
+            let i : (hist (member_of a u)).died ≡ died b = ap (λ (n : Node). n.died) is in
+            let p = placed (life b) t x tb in
+            let r = ch.dieds b p.0 p.1 p.2 d in let r0 = r.0 in let r1 = r.1 in
+            ⊎_elim (λ n. let k : (hist (member_of b t)).died ≡ 0 = ap (λ (n : Node). n.died) n in omega arith)
+            (λ o. let k : (hist (member_of b t)).died ≡ died o.0 = ap (λ (n : Node). n.died) o.2 in let m = o.5 r0 in omega arith)
+            (ch.hists b t x (chained_stands (life b) t x tb)))
+            (λ o. let e : (update hist (member_of a u) (hist (member_of b t)) (member_of c v)).died ≡ (hist (member_of c v)).died = ap (λ (n : Node). n.died) (update_other hist (member_of a u) (member_of c v) (hist (member_of b t)) o) in omega arith);
         alive = λ q b t x l u a. a;
       },
     )
@@ -201,6 +213,7 @@ module _ (K : ℕ → Type 0) (A : ℕ → ℕ → Type 0) (e round : ℕ) (head
             stays = λ q c t z k v u. chain c t z u;
             fresh = λ q c t z k v u. dite (ℕ_discrete c b) (λ s. let y : born c ≡ born b = ap born s in let p = v.0 in absurd (omega arith)) (λ o. sym (ap (λ (k : Life). chained k t) (still c o)) ∙ u);
             stand = λ q c t z k a u. stand c t z u;
+            later = λ b t x u. omega arith;
             alive = λ q b t x l u a. a;
           },
         )

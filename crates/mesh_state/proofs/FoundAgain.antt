@@ -144,6 +144,8 @@ pub record Moves (K : ℕ → Type 0) (A : ℕ → ℕ → Type 0) (e round : �
   pub stays : (q b : ℕ) (t : Bool) (x : ℕ) → K q → Covers born died q b → chained (life b) t ≡ x + 1 → chained (life' b) t ≡ x + 1
   pub fresh : (q b : ℕ) (t : Bool) (x : ℕ) → K q → Covers born' died' q b → chained (life' b) t ≡ x + 1 → chained (life b) t ≡ x + 1
   pub stand : (q b : ℕ) (t : Bool) (x : ℕ) → K q → A q b → stands (life b) t ≡ x + 1 → stands (life' b) t ≡ x + 1
+  -- a HISTORY word gets no later retired round
+  pub later : (b : ℕ) (t : Bool) (x : ℕ) → stands (life b) t ≡ x + 1 → (hist' (member_of b t)).died ≤ (hist (member_of b t)).died
   pub alive : (q b : ℕ) (t : Bool) (x : ℕ) → q ≤ round → stands (life b) t ≡ x + 1 → (died b ≡ 0) ⊎ (q < died b) → (died' b ≡ 0) ⊎ (q < died' b)
 
 -- the names of blocks that stand stay
@@ -197,6 +199,7 @@ module _ (s : Setup) (name name' : ℕ → ℕ) (head hist head' hist' : ℕ →
       went = λ q b p h. let t = g.went q b p h in let k = pinned j q p in ((t.0.0, t.0.1, m.stand q b t.0.0 t.0.1 k.0 (gone j q b p h t.1) t.0.2), m.alive q b t.0.0 t.0.1 k.1 t.0.2 t.1);
       walk = λ q p. walk_on q p (read j).walk (g.walk q p);
       sided = λ q x n b t p h. same b t t x (⊎_elim (λ e. let k : Walks s name hist born died life (who q) q (read j).went (At x n b t) = subst (Walks s name hist born died life (who q) q (read j).went) e (g.walk q p) in k.1) (λ e. let k : Walks s name hist born died life (who q) q (read j).went (Past x n b t) = subst (Walks s name hist born died life (who q) q (read j).went) e (g.walk q p) in k.1) h) ∙ g.sided q x n b t p h;
+      dated = λ q x n b t p h o. let k = g.dated q x n b t p h o in let l = m.later b t x (⊎_elim (λ e. let k : Walks s name hist born died life (who q) q (read j).went (At x n b t) = subst (Walks s name hist born died life (who q) q (read j).went) e (g.walk q p) in k.1) (λ e. let k : Walks s name hist born died life (who q) q (read j).went (Past x n b t) = subst (Walks s name hist born died life (who q) q (read j).went) e (g.walk q p) in k.1) h) in omega arith;
       places = λ q x n p h. seen_on (who q) q x n (fits q (pinned j q p).0) (g.places q x n p h);
       yes_notes = g.yes_notes;
       no_notes = g.no_notes;
@@ -292,6 +295,7 @@ goes_who s round name hist born died life who who' same v low g = record {
   went = g.went;
   walk = λ q p. subst (λ (f : ℕ → ℕ). Walks s name hist born died life f q v.went v.walk) (sym (same q (low q p))) (g.walk q p);
   sided = g.sided;
+  dated = g.dated;
   places = λ q x n p h. subst (λ (f : ℕ → ℕ). IsPlaceOf s name f x n) (sym (same q (low q p))) (g.places q x n p h);
   yes_notes = λ n q h. let t = g.yes_notes n q h in (t.0, (t.1.0, ap (λ (f : ℕ → ℕ). f n) (same q t.0) ∙ t.1.1));
   no_notes = λ n q h. let t = g.no_notes n q h in (t.0, ap (λ (f : ℕ → ℕ). f n) (same q t.0) ∙ t.1);

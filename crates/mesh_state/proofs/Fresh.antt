@@ -1,14 +1,14 @@
 -- The fresh table meets the rule, and names that are apart exist.
-use Rattle.std.proofs.Common.{[], ◌∷◌, subst, ◌≡◌, ℕ, zero, suc, ◌+◌, ◌≤◌, cond, Bool, List, ◌<◌, lt-ltb, refl, sym, ap, ◌∙◌, inl, inr, arith, ne_eqb}
+use Rattle.std.proofs.Common.{[], ◌∷◌, subst, ◌≡◌, ℕ, zero, suc, ◌+◌, ◌≤◌, cond, Bool, List, ◌<◌, lt-ltb, refl, sym, ap, ◌∙◌, inl, inr, ⊎_elim, arith, ne_eqb}
 use Rattle.mesh_words.specs.Entries.{Noted, EntryAt, HasEntry}
 use Rattle.mesh_words.specs.Setup.{Setup, NamesApart, setup_of}
 use Rattle.mesh_words.proofs.CodedNames.{codes_apart}
 use Rattle.mesh_state.specs.Sure.{SureRule}
-use Rattle.mesh_state.specs.Fresh.{idle, numbers_below, noted_below, fresh_words, fresh_kind, fresh_sure, fresh_views, fresh_ghost, FreshIsLawful}
+use Rattle.mesh_state.specs.Fresh.{idle, noted_below, fresh_words, fresh_kind, fresh_sure, fresh_views, fresh_ghost, FreshIsLawful}
 use Rattle.mesh_words.specs.Sums.{sum_below, one_where}
 use Rattle.mesh_words.specs.Views.{no_plan}
 use Rattle.mesh_words.specs.Words.{node}
-use Rattle.mesh_state.specs.Ghosts.{Open, Free, Placed, Undone}
+use Rattle.mesh_state.specs.Ghosts.{Open, Free, Loose, Placed, Undone}
 use Rattle.mesh_state.specs.Lists.{Holds}
 use Rattle.mesh_state.proofs.Lists.{none_drawn, crew_free}
 use Rattle.mesh_state.specs.Rule.{Rule}
@@ -22,11 +22,6 @@ noted_is (suc n) f i a (inr t) = let r = noted_is n f i a t.1 in let l = r.0 in 
 
 row_is : (pool i : ℕ) → i < pool → (fresh_words pool).row i ≡ i
 row_is pool i l = ap (λ (t : Bool). cond t i 0) (lt-ltb i pool l)
-
-listed : (n b : ℕ) → HasEntry (numbers_below n) b → b < n
-listed zero b h = absurd h
-listed (suc n) b (inl e) = omega arith
-listed (suc n) b (inr h) = let l = listed n b h in omega arith
 
 none_in : (n : ℕ) → ◌≡◌ {A = ℕ} (sum_below n (λ _. 0)) 0
 none_in zero = refl
@@ -66,25 +61,31 @@ starts s a = record {
     either = λ i b l e. absurd (omega arith);
     fresh = λ i e. refl;
   };
-  pins = record { now = refl; later = λ q l. (refl, refl); count = λ q. let z : one_where 0 (q + 1) ≡ 0 = ap (λ (t : Bool). cond {A = ℕ} t 1 0) (ne_eqb 0 (q + 1) (λ (e : 0 ≡ q + 1). omega arith)) in omega arith; past = λ j q e. absurd (omega arith); few = λ j l. few j l; readers = λ j o. (refl, refl); spent = λ j e. refl; bit = λ j. omega arith; bound = omega arith };
+  pins = record { now = refl; later = λ q l. (refl, refl); count = λ q. let z : one_where 0 (q + 1) ≡ 0 = ap (λ (t : Bool). cond {A = ℕ} t 1 0) (ne_eqb 0 (q + 1) (λ (e : 0 ≡ q + 1). omega arith)) in omega arith; past = λ j q e. absurd (omega arith); few = λ j l. few j l; readers = λ j o. (refl, refl); spent = λ j e. refl; bit = λ j. omega arith; most = λ q. omega arith; bound = omega arith };
   works = λ j. record { only = λ _ _. (refl, refl, refl, refl); found = λ x k h. absurd h; known = λ k h. absurd h; open_ = λ k h. absurd h; given = λ b k h. absurd h };
   walks = λ j. walks_idle s 0 0 (λ _. 0) (λ _. node 0 0) (λ _. 0) (λ _. 0) (λ _. Free) (λ _ _. 0) (fresh_kind j) j 0 0 0 no_plan (λ _. refl) (λ e. absurd (not_one j e));
   sure = sure_is;
-  goes = λ j. record { went = λ q b p h. absurd h; walk = λ q p. tt; sided = λ q x k b t p h. absurd (still_not x k b t h); places = λ q x k p h. absurd h; yes_notes = λ k q h. absurd h; no_notes = λ k q h. absurd h };
+  goes = λ j. record { went = λ q b p h. absurd h; walk = λ q p. tt; sided = λ q x k b t p h. absurd (still_not x k b t h); dated = λ q x k b t p h. absurd (still_not x k b t h); places = λ q x k p h. absurd h; yes_notes = λ k q h. absurd h; no_notes = λ k q h. absurd h };
   rules = record { owner = (refl, omega arith); one = λ j e. only j e; workers = refl; readers = refl; few_readers = omega arith; halves = λ _ _. refl; clear = λ q h. absurd h };
-  stock = record { finished = refl; cursor_is = λ k e. ((λ f. omega arith), omega arith); free_is = λ k e. omega arith; never = λ b l. inl refl; left = λ q k h. absurd h };
+  stock = record { finished = refl; cursor_is = λ k e. ((λ f. omega arith), omega arith); free_is = λ k e. omega arith; left = λ q k h. absurd h };
   note = record { undone = λ b h. absurd h; all = λ b x m e. absurd (free_undone x m e); placed = λ b x m h. absurd h; seen = λ x e. absurd (omega arith); quiet = λ e. absurd (omega arith) };
   retired = λ b x m u e. absurd (free_not x m u);
+  grows = λ j. record { only = λ _ _. refl; grown = λ x k h. absurd h };
+  retireds = λ b h. absurd (⊎_elim (λ t. t.1) (λ f. f) h);
   plan = record { same = λ j e. absurd (not_one j e); aim = λ l. absurd (omega arith); within = λ i l. absurd (omega arith); whole = λ i l. absurd (omega arith); done = λ i e. absurd (omega arith) };
   history = record { rounds = refl; forests = λ q names e i. empty q names e i; told = λ j. ([] ∷ [], refl); seen = λ j. (omega arith, omega arith); made = λ j. (omega arith, λ q e. absurd (omega arith)) };
   drawn = none_drawn 0 0 s.pool (fresh_words s.pool).row fresh_kind (λ _. idle) (λ j. refl);
-  draws = λ x j m b p e. absurd (omega arith);
+  draws = λ x j m p e. absurd (omega arith);
   crew = crew_free s 0 0 fresh_kind (λ _. idle) (λ _. Open) 0 (omega arith, λ l. absurd (omega arith)) (λ e. absurd (omega arith));
-  inside = record { few = omega arith; rows = λ i l. let e = row_is s.pool i l in omega arith; blocks = λ b l. refl; stand_in = λ b t x st. absurd (omega arith); seconds = λ x j y p h. absurd (not_open j (y + 1) p (sym h)); hand_in = λ b h. listed s.pool b h; retired_in = λ b h. absurd h };
+  inside = record { few = omega arith; rows = λ i l. let e = row_is s.pool i l in omega arith; blocks = λ b l. refl; stand_in = λ b t x st. absurd (omega arith); seconds = λ x j y p h. absurd (not_open j (y + 1) p (sym h)); hand_in = λ b h. absurd h; retired_in = λ b h. absurd h };
   named = record { heads = λ x b t l e c. absurd (omega arith); hists = λ a c x t u st e. absurd (omega arith); patch = λ b x m u. absurd (free_undone x m u) };
   once = λ j. tt;
   holders = λ x j m p h. absurd (not_open j m p (sym h));
-  hand = λ b h. ((λ e. omega arith), refl);
+  hand = λ b h. absurd h;
+  frees = record { all = λ b l _. inr (inl (b, omega arith, l, row_is s.pool b l)); hand_rows = λ b h. absurd h; hand_stock = λ b h. absurd h; stocked = λ i l m. absurd (omega arith); once = λ i k l m. absurd (omega arith); shut = λ l. absurd (omega arith) };
+  known = record { noted = λ b x m u. absurd (free_not x m u); undone = λ b x m u. absurd (free_undone x m u); loose = λ b u e. absurd (free_loose u e) };
+  kept = record { all = λ b x m u. absurd (free_not x m u); right = λ b h. absurd h };
+  early = refl;
 }
   where
     sure_is : (j : ℕ) → SureRule s.elements 0 (λ _. node 0 0) (λ _. node 0 0) (λ _. 0) (λ _. 0) (λ _. 0) (fresh_words s.pool).row (λ _. Open) j (fresh_sure s.pool j)
@@ -104,6 +105,9 @@ starts s a = record {
 
     free_not : (x m : ℕ) → Free ≡ Placed x m → ⊥
     free_not x m e = cc
+
+    free_loose : (u : ℕ) → Free ≡ Loose u → ⊥
+    free_loose u e = cc
 
     few : (j : ℕ) → 1 ≤ j → fresh_kind j ≡ 0
     few zero l = absurd (omega arith)

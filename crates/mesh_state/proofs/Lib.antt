@@ -12,3 +12,5 @@ pub mod RoundLaws
 pub mod ClaimLaws
 pub mod SeatLaws
 pub mod TableLaws
+pub mod Known
+pub mod OwnerLaws

@@ -14,7 +14,7 @@ use Rattle.mesh_state.specs.Ghosts.{Stage, Held, Placed, chained, Ghost}
 use Rattle.mesh_state.proofs.HeldClaims.{held_one}
 use Rattle.mesh_state.specs.Bisections.{IsPatch, MayRead}
 use Rattle.mesh_state.specs.Lists.{Holds, IsClosed, IsTarget, IsMember, PlanRule, HistoryRule, DrawnRule, DrawnFor, CrewRule}
-use Rattle.mesh_state.specs.Claims.{block_of}
+use Rattle.mesh_state.specs.Claims.{block_of, draws}
 use Rattle.mesh_state.specs.Rule.{Rule}
 use Rattle.mesh_state.proofs.Lawful.{parents_bisected, members_together}
 
@@ -136,17 +136,18 @@ crew_free s round phase kind work stage lone low out = record { rounds = low; al
 
 -- where the seats keep their draws
 pub draws_on : (phase : ℕ) (work work' : ℕ → Work) (stage : ℕ → Stage) → ((i : ℕ) → (work' i).drawn ≡ (work i).drawn) → DrawnFor phase work stage → DrawnFor phase work' stage
-draws_on phase work work' stage same h x j m b p one e f = let t = h x j m b p one e f in (t.0, subst (λ (l : List (ℕ × ℕ)). HasEntry l (t.0, b + 1)) (sym (same j)) t.1)
+draws_on phase work work' stage same h x j m p one e f = let t = h x j m p one e f in (t.0, subst (λ (l : List (ℕ × ℕ)). HasEntry l (t.0, block_of p)) (sym (same j)) t.1)
 
 -- where one seat's knowledge changes, but not its draws
 pub draws_update : (phase : ℕ) (work : ℕ → Work) (stage : ℕ → Stage) (j : ℕ) (u : Work) → u.drawn ≡ (work j).drawn → DrawnFor phase work stage → DrawnFor phase (update work j u) stage
 draws_update phase work stage j u e = draws_on phase work (update work j u) stage (update_cases (λ i x. x.drawn ≡ (work i).drawn) work j u e (λ _ _. refl))
 
--- where a claim goes on with the same block, or has none
-pub draws_goes : (phase : ℕ) (work : ℕ → Work) (stage : ℕ → Stage) (x j m : ℕ) (p q : Progress) → stage x ≡ Held j m p → ((b : ℕ) → block_of q ≡ b + 1 → block_of p ≡ b + 1) → DrawnFor phase work stage → DrawnFor phase work (update stage x (Held j m q))
-draws_goes phase work stage x j m p q is same h y i k b z one e f = dite (ℕ_discrete y x)
-    (λ a. let t = held_one j i m k q z (sym (update_at stage x y (Held j m q) a) ∙ e) in subst (λ (c : ℕ). (n : ℕ) × HasEntry (work c).drawn (n, b + 1)) t.0 (h x j m b p one is (same b (ap block_of t.2 ∙ f))))
-    (λ o. h y i k b z one (sym (update_other stage x y (Held j m q) o) ∙ e) f)
+-- where a claim goes on with the same block
+pub draws_goes : (phase : ℕ) (work : ℕ → Work) (stage : ℕ → Stage) (x j m : ℕ) (p q : Progress) → stage x ≡ Held j m p → (draws q ≡ 1 → (draws p ≡ 1) × (block_of q ≡ block_of p)) → DrawnFor phase work stage → DrawnFor phase work (update stage x (Held j m q))
+draws_goes phase work stage x j m p q is same h y i k z one e f = dite (ℕ_discrete y x)
+    (λ a. let t = held_one j i m k q z (sym (update_at stage x y (Held j m q) a) ∙ e) in let u = same (ap draws t.2 ∙ f) in
+    subst (λ (c : ℕ × ℕ). (n : ℕ) × HasEntry (work c.0).drawn (n, c.1)) (λ n. (t.0 n, (sym u.1 ∙ ap block_of t.2) n)) (h x j m p one is u.0))
+    (λ o. h y i k z one (sym (update_other stage x y (Held j m q) o) ∙ e) f)
 
 -- the member of the patch of a block that has the name
 pub member_side : (s : Setup) (name : ℕ → ℕ) (k b x m i : ℕ) → name (member_of b false) ≡ k → IsPatch s name b m → IsMember s k i → (t : Bool) × (y : ℕ) × (chained (Placed x m) t ≡ y + 1) × (i ≡ name (member_of b t))

@@ -108,7 +108,7 @@ quiet_round s w n v (g, r) b x m u = (
 pub standing_kept : StandingKept
 standing_kept s w n v (g, r) b x t st = (
   (λ i a l e. free (ap g.life (sym e) ∙ (r.claims.rows i a l).0)),
-  (λ h. free (r.hand b h).1),
+  (λ h. free (r.hand b h)),
   λ j y m h. let sh = r.claims.shape y j m (Drawn b) (r.claims.held j y m (Drawn b) h) in let z : 0 ≡ x + 1 = sym (ap (λ (l : Life). stands l t) sh.0) ∙ st in omega arith,
 )
   where
@@ -122,4 +122,4 @@ pub worker_alone : WorkerAlone
 worker_alone s w n v (g, r) j one k z = let t = r.crew.alone j one k z in (t.0, λ i x m p h. t.1 x i m p (r.claims.held i x m p h))
 
 pub claims_drawn : ClaimsDrawn
-claims_drawn s w n v (g, r) j x m b p one h f = r.draws x j m b p one (r.claims.held j x m p h) f
+claims_drawn s w n v (g, r) j x m p one h f = r.draws x j m p one (r.claims.held j x m p h) f

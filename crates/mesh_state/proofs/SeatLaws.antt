@@ -57,7 +57,7 @@ living_blocks s w n v (g, r) b x m u p z = (
     ]
 
 pub findings_right : FindingsRight
-findings_right s w n v (g, r) j k = let u = r.works j in ((λ x h. u.found x k h), (λ h. u.known k h), (λ h. u.open_ k h), λ b h. let t = u.given b k h in (t.1, t.2.3, t.2.4, t.2.5))
+findings_right s w n v (g, r) j k = let u = r.works j in ((λ x h. u.found x k h), (λ h. u.known k h), (λ h. u.open_ k h), (λ b h. let t = u.given b k h in (t.1, t.2.3, t.2.4, t.2.5)), λ x h. let t = (r.grows j).grown x k h in let a = t.1 in (t.0, inr (a.0, a.1, a.2, a.3, a.5, a.6)))
 
 pub finished_findings : FinishedFindings
 finished_findings s w n v (g, r) j k = let u = r.walks j in ((λ h. u.absent k h), (λ x h. u.stood x k h), λ b h. u.had b k h)
@@ -106,7 +106,7 @@ history_words s w n v (g, r) a c x t h e = ⊎_elim
     (r.chains.hists a t x h)
 
 pub retired_noted : RetiredNoted
-retired_noted s w n v (g, r) b x m u e = r.retired b x m u e
+retired_noted s w n v (g, r) b = (r.retireds b, λ t. r.retired b t.0 t.1 t.2 t.3)
 
 pub pins_out : PinsOut
 pins_out s w n v (g, r) = (r.pins.count, r.pins.now, r.stock.left)
@@ -115,11 +115,11 @@ pub numbers_known : NumbersKnown
 numbers_known s w n v (g, r) = (r.stock.finished, r.stock.cursor_is, r.stock.free_is)
 
 pub blocks_known : BlocksKnown
-blocks_known s w n v (g, r) b = ((r.note.undone b, λ t. r.note.all b t.0 t.1 t.2), r.hand b, r.note.placed b, r.stock.never b)
+blocks_known s w n v (g, r) b = ((r.note.undone b, λ t. r.note.all b t.0 t.1 t.2), r.hand b, r.note.placed b)
 
 pub others_empty : OthersEmpty
 others_empty s w n v (g, r) j = (
-  (λ other second. let u = (r.works j).only other second in let k = (r.walks j).only other second in let l = (r.walks j).still other in ((λ x m p h. ⊎_elim second other (r.holders x j m p (r.claims.held j x m p h))), r.drawn.only j other second, u.0, u.1, u.2, u.3, k.0, k.1, k.2, k.3, l.0, l.1)),
+  (λ other second. let u = (r.works j).only other second in let k = (r.walks j).only other second in let l = (r.walks j).still other in ((λ x m p h. ⊎_elim second other (r.holders x j m p (r.claims.held j x m p h))), r.drawn.only j other second, u.0, u.1, u.2, u.3, k.0, k.1, k.2, (r.grows j).only other second, k.3, l.0, l.1)),
   r.pins.readers j,
   r.pins.spent j,
   r.pins.few j,

@@ -16,3 +16,4 @@ pub mod RoundLaws
 pub mod ClaimLaws
 pub mod SeatLaws
 pub mod TableLaws
+pub mod OwnerLaws

@@ -5,7 +5,7 @@ use Rattle.mesh_words.specs.Setup.{Setup}
 use Rattle.mesh_words.specs.Claims.{Progress, Living}
 use Rattle.mesh_words.specs.Views.{resting, first_half, closing, taking_back, worker, Plan, Work, Read}
 use Rattle.mesh_state.specs.Ghosts.{Stage, Held}
-use Rattle.mesh_state.specs.Claims.{block_of}
+use Rattle.mesh_state.specs.Claims.{block_of, draws}
 
 -- a block bisects the name, where `who` says which
 abbrev pub Holds : (ℕ → ℕ) → ℕ → Type 0
@@ -64,9 +64,9 @@ pub record DrawnRule (phase cursor free : ℕ) (row : ℕ → ℕ) (kind : ℕ �
   -- a draw is in one view
   pub apart : (j k i b c : ℕ) → HasEntry (work j).drawn (i, b) → HasEntry (work k).drawn (i, c) → j ≡ k
 
--- in the first half the block of each claim was got by a draw that the claim's seat has
+-- in the first half each claim for which a draw was made has its block, or none, by a draw that the claim's seat has
 abbrev pub DrawnFor : ℕ → (ℕ → Work) → (ℕ → Stage) → Type 0
-DrawnFor phase work stage = (x j m b : ℕ) (p : Progress) → phase ≡ first_half → stage x ≡ Held j m p → block_of p ≡ b + 1 → (i : ℕ) × HasEntry (work j).drawn (i, b + 1)
+DrawnFor phase work stage = (x j m : ℕ) (p : Progress) → phase ≡ first_half → stage x ≡ Held j m p → draws p ≡ 1 → (i : ℕ) × HasEntry (work j).drawn (i, block_of p)
 
 -- who is at work
 pub record CrewRule (s : Setup) (round phase : ℕ) (kind : ℕ → ℕ) (work : ℕ → Work) (stage : ℕ → Stage) (lone : ℕ) : Type 0 where

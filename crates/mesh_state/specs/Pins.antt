@@ -17,4 +17,6 @@ pub record PinsRule (s : Setup) (round taken : ℕ) (released : ℕ → ℕ) (n 
   pub spent : (j : ℕ) → kind j ≡ 0 → read j ≡ unread
   pub bit : (j : ℕ) → (read j).ready ≤ 1
   -- pins taken and passes that are ready to take one stay within the bound
+  -- of no round were more pins taken than that
+  pub most : (q : ℕ) → pins q ≤ s.limit + s.passes + 1
   pub bound : taken + sum_below n (λ j. (read j).ready) ≤ s.limit + s.passes + 1

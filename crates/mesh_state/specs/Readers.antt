@@ -21,6 +21,8 @@ pub record ReaderRule (s : Setup) (round : ℕ) (name : ℕ → ℕ) (hist : ℕ
   pub walk : (q : ℕ) → v.pin ≡ q + 1 → Walks s name hist born died life (who q) q v.went v.walk
   -- the member to which a walk has gone has the element's name
   pub sided : (q x n b : ℕ) (t : Bool) → v.pin ≡ q + 1 → (v.walk ≡ At x n b t) ⊎ (v.walk ≡ Past x n b t) → name (member_of b t) ≡ n
+  -- retired rounds fall along a walk: the next word's is below the one by which the walk came
+  pub dated : (q x n b : ℕ) (t : Bool) → v.pin ≡ q + 1 → (v.walk ≡ At x n b t) ⊎ (v.walk ≡ Past x n b t) → 0 < v.back → (hist (member_of b t)).died < v.back
   pub places : (q x n : ℕ) → v.pin ≡ q + 1 → HasEntry v.places (x, n) → IsPlaceOf s name (who q) x n
   -- its notes are of finished rounds, and right
   pub yes_notes : (n q : ℕ) → HasEntry v.notes record { round = q; name = n; bisected = true } → (q ≤ round) × ((b : ℕ) × (who q n ≡ b + 1))

@@ -6,7 +6,7 @@ use Rattle.mesh_words.specs.Entries.{HasEntry, EntryAt}
 use Rattle.mesh_words.specs.Places.{member_of}
 use Rattle.mesh_state.specs.Ghosts.{Undone, stands}
 use Rattle.mesh_state.specs.Chains.{IsPlace}
-use Rattle.mesh_state.specs.Claims.{block_of}
+use Rattle.mesh_state.specs.Claims.{block_of, draws}
 use Rattle.mesh_state.specs.Bisections.{IsPlaceOf}
 use Rattle.mesh_state.specs.Laws.{Always, AtRounds}
 use Rattle.mesh_state.specs.Lists.{Holds, IsClosed, IsTarget, IsListed}
@@ -51,9 +51,9 @@ NotesInHistory = Always (λ s w n v g. (j k q : ℕ) → ((b : Bool) → HasEntr
 abbrev pub DrawsApart : Type 0
 DrawsApart = Always (λ s w n v g. (i j k b c : ℕ) → HasEntry (v.work i).drawn (k, b) → HasEntry (v.work j).drawn (k, c) → (i ≡ j) × (b ≡ c) × (k < w.cursor) × (k < w.free → b ≡ w.row k + 1))
 
--- in the first half the block of a claim in a view is that of a draw in the view
+-- in the first half a claim in a view for which a draw was made has the block, or none, that a draw in the view found
 abbrev pub ClaimsDrawn : Type 0
-ClaimsDrawn = Always (λ s w n v g. (j x m b : ℕ) (p : Progress) → v.ruling.phase ≡ first_half → HasEntry (v.claims j) (claim x m p) → block_of p ≡ b + 1 → (i : ℕ) × HasEntry (v.work j).drawn (i, b + 1))
+ClaimsDrawn = Always (λ s w n v g. (j x m : ℕ) (p : Progress) → v.ruling.phase ≡ first_half → HasEntry (v.claims j) (claim x m p) → draws p ≡ 1 → (i : ℕ) × HasEntry (v.work j).drawn (i, block_of p))
 
 -- the owner's note that the last finished round is quiet: no pass with a pin of it has gone to a block that was taken back, and no chain word names such a block
 abbrev pub QuietRound : Type 0

@@ -11,12 +11,12 @@ use Rattle.mesh_state.specs.Chains.{ChainsRule}
 use Rattle.mesh_state.specs.Claims.{linked, ClaimsRule}
 use Rattle.mesh_state.specs.Bisections.{NamesRule, IsPlaceOf}
 use Rattle.mesh_state.specs.Pins.{PinsRule}
-use Rattle.mesh_state.specs.Work.{WorkRule, WalkRule, RetiredKnown}
+use Rattle.mesh_state.specs.Work.{WorkRule, WalkRule, RetiredKnown, RetiredRight, GrownRule}
 use Rattle.mesh_state.specs.Sure.{SureRule}
 use Rattle.mesh_state.specs.Readers.{ReaderRule}
 use Rattle.mesh_state.specs.Lists.{PlanRule, HistoryRule, DrawnRule, DrawnFor, CrewRule}
 use Rattle.mesh_state.specs.Inside.{InsideRule, LabelRule, ListedOnce}
-use Rattle.mesh_state.specs.Owner.{OwnerRule, StockRule, NoteRule}
+use Rattle.mesh_state.specs.Owner.{OwnerRule, StockRule, NoteRule, FreeRule, KnownRule, KeptRule, EarlyRule}
 
 -- in the first half the members of a claim's patch stand at its places, are not bisected at the last finished round, and the first is of the round's target
 abbrev pub Labels : Setup → ℕ → ℕ → (ℕ → ℕ) → (ℕ → Stage) → (ℕ → ℕ → ℕ) → List ℕ → Type 0
@@ -36,9 +36,11 @@ pub record Rule (s : Setup) (w : Words) (n : ℕ) (v : Views) (g : Ghost) : Type
   pub sure : (j : ℕ) → SureRule s.elements v.ruling.workers w.head w.hist w.born w.died w.name w.row g.stage j (v.sure j)
   pub goes : (j : ℕ) → ReaderRule s w.round w.name w.hist w.born w.died g.life g.who (v.read j)
   pub rules : OwnerRule s.passes w.round w.released g.pins n v.kind v.ruling
-  pub stock : StockRule w.round w.cursor w.free w.row g.life g.pins v.ruling
+  pub stock : StockRule w.round w.cursor w.free g.pins v.ruling
   pub note : NoteRule w.round w.taken g.life v.read v.ruling
   pub retired : RetiredKnown w.round w.died g.life v.work v.ruling.retired
+  pub grows : (j : ℕ) → GrownRule s w.round v.ruling.phase w.name w.born (g.who (w.round + 1)) (v.kind j) j (v.work j)
+  pub retireds : RetiredRight w.round w.died g.life v.work v.ruling.retired
   pub plan : PlanRule s w.round v.ruling.phase g.who v.kind v.work v.ruling.plan
   pub history : HistoryRule w.round g.who v.read v.ruling.history
   pub drawn : DrawnRule v.ruling.phase w.cursor w.free w.row v.kind v.work
@@ -49,8 +51,14 @@ pub record Rule (s : Setup) (w : Words) (n : ℕ) (v : Views) (g : Ghost) : Type
   pub once : (j : ℕ) → ListedOnce (v.claims j)
   -- a claim is the owner's or a worker's
   pub holders : (x j m : ℕ) (p : Progress) → g.stage x ≡ Held j m p → (j ≡ 0) ⊎ (v.kind j ≡ worker)
-  -- blocks that the owner knows as free are so, but in the first half
-  pub hand : (b : ℕ) → HasEntry v.ruling.hand b → (v.ruling.phase ≡ first_half → ⊥) × (g.life b ≡ Free)
+  -- blocks in the owner's hand are free, and each free block is in it, in a row or in the stock
+  pub hand : (b : ℕ) → HasEntry v.ruling.hand b → g.life b ≡ Free
+  pub frees : FreeRule s.pool w.cursor w.free w.row w.born g.life v.ruling.hand v.ruling.low v.ruling.high
+  -- each other block has a claim, or is noted with its places; and one that is retired is noted as such
+  pub known : KnownRule g.life g.stage v.ruling.placed
+  pub kept : KeptRule w.round w.died g.life v.ruling.kept
+  -- it counts the readers' passes that were made before the last finished round was
+  pub early : EarlyRule w.round n v.kind v.read v.ruling.early
 
 -- Words and views are lawful where there are ghost parts with which the rule holds
 abbrev pub Lawful : Setup → Words → ℕ → Views → Type 0

@@ -28,10 +28,11 @@ LivingBlocks = Always (λ s w n v g. (b x m : ℕ) → g.life b ≡ Placed x m �
     × ((t : Bool) (y : ℕ) → chained (g.life b) t ≡ y + 1 → ((w.head y).block ≡ b + 1) × (IsPlace s.elements g.life y → IsLabel s w.name g.life y (w.name (member_of b t))) × (v.ruling.phase < taking_back → g.who (w.round + 1) (w.name (member_of b t)) ≡ b + 1))
     × ((c y i : ℕ) → g.life c ≡ Placed y i → 0 < w.born c → w.died c ≡ 0 → w.name (member_of c false) ≡ w.name (member_of b false) → c ≡ b))
 
--- what a pass found of the round in work is so: places and bisected names in the first half, and in the second names that are not bisected and blocks of patches
+-- what a pass found of the round in work is so: places and bisected names in the first half, and in the second names that are not bisected, blocks of patches, and places of children of blocks that were born in the round
 abbrev pub FindingsRight : Type 0
 FindingsRight = Always (λ s w n v g. (j k : ℕ) → ((x : ℕ) → HasEntry (v.work j).found (x, k) → (v.ruling.phase ≡ first_half) × IsPlaceOf s w.name (g.who (w.round + 1)) x k) × (HasEntry (v.work j).known k → (v.ruling.phase ≡ first_half) × Holds (g.who (w.round + 1)) k) × (HasEntry (v.work j).open_ k → (v.ruling.phase ≡ second_half) × (g.who (w.round + 1) k ≡ 0))
-    × ((b : ℕ) → HasEntry (v.work j).given (b, k) → (w.name (member_of b false) ≡ k) × (0 < w.born b) × (w.born b ≤ w.round) × ((w.died b ≡ 0) ⊎ (w.died b ≡ w.round + 1))))
+    × ((b : ℕ) → HasEntry (v.work j).given (b, k) → (w.name (member_of b false) ≡ k) × (0 < w.born b) × (w.born b ≤ w.round) × ((w.died b ≡ 0) ⊎ (w.died b ≡ w.round + 1)))
+    × ((x : ℕ) → HasEntry (v.work j).grown (x, k) → (v.ruling.phase ≡ second_half) × IsPlaceOf s w.name (g.who (w.round + 1)) x k))
 
 -- what a pass at work found of the last finished round is so: names that are not bisected, places, and blocks of names
 abbrev pub FinishedFindings : Type 0
@@ -73,9 +74,9 @@ LinkWords = Always (λ s w n v g. (x b : ℕ) → IsPlace s.elements g.life x �
 abbrev pub HistoryWords : Type 0
 HistoryWords = Always (λ s w n v g. (a c x : ℕ) (t : Bool) → stands (g.life a) t ≡ x + 1 → (w.hist (member_of a t)).block ≡ c + 1 → ((u : Bool) × (chained (g.life c) u ≡ x + 1)) × ((w.hist (member_of a t)).died ≡ w.died c) × (0 < w.died c) × (w.born c < w.died c) × (w.died c ≤ w.round) × (0 < w.born a → w.died c < w.born a))
 
--- each block that was retired in the round in work is noted in the view of a worker's pass or the owner's
+-- each block that was retired in the round in work is noted in the view of a worker's pass or the owner's, and each block that is noted so was
 abbrev pub RetiredNoted : Type 0
-RetiredNoted = Always (λ s w n v g. (b x m : ℕ) → g.life b ≡ Placed x m → w.died b ≡ w.round + 1 → ((j : ℕ) × HasEntry (v.work j).retired b) ⊎ HasEntry v.ruling.retired b)
+RetiredNoted = Always (λ s w n v g. (b : ℕ) → (((j : ℕ) × HasEntry (v.work j).retired b) ⊎ HasEntry v.ruling.retired b) ↔ ((x : ℕ) × (m : ℕ) × (g.life b ≡ Placed x m) × (w.died b ≡ w.round + 1)))
 
 -- of each round as many pins were taken as were given back and are in views: of the last finished one as ROUND shows, and of one that was left as the owner noted
 abbrev pub PinsOut : Type 0
@@ -85,14 +86,14 @@ PinsOut = Always (λ s w n v g. ((q : ℕ) → g.pins q ≡ w.released q + sum_b
 abbrev pub NumbersKnown : Type 0
 NumbersKnown = Always (λ s w n v g. (v.ruling.finished ≡ w.round) × ((k : ℕ) → v.ruling.cursor ≡ k + 1 → (v.ruling.phase ≡ first_half → ⊥) × (w.cursor ≡ k)) × ((k : ℕ) → v.ruling.free ≡ k + 1 → w.free ≡ k))
 
--- the owner knows which blocks were taken back; blocks in its hand are free; one that it noted with its places stands there; and one that no earlier round drew is free, or in a row that the round in work drew
+-- the owner knows which blocks were taken back; blocks in its hand are free; and one that it noted with its places stands there
 abbrev pub BlocksKnown : Type 0
-BlocksKnown = Always (λ s w n v g. (b : ℕ) → (HasEntry v.ruling.undone b ↔ ((x : ℕ) × (m : ℕ) × (g.life b ≡ Undone x m))) × (HasEntry v.ruling.hand b → (v.ruling.phase ≡ first_half → ⊥) × (g.life b ≡ Free))
-    × ((x m : ℕ) → HasEntry v.ruling.placed (b, x, m) → (g.life b ≡ Placed x m) ⊎ (g.life b ≡ Undone x m)) × (v.ruling.ever ≤ b → (g.life b ≡ Free) ⊎ ((i : ℕ) × (i < w.cursor) × (i < w.free) × (w.row i ≡ b))))
+BlocksKnown = Always (λ s w n v g. (b : ℕ) → (HasEntry v.ruling.undone b ↔ ((x : ℕ) × (m : ℕ) × (g.life b ≡ Undone x m))) × (HasEntry v.ruling.hand b → g.life b ≡ Free)
+    × ((x m : ℕ) → HasEntry v.ruling.placed (b, x, m) → (g.life b ≡ Placed x m) ⊎ (g.life b ≡ Undone x m)))
 
 -- a seat that is neither the owner's nor a worker's, as one that was joined, has no claim, draw, finding or walk at work; one that is not a reader's has no pin and is not ready for one; one of no kind, as one that was joined, was told nothing and has read and noted nothing; and a seat that was never made is of no kind
 abbrev pub OthersEmpty : Type 0
-OthersEmpty = Always (λ s w n v g. (j : ℕ) → ((v.kind j ≡ worker → ⊥) → (j ≡ 0 → ⊥) → ((x m : ℕ) (p : Progress) → HasEntry (v.claims j) (claim x m p) → ⊥) × ((v.work j).drawn ≡ []) × ((v.work j).found ≡ []) × ((v.work j).known ≡ []) × ((v.work j).open_ ≡ []) × ((v.work j).given ≡ []) × ((v.work j).absent ≡ []) × ((v.work j).stood ≡ []) × ((v.work j).had ≡ []) × ((v.work j).retired ≡ []) × ((v.work j).went ≡ []) × ((v.work j).walk ≡ Still))
+OthersEmpty = Always (λ s w n v g. (j : ℕ) → ((v.kind j ≡ worker → ⊥) → (j ≡ 0 → ⊥) → ((x m : ℕ) (p : Progress) → HasEntry (v.claims j) (claim x m p) → ⊥) × ((v.work j).drawn ≡ []) × ((v.work j).found ≡ []) × ((v.work j).known ≡ []) × ((v.work j).open_ ≡ []) × ((v.work j).given ≡ []) × ((v.work j).absent ≡ []) × ((v.work j).stood ≡ []) × ((v.work j).had ≡ []) × ((v.work j).grown ≡ []) × ((v.work j).retired ≡ []) × ((v.work j).went ≡ []) × ((v.work j).walk ≡ Still))
     × ((v.kind j ≡ reader → ⊥) → ((v.read j).pin ≡ 0) × ((v.read j).ready ≡ 0)) × (v.kind j ≡ 0 → v.read j ≡ unread) × (n ≤ j → v.kind j ≡ 0))
 
 -- the owner's seat is the first, and no other; it knows how many workers' and readers' passes are out; and workers' are so in the two halves alone

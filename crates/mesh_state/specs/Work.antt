@@ -1,7 +1,7 @@
 -- What the passes at work know.
 use Rattle.std.specs.Prelude.{◌≡◌, ℕ, ◌+◌, ◌<◌, ◌≤◌, Bool, false, List, [], ◌⊎◌}
 use Rattle.mesh_words.specs.Entries.{HasEntry}
-use Rattle.mesh_words.specs.Places.{member_of}
+use Rattle.mesh_words.specs.Places.{member_of, child_place}
 use Rattle.mesh_words.specs.Setup.{Setup}
 use Rattle.mesh_words.specs.Views.{first_half, second_half, worker, Walk, Still, At, Past, Work}
 use Rattle.mesh_words.specs.Words.{Node}
@@ -50,6 +50,19 @@ pub record WalkRule (s : Setup) (round phase : ℕ) (name : ℕ → ℕ) (hist :
   pub walk : WorkWalks s round phase name hist born died life who v.went v.walk
   -- the member to which a walk has gone has the element's name
   pub sided : (x n b : ℕ) (t : Bool) → (v.walk ≡ At x n b t) ⊎ (v.walk ≡ Past x n b t) → name (member_of b t) ≡ n
+
+-- the element n stands at the place x, of a child of a block that was born in the round in work and bisects the parent's name there, where `who` says which blocks bisect names at the round in work
+abbrev pub IsGrown : Setup → ℕ → (ℕ → ℕ) → (ℕ → ℕ) → (ℕ → ℕ) → ℕ → ℕ → Type 0
+IsGrown s round name born who x n = (b : ℕ) × (t c : Bool) × (x ≡ child_place s.elements b t c) × (born b ≡ round + 1) × (who (name (member_of b t)) ≡ b + 1) × (n ≡ s.child (name (member_of b t)) c)
+
+-- what a pass of the second half knows of these: such blocks are not retired in the round
+pub record GrownRule (s : Setup) (round phase : ℕ) (name born : ℕ → ℕ) (who : ℕ → ℕ) (kind : ℕ) (seat : ℕ) (v : Work) : Type 0 where
+  pub only : (kind ≡ worker → ⊥) → (seat ≡ 0 → ⊥) → v.grown ≡ []
+  pub grown : (x n : ℕ) → HasEntry v.grown (x, n) → (phase ≡ second_half) × IsGrown s round name born who x n
+
+-- a block that some seat knows to have been retired in the round in work was so
+abbrev pub RetiredRight : ℕ → (ℕ → ℕ) → (ℕ → Life) → (ℕ → Work) → List ℕ → Type 0
+RetiredRight round died life work retired = (b : ℕ) → ((j : ℕ) × HasEntry (work j).retired b) ⊎ HasEntry retired b → (x : ℕ) × (m : ℕ) × (life b ≡ Placed x m) × (died b ≡ round + 1)
 
 -- each block that was retired in the round in work is known to have been so by some seat
 abbrev pub RetiredKnown : ℕ → (ℕ → ℕ) → (ℕ → Life) → (ℕ → Work) → List ℕ → Type 0

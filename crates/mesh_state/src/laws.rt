@@ -4,6 +4,7 @@ ghost use Rattle.mesh_state.specs.ClaimLaws.{BitsClaimed, DrawsCounted, FreeUnbo
 ghost use Rattle.mesh_state.specs.RoundLaws.{BetweenForests, BisectedClosed, ChainsStand, ClaimsAimed, ClaimsDrawn, DiffersByPatches, DrawsApart, HistoryRight, ListsKnown, LivingAimed, NotesInHistory, QuietRound, RoundsLeft, StandingKept, ToldPrefix, WalksBegin, WorkerAlone};
 ghost use Rattle.mesh_state.specs.SeatLaws.{BeginsEqual, BlocksKnown, FilledStays, FindingsRight, FinishedFindings, HistoryWords, LinkWords, LivingBlocks, LivingClaimed, LoadedStays, NumbersKnown, OneHalf, OthersEmpty, OwnerSure, PassesCounted, PinsCounted, PinsOut, RetiredNoted, WorkersWent};
 ghost use Rattle.mesh_state.specs.TableLaws.{BlocksInPool, BlocksViewed, ChainsNamed, ClaimsListedOnce, ElementsNamed, PlacesInTable, WalkSides};
+ghost use Rattle.mesh_state.specs.OwnerLaws.{BlocksCounted, BlocksNoted, DeadNoted, EarlyPins, FreeFound, KeptExact, NotedKinds, PatchesCounted, StockRows, WalkedNoted};
 ghost use Rattle.mesh_state.specs.Fresh.{FreshFromList, FreshIsLawful};
 
 /// What holds in each lawful state, of its words, its claims and what seats know; and that the fresh
@@ -77,6 +78,16 @@ pub fn laws()
     ensures elements { ElementsNamed }
     ensures sides { WalkSides }
     ensures once { ClaimsListedOnce }
+    ensures frees { FreeFound }
+    ensures stock { StockRows }
+    ensures blocks_noted { BlocksNoted }
+    ensures dead { DeadNoted }
+    ensures kept { KeptExact }
+    ensures kinds { NotedKinds }
+    ensures walked { WalkedNoted }
+    ensures early { EarlyPins }
+    ensures count { BlocksCounted }
+    ensures patches { PatchesCounted }
     ensures list { FreshFromList }
     ensures fresh { FreshIsLawful }
 {}

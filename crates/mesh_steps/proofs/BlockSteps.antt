@@ -120,6 +120,7 @@ module _ (K : ℕ → Type 0) (A : ℕ → ℕ → Type 0) (e round : ℕ) (head
           stays = λ q b t x k c u. u;
           fresh = λ q b t x k c u. u;
           stand = λ q b t x k a u. u;
+          later = λ c t x u. let e : (hist' (member_of c t)).died ≡ (hist (member_of c t)).died = ap (λ (n : Node). n.died) (hists c t x u) in omega arith;
           alive = λ q c t x l u a. dite (ℕ_discrete c b)
               (λ s. ⊎_elim (λ p. absurd (placed_off p.0 p.1 t (ap (λ (i : ℕ). chained (life i) false) s ∙ off false) p.2)) (λ p. subst (λ (i : ℕ). (died' i ≡ 0) ⊎ (q < died' i)) (sym s) (⊎_elim inl (λ (z : died' b ≡ round + 1). inr (omega arith)) (un p.0 p.1 (ap life (sym s) ∙ p.2)).2)) (standing (life c) t x u))
               (λ n. subst (λ (i : ℕ). (i ≡ 0) ⊎ (q < i)) (sym (same c n).2) a);
@@ -162,6 +163,7 @@ module _ (K : ℕ → Type 0) (A : ℕ → ℕ → Type 0) (e round : ℕ) (head
           stays = λ q b t x k v u. chain b t x (by_bool (gone b) (λ g. (clear b g q k).0 t x u v.2)) u;
           fresh = λ q b t x k v u. let g = left b t x (chained_stands (life' b) t x u) in sym (ap (λ (l : Life). chained l t) (still b g)) ∙ u;
           stand = λ q b t x k a u. stand b t x (by_bool (gone b) (λ g. (clear b g q k).1 a)) u;
+          later = λ b t x u. omega arith;
           alive = λ q b t x l u a. a;
         },
       )
@@ -206,6 +208,7 @@ module _ (K : ℕ → Type 0) (A : ℕ → ℕ → Type 0) (e round : ℕ) (head
           stays = λ q c t y k v h. chain c t y (λ (s : c ≡ b). let w : born c ≡ born b = ap born s in let p = v.0 in absurd (omega arith)) h;
           fresh = λ q c t y k v h. sym (ap (λ (i : Life). chained i t) (still c (λ (s : c ≡ b). let w : born c ≡ born b = ap born s in let p = v.0 in absurd (omega arith)))) ∙ h;
           stand = λ q c t y k a h. same c t ∙ h;
+          later = λ b t x u. omega arith;
           alive = λ q b t x l u a. a;
         },
       )

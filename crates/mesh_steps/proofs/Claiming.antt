@@ -11,7 +11,7 @@ use Rattle.mesh_words.specs.Entries.{HasEntry}
 use Rattle.mesh_words.proofs.Functions.{update_at, update_other, update_cases}
 use Rattle.mesh_words.proofs.Sums.{sum_same}
 use Rattle.mesh_state.specs.Ghosts.{Stage, Open, Held, Ghost}
-use Rattle.mesh_state.specs.Claims.{block_of, Shape, draws_of, bit_of}
+use Rattle.mesh_state.specs.Claims.{Shape, draws_of, bit_of, draws}
 use Rattle.mesh_state.specs.Bisections.{IsPlaceOf, MayRead}
 use Rattle.mesh_state.specs.Sure.{GuardsBlock, GuardsHead, SureRule}
 use Rattle.mesh_state.proofs.Lists.{crew_goes}
@@ -20,9 +20,11 @@ use Rattle.mesh_state.specs.Inside.{ListedOnce}
 use Rattle.mesh_state.proofs.Inside.{label_below, label_of, once_more}
 use Rattle.mesh_state.proofs.FoundAgain.{one_more}
 use Rattle.mesh_state.proofs.HeldClaims.{not_open, held_one}
-use Rattle.mesh_state.proofs.Across.{place_one, name_one}
+use Rattle.mesh_state.proofs.Across.{zero_or_more, place_one, name_one}
 use Rattle.mesh_steps.proofs.SureWords.{sure_on}
 use Rattle.mesh_steps.proofs.Publishing.{Label}
+use Rattle.mesh_state.proofs.Known.{known_opens}
+use Rattle.mesh_state.proofs.Lawful.{members_together}
 
 module _ (s : Setup) (w : Words) (n : ℕ) (v : Views) (g : Ghost) (r : Rule s w n v g) where
   abbrev d : ℕ
@@ -33,12 +35,16 @@ module _ (s : Setup) (w : Words) (n : ℕ) (v : Views) (g : Ghost) (r : Rule s w
 
   -- The claim of a patch of the target of which the pass found the members' places, and which the last finished round has not
   module _ (j x m k : ℕ) (kind : v.kind j ≡ 1) (bit0 : w.claimed x ≡ 0) (lead : s.leads k ≡ 1) (room : x < places s) (absent : HasEntry (v.work j).absent k) (aimed : HasEntry (v.work j).plan.target k)
-      (here : HasEntry (v.work j).found (x, k)) (mate : ((m ≡ 0) × (s.mate k ≡ 0)) ⊎ ((y : ℕ) × (i : ℕ) × (m ≡ y + 1) × (s.mate k ≡ i + 1) × HasEntry (v.work j).found (y, i + 1) × HasEntry (v.work j).absent (i + 1))) where
+      (here : HasEntry (v.work j).found (x, k)) (mate : ((m ≡ 0) × (s.mate k ≡ 0)) ⊎ ((y : ℕ) × (i : ℕ) × (m ≡ y + 1) × (s.mate k ≡ i + 1) × HasEntry (v.work j).found (y, i + 1))) where
     one : v.ruling.phase ≡ 1
     one = ((r.works j).found x k here).0
 
     old : g.who w.round k ≡ 0
     old = (r.walks j).absent k absent
+
+    -- nor has it the second member
+    mate_old : (i : ℕ) → s.mate k ≡ i + 1 → g.who w.round (i + 1) ≡ 0
+    mate_old i e = ⊎_elim (λ z. z) (λ t. let z = (members_together s w n v (g, r) w.round (inl (inl refl)) k i t.0 e).1 t.1 in let y = old in absurd (omega arith)) (zero_or_more (g.who w.round (i + 1)))
 
     can : MayRead w.round v.ruling.phase v.read d
     can = inr (refl, let e = one in omega arith)
@@ -108,7 +114,7 @@ module _ (s : Setup) (w : Words) (n : ℕ) (v : Views) (g : Ghost) (r : Rule s w
         living = λ z i a p h e. absurd (omega (arith, one));
         none = λ z e. absurd (omega (arith, one));
       };
-      labels = λ z i a p h e. ⊎_elim (λ t. subst (λ (y : ℕ × ℕ × Progress). Label s w n v g r y.0 y.1 y.2) (λ u. (sym t.0 u, sym t.2 u, sym t.3 u)) (k, lead, seen, old, (λ b q. absurd (omega arith)), ⊎_elim inl (λ t. inr (t.0, t.1, t.2, t.3, ((r.works j).found t.0 (t.1 + 1) t.4).1, (r.walks j).absent (t.1 + 1) t.5)) mate, subst (λ (p : Plan). HasEntry p.target k) (r.plan.same j kind) aimed)) (λ t. r.labels z i a p t.1 e) (back z i a p h);
+      labels = λ z i a p h e. ⊎_elim (λ t. subst (λ (y : ℕ × ℕ × Progress). Label s w n v g r y.0 y.1 y.2) (λ u. (sym t.0 u, sym t.2 u, sym t.3 u)) (k, lead, seen, old, (λ b q. absurd (omega arith)), ⊎_elim inl (λ t. inr (t.0, t.1, t.2, t.3, ((r.works j).found t.0 (t.1 + 1) t.4).1, mate_old t.1 t.3)) mate, subst (λ (p : Plan). HasEntry p.target k) (r.plan.same j kind) aimed)) (λ t. r.labels z i a p t.1 e) (back z i a p h);
       chains = r.chains;
       names = r.names;
       pins = r.pins;
@@ -125,7 +131,7 @@ module _ (s : Setup) (w : Words) (n : ℕ) (v : Views) (g : Ghost) (r : Rule s w
       plan = r.plan;
       history = r.history;
       drawn = r.drawn;
-      draws = λ z i a b p e h f. ⊎_elim (λ t. let y = ap block_of t.3 in absurd (omega arith)) (λ t. r.draws z i a b p e t.1 f) (back z i a p h);
+      draws = λ z i a p e h f. ⊎_elim (λ t. let y = ap draws t.3 in absurd (omega arith)) (λ t. r.draws z i a p e t.1 f) (back z i a p h);
       crew = crew_goes s w.round v.ruling.phase v.kind v.work v.work g.stage v.ruling.lone x j m Claimed kind (λ _. refl) r.crew;
       inside = record {
         few = r.inside.few;
@@ -140,6 +146,12 @@ module _ (s : Setup) (w : Words) (n : ℕ) (v : Views) (g : Ghost) (r : Rule s w
       once = update_cases (λ _ cs. ListedOnce cs) v.claims j (claim x m Claimed ∷ v.claims j) (once_more (v.claims j) x m Claimed (λ a q h. not_open j a q (sym (r.claims.held j x a q h) ∙ open_)) (r.once j)) (λ i _. r.once i);
       holders = λ z i a p h. ⊎_elim (λ t. inr (ap v.kind t.1 ∙ kind)) (λ t. r.holders z i a p t.1) (back z i a p h);
       hand = r.hand;
+      grows = r.grows;
+      retireds = r.retireds;
+      frees = r.frees;
+      known = known_opens g.life g.stage v.ruling.placed x new open_ r.known;
+      kept = r.kept;
+      early = r.early;
     }
       where
         second_below : (y : ℕ) → y + 1 ≡ m → y < places s

@@ -1,7 +1,7 @@
 -- A draw.
-use Rattle.std.proofs.Common.{◌≡◌, ◌≢◌, ℕ, ◌+◌, ◌<◌, ◌≤◌, Bool, false, [], ◌∷◌, ◌⊎◌, refl, sym, ap, ◌∙◌, subst, inl, inr, ⊎_elim, arith}
+use Rattle.std.proofs.Common.{◌≡◌, ◌≢◌, ℕ, ◌+◌, ◌<◌, ◌≤◌, Bool, false, List, [], ◌∷◌, ◌⊎◌, refl, sym, ap, ◌∙◌, subst, inl, inr, ⊎_elim, arith}
 use mathlib.Core.Logic.{dite}
-use native.Mathlib.Decide.{ℕ_discrete}
+use native.Mathlib.Decide.{ℕ_discrete, dec_lt}
 use Rattle.mesh_words.specs.Setup.{Setup, places}
 use Rattle.mesh_words.specs.Functions.{update}
 use Rattle.mesh_words.specs.Words.{Words, Node}
@@ -18,7 +18,6 @@ use Rattle.mesh_state.specs.Bisections.{MayRead}
 use Rattle.mesh_state.specs.Sure.{GuardsBlock, GuardsHead, SureRule}
 use Rattle.mesh_state.specs.Work.{WorkRule, WalkRule}
 use Rattle.mesh_state.proofs.Lists.{plan_update, crew_goes, number_kept}
-use Rattle.mesh_state.proofs.Lawful.{uses_block}
 use Rattle.mesh_state.specs.Rule.{Rule}
 use Rattle.mesh_state.specs.Inside.{ListedOnce}
 use Rattle.mesh_state.proofs.Inside.{inside_goes, inside_life, inside_block, labels_on, once_moved}
@@ -27,6 +26,9 @@ use Rattle.mesh_state.proofs.HeldClaims.{not_open, held_one, free_not, free_loos
 use Rattle.mesh_state.proofs.Across.{Went, first_half}
 use Rattle.mesh_steps.proofs.SureWords.{sure_on, retired_on}
 use Rattle.mesh_steps.proofs.Publishing.{Label}
+use Rattle.mesh_state.specs.Owner.{FreeRule}
+use Rattle.mesh_state.proofs.Known.{claim_other, draw_other, kept_on, retireds_on, grows_same}
+use Rattle.mesh_state.specs.Work.{GrownRule}
 
 module _ (s : Setup) (w : Words) (n : ℕ) (v : Views) (g : Ghost) (r : Rule s w n v g) where
   abbrev d : ℕ
@@ -48,7 +50,7 @@ module _ (s : Setup) (w : Words) (n : ℕ) (v : Views) (g : Ghost) (r : Rule s w
 
     module _ (q : Progress) (life : ℕ → Life) (used : (b : ℕ) → uses q ≡ b + 1 → (b ≡ w.row w.cursor) × (w.cursor < w.free) × (q ≡ Drawn b))
         (shape : Shape w.round w.head w.born life x m q) (drawn : draws q ≡ 1) (unlinked : (b : ℕ) → linked q ≡ b + 1 → ⊥) (not_half : (b : ℕ) → q ≡ Half b → ⊥) (not_whole : (b : ℕ) → q ≡ Whole b → ⊥) (not_living : (b : ℕ) → q ≡ Living b → ⊥)
-        (same_life : (c : ℕ) → (g.life c ≡ Free → ⊥) → life c ≡ g.life c) (back_life : (c y k : ℕ) → life c ≡ Placed y k → g.life c ≡ Placed y k) (undone_life : (c y k : ℕ) → life c ≡ Undone y k → g.life c ≡ Undone y k) (free_life : (i : ℕ) → w.cursor < i → i < w.free → life (w.row i) ≡ Free) (left_life : (c : ℕ) → g.life c ≡ Free → (life c ≡ Free) ⊎ ((w.cursor < w.free) × (w.row w.cursor ≡ c))) (e : ℕ) (below : w.cursor < w.free → e ≡ w.row w.cursor + 1) (above : w.free ≤ w.cursor → e ≡ 0) (beyond : (c : ℕ) → s.pool ≤ c → life c ≡ Free) (idle : (c : ℕ) → IsUnborn w.round (w.born c) (w.died c) (life c)) where
+        (same_life : (c : ℕ) → (g.life c ≡ Free → ⊥) → life c ≡ g.life c) (back_life : (c y k : ℕ) → life c ≡ Placed y k → g.life c ≡ Placed y k) (undone_life : (c y k : ℕ) → life c ≡ Undone y k → g.life c ≡ Undone y k) (free_life : (i : ℕ) → w.cursor < i → i < w.free → life (w.row i) ≡ Free) (left_life : (c : ℕ) → g.life c ≡ Free → (life c ≡ Free) ⊎ ((w.cursor < w.free) × (w.row w.cursor ≡ c))) (e : ℕ) (below : w.cursor < w.free → e ≡ w.row w.cursor + 1) (above : w.free ≤ w.cursor → e ≡ 0) (beyond : (c : ℕ) → s.pool ≤ c → life c ≡ Free) (idle : (c : ℕ) → IsUnborn w.round (w.born c) (w.died c) (life c)) (hand_life : (c : ℕ) → HasEntry v.ruling.hand c → life c ≡ Free) (frees : FreeRule s.pool (w.cursor + 1) w.free w.row w.born life v.ruling.hand v.ruling.low v.ruling.high) (loose_life : (c u : ℕ) → life c ≡ Loose u → (g.life c ≡ Loose u) ⊎ ((u ≡ x + 1) × (q ≡ Drawn c))) (of : block_of q ≡ e) where
       abbrev stage' : ℕ → Stage
       stage' = update g.stage x (Held j m q)
 
@@ -88,6 +90,7 @@ module _ (s : Setup) (w : Words) (n : ℕ) (v : Views) (g : Ghost) (r : Rule s w
         stays = λ q c t y k _ u. chain c t y u;
         fresh = λ q c t y k _ u. back_chain c t y u;
         stand = λ q c t y k a u. stand c t y u;
+        later = λ b t x u. omega arith;
         alive = λ q b t x l u a. a;
       }
 
@@ -137,7 +140,7 @@ module _ (s : Setup) (w : Words) (n : ℕ) (v : Views) (g : Ghost) (r : Rule s w
         walks = update_cases (λ i u. WalkRule s w.round v.ruling.phase w.name w.hist w.born w.died life g.who (v.kind i) i u) v.work j noted (let u = walker j in record { still = u.still; only = u.only; half = u.half; at_work = u.at_work; retired_in = u.retired_in; absent = u.absent; stood = u.stood; had = u.had; went = u.went; walk = u.walk; sided = u.sided }) (λ i _. walker i);
         goes = λ i. goes_on s w.name w.name w.head w.hist w.head w.hist w.born w.died w.born w.died g.life life (λ _ _ _ _ _. refl) w.round v.ruling.phase g.who v.read Can A moves (λ a p e. (inl (inr (a, e)), r.pins.past a p e)) (λ a p c e h x. (inl (a, e, h), x)) (λ p t. r.names.fits p t) i (r.goes i);
         rules = r.rules;
-        stock = let k = r.stock in record { finished = k.finished; cursor_is = λ i e. absurd ((k.cursor_is i e).0 one); free_is = k.free_is; left = k.left; never = λ c l. ⊎_elim (λ e. ⊎_elim inl (λ t. inr (w.cursor, omega arith, t.0, t.1)) (left_life c e)) (λ t. let u = t.1 in inr (t.0, omega arith, t.2, t.3)) (k.never c l) };
+        stock = let k = r.stock in record { finished = k.finished; cursor_is = λ i e. absurd ((k.cursor_is i e).0 one); free_is = k.free_is; left = k.left };
         note = record { undone = λ c h. let t = r.note.undone c h in (t.0, t.1, same_life c (λ e. free_undone t.0 t.1 (sym e ∙ t.2)) ∙ t.2); all = λ c y k h. r.note.all c y k (undone_life c y k h); placed = λ c y k h. ⊎_elim (λ e. inl (same_life c (λ f. free_not y k (sym f ∙ e)) ∙ e)) (λ e. inr (same_life c (λ f. free_undone y k (sym f ∙ e)) ∙ e)) (r.note.placed c y k h); seen = r.note.seen; quiet = r.note.quiet };
         retired = retired_on w.round w.died life v.work (update v.work j noted) v.ruling.retired (update_cases (λ i u. u.retired ≡ (v.work i).retired) v.work j noted refl (λ _ _. refl)) (λ c y k h e. r.retired c y k (back_life c y k h) e);
         plan = plan_update s w.round v.ruling.phase g.who v.kind v.work v.ruling.plan j noted refl r.plan;
@@ -149,15 +152,25 @@ module _ (s : Setup) (w : Words) (n : ℕ) (v : Views) (g : Ghost) (r : Rule s w
           apart = λ a c i b f h l. ⊎_elim (λ t. ⊎_elim (λ u. t.0 ∙ sym u.0) (λ u. let z = (r.drawn.drawn c i f u).1 in let y = t.1 in absurd (omega arith)) (whose c i f l))
               (λ t. ⊎_elim (λ u. let z = (r.drawn.drawn a i b t).1 in let y = u.1 in absurd (omega arith)) (λ u. r.drawn.apart a c i b f t u) (whose c i f l)) (whose a i b h);
         };
-        draws = λ z i k b p a h f. ⊎_elim
-            (λ t. let u = used b (uses_block q b (sym (ap block_of t.3) ∙ f)) in let more = below u.1 in let same : e ≡ b + 1 = more ∙ ap (λ (y : ℕ). y + 1) (sym u.0) in (w.cursor, drawn_at i t.1 w.cursor (b + 1) (inl (λ y. (w.cursor, sym same y)))))
-            (λ t. let u = r.draws z i k b p a t.1 f in (u.0, drawn_on i u.0 (b + 1) u.1)) (back z i k p h);
+        draws = λ z i k p a h f. ⊎_elim
+            (λ t. (w.cursor, drawn_at i t.1 w.cursor (block_of p) (inl (λ y. (w.cursor, (ap block_of t.3 ∙ of) y)))))
+            (λ t. let u = r.draws z i k p a t.1 f in (u.0, drawn_on i u.0 (block_of p) u.1)) (back z i k p h);
         crew = crew_goes s w.round v.ruling.phase v.kind v.work (update v.work j noted) g.stage v.ruling.lone x j m q kind (number_kept v.work j noted refl) r.crew;
         inside = inside_goes s w.free w.row life g.stage v.ruling.hand v.ruling.retired x j m Claimed j q is (inside_life s w.free w.row g.life life g.stage v.ruling.hand v.ruling.retired beyond (λ c t y st. r.inside.stand_in c t y (back_stand c t y st)) r.inside);
         named = labels_on s w.name w.name w.head w.head w.hist w.hist g.life life (λ c t y st. (stand c t y st, refl)) back_stand back_chain (λ _ _. refl) (λ _ _ _ _. refl) (λ c y k u. r.named.patch c y k (undone_life c y k u)) r.named;
         once = update_cases (λ _ cs. ListedOnce cs) v.claims j (moved_on (v.claims j) x q) (once_moved (v.claims j) x q (r.once j)) (λ i _. r.once i);
         holders = λ z i k p h. ⊎_elim (λ t. inr (ap v.kind t.1 ∙ kind)) (λ t. r.holders z i k p t.1) (back z i k p h);
-        hand = λ c h. absurd ((r.hand c h).0 one);
+        hand = hand_life;
+        grows = update_cases (λ i u. GrownRule s w.round v.ruling.phase w.name w.born (g.who d) (v.kind i) i u) v.work j noted (grows_same s w.round v.ruling.phase w.name w.born (g.who d) (v.kind j) j (v.work j) noted refl (r.grows j)) (λ i _. r.grows i);
+        retireds = retireds_on w.round w.died w.died g.life life v.work (update v.work j noted) v.ruling.retired v.ruling.retired (λ c h. ⊎_elim (λ t. inl (t.0, subst (λ (l : List ℕ). HasEntry l c) (update_cases (λ i u. u.retired ≡ (v.work i).retired) v.work j noted refl (λ _ _. refl) t.0) t.1)) inr h) (λ c y k u _. (same_life c (λ e. free_not y k (sym e ∙ u)) ∙ u, refl)) r.retireds;
+        frees = frees;
+        known = record {
+          noted = λ c y k u. ⊎_elim inl (λ h. inr (claim_other g.stage x (Held j m q) c y k (λ a p f e. let z : Claimed ≡ p = (held_one j a m k Claimed p (sym is ∙ f)).2 in let y : 0 ≡ c + 1 = ap block_of z ∙ e in absurd (omega arith)) h)) (r.known.noted c y k (back_life c y k u));
+          undone = λ c y k u. r.known.undone c y k (undone_life c y k u);
+          loose = λ c u e. ⊎_elim (λ f. draw_other g.stage x (Held j m q) c u (λ a k h. claimed_not_drawn c (held_one j a m k Claimed (Drawn c) (sym is ∙ h)).2) (r.known.loose c u f)) (λ t. (x, j, m, t.0, update_same g.stage x (Held j m q) ∙ ap (Held j m) t.1)) (loose_life c u e);
+        };
+        kept = kept_on w.round w.died w.died g.life life v.ruling.kept (λ c y k u _ _. (back_life c y k u, refl)) (λ c y k u _ _. (same_life c (λ e. free_not y k (sym e ∙ u)) ∙ u, refl)) r.kept;
+        early = r.early;
       }
         where
           walker : (i : ℕ) → WalkRule s w.round v.ruling.phase w.name w.hist w.born w.died life g.who (v.kind i) i (v.work i)
@@ -192,6 +205,9 @@ module _ (s : Setup) (w : Words) (n : ℕ) (v : Views) (g : Ghost) (r : Rule s w
           claimed_not_living : (b : ℕ) → Claimed ≡ Living b → ⊥
           claimed_not_living b e = cc
 
+          claimed_not_drawn : (b : ℕ) → Claimed ≡ Drawn b → ⊥
+          claimed_not_drawn b e = cc
+
           claimed_not_half : (b : ℕ) → Claimed ≡ Half b → ⊥
           claimed_not_half b e = cc
 
@@ -217,7 +233,23 @@ module _ (s : Setup) (w : Words) (n : ℕ) (v : Views) (g : Ghost) (r : Rule s w
         (λ c e. dite (ℕ_discrete c b) (λ k. inr (l, sym k)) (λ o. inl (update_other g.life b c (Loose (x + 1)) o ∙ e)))
         (w.row w.cursor + 1) (λ _. refl) (λ a. absurd (omega arith)) (inside_block s g.life b (Loose (x + 1)) (r.inside.rows w.cursor l) r.inside.blocks)
         (λ c. dite (ℕ_discrete c b) (λ k. subst (IsUnborn w.round (w.born c) (w.died c)) (sym (update_at g.life b c (Loose (x + 1)) k)) (ap w.born k ∙ f.1)) (λ o. subst (IsUnborn w.round (w.born c) (w.died c)) (sym (update_other g.life b c (Loose (x + 1)) o)) (r.chains.unborn c)))
+        (λ c h. update_other g.life b c (Loose (x + 1)) (λ (e : c ≡ b). r.frees.hand_rows c h (w.cursor, omega arith, l, sym e)) ∙ r.hand c h)
+        record {
+          all = λ c i e. let o : c ≢ b = λ (h : c ≡ b). free_loose (x + 1) (sym e ∙ update_at g.life b c (Loose (x + 1)) h) in ⊎_elim inl (λ t. ⊎_elim (λ t. let t1 = t.1 in let k : w.cursor ≢ t.0 = λ z. o (sym t.3 ∙ ap w.row (sym z)) in inr (inl (t.0, above w.cursor t.0 t.1 k, t.2, t.3))) (λ t. inr (inr t)) t) (r.frees.all c i (sym (update_other g.life b c (Loose (x + 1)) o) ∙ e));
+          hand_rows = λ c h t. let t1 = t.1 in r.frees.hand_rows c h (t.0, omega arith, t.2, t.3);
+          hand_stock = r.frees.hand_stock;
+          stocked = λ i a m. let z = r.frees.shut (omega arith) in absurd (omega arith);
+          once = r.frees.once;
+          shut = r.frees.shut;
+        }
+        (λ c u e. dite (ℕ_discrete c b) (λ k. let z : Loose (x + 1) ≡ Loose u = sym (update_at g.life b c (Loose (x + 1)) k) ∙ e in inr (loose_one u (x + 1) (sym z), ap Drawn (sym k))) (λ o. inl (sym (update_other g.life b c (Loose (x + 1)) o) ∙ e))) refl
       where
+        above : (a i : ℕ) → a ≤ i → a ≢ i → a + 1 ≤ i
+        above a i l o = elim (dec_lt a i) [ yes k ↦ omega arith | no k ↦ absurd (o (omega arith)) ]
+
+        loose_one : (a c : ℕ) → Loose a ≡ Loose c → a ≡ c
+        loose_one a c e = cc
+
         clash1 : (b c : ℕ) → Drawn b ≡ Half c → ⊥
         clash1 b c e = cc
 
@@ -232,7 +264,16 @@ module _ (s : Setup) (w : Words) (n : ℕ) (v : Views) (g : Ghost) (r : Rule s w
 
     -- it is not: the round is full
     pub draws_none : w.free ≤ w.cursor → Rule s (record w { cursor = w.cursor + 1 }) n (record v { claims = update v.claims j (moved_on (v.claims j) x Failed); work = update v.work j (record (v.work j) { drawn = (w.cursor, 0) ∷ (v.work j).drawn }); sure = update v.sure j unsure }) (record g { stage = update g.stage x (Held j m Failed); life = g.life })
-    draws_none l = draws_any Failed g.life (λ c e. absurd (omega arith)) tt refl (λ c e. absurd (omega arith)) (λ c e. clash1 c e) (λ c e. clash2 c e) (λ c e. clash3 c e) (λ _ _. refl) (λ _ _ _ u. u) (λ _ _ _ u. u) (λ i a m. absurd (omega arith)) (λ c e. inl e) 0 (λ a. absurd (omega arith)) (λ _. refl) r.inside.blocks r.chains.unborn
+    draws_none l = draws_any Failed g.life (λ c e. absurd (omega arith)) tt refl (λ c e. absurd (omega arith)) (λ c e. clash1 c e) (λ c e. clash2 c e) (λ c e. clash3 c e) (λ _ _. refl) (λ _ _ _ u. u) (λ _ _ _ u. u) (λ i a m. absurd (omega arith)) (λ c e. inl e) 0 (λ a. absurd (omega arith)) (λ _. refl) r.inside.blocks r.chains.unborn r.hand
+        record {
+          all = λ c i e. ⊎_elim inl (λ t. ⊎_elim (λ t. let t1 = t.1 in let t2 = t.2 in absurd (omega arith)) (λ t. inr (inr t)) t) (r.frees.all c i e);
+          hand_rows = λ c h t. let t1 = t.1 in let t2 = t.2 in absurd (omega arith);
+          hand_stock = r.frees.hand_stock;
+          stocked = r.frees.stocked;
+          once = r.frees.once;
+          shut = r.frees.shut;
+        }
+        (λ c u e. inl e) refl
       where
         clash1 : (c : ℕ) → Failed ≡ Half c → ⊥
         clash1 c e = cc

@@ -23,6 +23,7 @@ use Rattle.mesh_state.proofs.HeldClaims.{held_one, uses, shape_on, one_user}
 use Rattle.mesh_state.proofs.Across.{Of, Went, some_worker, first_half}
 use Rattle.mesh_steps.proofs.SureWords.{not_kid}
 use Rattle.mesh_steps.proofs.Publishing.{member}
+use Rattle.mesh_state.proofs.Known.{kept_on, retireds_on, grows_off}
 
 -- the block of a claim that has linked it
 linked_placed : (round : ℕ) (head : ℕ → Node) (born : ℕ → ℕ) (life : ℕ → Life) (z m : ℕ) (p : Progress) (c : ℕ) → Shape round head born life z m p → linked p ≡ c + 1 → life c ≡ Placed z m
@@ -123,6 +124,12 @@ module _ (s : Setup) (w : Words) (n : ℕ) (v : Views) (g : Ghost) (r : Rule s w
       once = r.once;
       holders = r.holders;
       hand = r.hand;
+      grows = λ i. grows_off s w.round v.ruling.phase w.name w.born name' w.born (g.who d) (g.who d) (v.kind i) i (v.work i) (v.work i) (λ e. let z = one in omega arith) refl (r.grows i);
+      retireds = retireds_on w.round w.died died' g.life g.life v.work v.work v.ruling.retired v.ruling.retired (λ _ h. h) (λ c y k u _. (u, (off c (other c false y (ap (λ (l : Life). chained l false) u))).1)) r.retireds;
+      frees = r.frees;
+      known = r.known;
+      kept = kept_on w.round w.died died' g.life g.life v.ruling.kept (λ c y k u p l. (u, (off c (other c false y (ap (λ (l : Life). chained l false) u))).1)) (λ c y k u p l. (u, (off c (other c false y (ap (λ (l : Life). chained l false) u))).1)) r.kept;
+      early = r.early;
     }
 
   off_member : {B : Type 0} (f : ℕ → B) (t : Bool) (a : B) (c : ℕ) → c ≢ b → (i : Bool) → update f (member_of b t) a (member_of c i) ≡ f (member_of c i)
@@ -208,6 +215,12 @@ module _ (s : Setup) (w : Words) (n : ℕ) (v : Views) (g : Ghost) (r : Rule s w
         once = r.once;
         holders = r.holders;
         hand = r.hand;
+        grows = r.grows;
+        retireds = r.retireds;
+        frees = r.frees;
+        known = r.known;
+        kept = r.kept;
+        early = r.early;
       }
     where
       -- a claim's places are no places of the block's children

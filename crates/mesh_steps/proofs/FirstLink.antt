@@ -27,6 +27,8 @@ use Rattle.mesh_state.proofs.Across.{Went, Of, some_worker, first_half, name_one
 use Rattle.mesh_steps.proofs.SureWords.{sure_on, block_back, head_back, not_kid}
 use Rattle.mesh_steps.proofs.Publishing.{Label, member, own_place, unmet_member}
 use Rattle.mesh_state.proofs.HeldClaims as held
+use Rattle.mesh_state.specs.Owner.{HasClaim}
+use Rattle.mesh_state.proofs.Known.{claim_other, draw_other, frees_on, kept_on, retireds_on}
 
 module _ (s : Setup) (w : Words) (n : ℕ) (v : Views) (g : Ghost) (r : Rule s w n v g) where
   abbrev d : ℕ
@@ -149,13 +151,13 @@ module _ (s : Setup) (w : Words) (n : ℕ) (v : Views) (g : Ghost) (r : Rule s w
       walks = λ i. workers_on s w.name w.name w.head w.hist head' w.hist w.born w.died w.born w.died g.life life' (λ _ _ _ _ _. refl) w.round v.ruling.phase g.who v.read Can A step_chains.1 (inl (inl refl)) (r.names.fits w.round (inl (inl refl))) (λ e. r.names.fits d (inr (refl, omega arith))) (v.kind i) i (v.work i) (λ b k h x. (inr (i, k, refl, h), x)) (r.walks i);
       goes = λ i. goes_on s w.name w.name w.head w.hist head' w.hist w.born w.died w.born w.died g.life life' (λ _ _ _ _ _. refl) w.round v.ruling.phase g.who v.read Can A step_chains.1 (λ a p e. (inl (inr (a, e)), r.pins.past a p e)) (λ a p c e h x. (inl (a, e, h), x)) (λ p t. r.names.fits p t) i (r.goes i);
       rules = r.rules;
-      stock = let k = r.stock in record { finished = k.finished; cursor_is = k.cursor_is; free_is = k.free_is; left = k.left; never = λ c l. ⊎_elim (λ e. inl (off c (λ (f : c ≡ b). free_loose (x + 1) (sym e ∙ ap g.life f ∙ shape.0)) ∙ e)) inr (k.never c l) };
+      stock = let k = r.stock in record { finished = k.finished; cursor_is = k.cursor_is; free_is = k.free_is; left = k.left };
       note = record { undone = λ c h. let t = r.note.undone c h in (t.0, t.1, off c (λ (f : c ≡ b). loose_undone (x + 1) t.0 t.1 (sym shape.0 ∙ ap g.life (sym f) ∙ t.2)) ∙ t.2); all = λ c y k h. dite (ℕ_discrete c b) (λ e. absurd (placed_undone x m y k (sym (update_at g.life b c (Placed x m) e) ∙ h))) (λ o. r.note.all c y k (sym (off c o) ∙ h)); placed = λ c y k h. ⊎_elim (λ e. inl (off c (λ (f : c ≡ b). loose_not (x + 1) y k (sym shape.0 ∙ ap g.life (sym f) ∙ e)) ∙ e)) (λ e. inr (off c (λ (f : c ≡ b). loose_undone (x + 1) y k (sym shape.0 ∙ ap g.life (sym f) ∙ e)) ∙ e)) (r.note.placed c y k h); seen = r.note.seen; quiet = r.note.quiet };
       retired = λ c y i u e. ⊎_elim (λ t. let f : w.died c ≡ w.died b = ap w.died t.0 in let z = (r.sure j).died_is b 0 died guard in absurd (omega arith)) (λ t. r.retired c y i t.1 e) (back c y i u);
       plan = r.plan;
       history = r.history;
       drawn = r.drawn;
-      draws = draws_goes v.ruling.phase v.work g.stage x j m (Drawn b) q is (λ c e. ⊎_elim (λ f. sym (ap block_of f) ∙ e) (λ f. sym (ap block_of f.0) ∙ e) how) r.draws;
+      draws = draws_goes v.ruling.phase v.work g.stage x j m (Drawn b) q is (λ _. (refl, ⊎_elim (λ f. ap block_of f) (λ f. ap block_of f.0) how)) r.draws;
       crew = crew_goes s w.round v.ruling.phase v.kind v.work v.work g.stage v.ruling.lone x j m q kind (λ _. refl) r.crew;
       inside = inside_goes s w.free w.row life' g.stage v.ruling.hand v.ruling.retired x j m (Drawn b) j q is (inside_life s w.free w.row g.life life' g.stage v.ruling.hand v.ruling.retired (inside_block s g.life b (Placed x m) in_pool r.inside.blocks) stand_in r.inside);
       named = record {
@@ -174,7 +176,18 @@ module _ (s : Setup) (w : Words) (n : ℕ) (v : Views) (g : Ghost) (r : Rule s w
       };
       once = update_cases (λ _ cs. ListedOnce cs) v.claims j (moved_on (v.claims j) x q) (once_moved (v.claims j) x q (r.once j)) (λ i _. r.once i);
       holders = λ z i c p h. dite (ℕ_discrete z x) (λ f. let t = (held_one j i m c q p (sym (update_at g.stage x z (Held j m q) f) ∙ h)).0 in inr (ap v.kind (sym t) ∙ kind)) (λ o. r.holders z i c p (sym (update_other g.stage x z (Held j m q) o) ∙ h));
-      hand = λ c h. absurd ((r.hand c h).0 one);
+      hand = λ c h. let e = r.hand c h in off c (λ (f : c ≡ b). free_loose (x + 1) (sym e ∙ ap g.life f ∙ shape.0)) ∙ e;
+      grows = r.grows;
+      retireds = retireds_on w.round w.died w.died g.life life' v.work v.work v.ruling.retired v.ruling.retired (λ _ h. h) (λ c y k u _. (off c (λ (f : c ≡ b). loose_not (x + 1) y k (sym shape.0 ∙ ap g.life (sym f) ∙ u)) ∙ u, refl)) r.retireds;
+      frees = frees_on s.pool w.cursor w.free w.row w.born w.born g.life life' v.ruling.hand v.ruling.low v.ruling.high (λ c e. sym (off c (λ (f : c ≡ b). free_not x m (sym e ∙ update_at g.life b c (Placed x m) f))) ∙ e) (λ c e. (off c (λ (f : c ≡ b). free_loose (x + 1) (sym e ∙ ap g.life f ∙ shape.0)) ∙ e, λ z. z)) r.frees;
+      known = record {
+        noted = λ c y k u. ⊎_elim (λ t. inr (subst (λ (i : ℕ × ℕ × ℕ). HasClaim (update g.stage x (Held j m q)) i.0 i.1 i.2) (λ z. (sym t.0 z, sym t.1 z, sym t.2 z)) (j, q, update_same g.stage x (Held j m q), ⊎_elim (λ e. ap block_of e) (λ e. ap block_of e.0) how)))
+            (λ t. ⊎_elim inl (λ h. inr (claim_other g.stage x (Held j m q) c y k (λ a p f e. let z : Drawn b ≡ p = (held_one j a m k (Drawn b) p (sym is ∙ f)).2 in t.0 (one_more c b (sym e ∙ sym (ap block_of z)))) h)) (r.known.noted c y k t.1)) (back c y k u);
+        undone = λ c y k u. r.known.undone c y k (sym (off c (λ (e : c ≡ b). placed_undone x m y k (sym (update_at g.life b c (Placed x m) e) ∙ u))) ∙ u);
+        loose = λ c u e. let o : c ≢ b = λ (f : c ≡ b). loose_not u x m (sym e ∙ update_at g.life b c (Placed x m) f) in draw_other g.stage x (Held j m q) c u (λ a k h. let z : Drawn b ≡ Drawn c = (held_one j a m k (Drawn b) (Drawn c) (sym is ∙ h)).2 in o (one_more c b (sym (ap block_of z)))) (r.known.loose c u (sym (off c o) ∙ e));
+      };
+      kept = kept_on w.round w.died w.died g.life life' v.ruling.kept (λ c y k u p l. ⊎_elim (λ t. let f : w.died c ≡ w.died b = ap w.died t.0 in let z = (r.sure j).died_is b 0 died guard in absurd (omega arith)) (λ t. (t.1, refl)) (back c y k u)) (λ c y k u p l. (off c (λ (f : c ≡ b). loose_not (x + 1) y k (sym shape.0 ∙ ap g.life (sym f) ∙ u)) ∙ u, refl)) r.kept;
+      early = r.early;
     }
       where
         in_pool : b < s.pool

@@ -1,5 +1,5 @@
 -- A reader's pass ends, and the owner has its notes.
-use Rattle.std.proofs.Common.{◌≡◌, ◌≢◌, ℕ, ◌+◌, ◌<◌, ◌≤◌, cond, Bool, ◌++◌, refl, sym, ap, ◌∙◌, inl, inr, ⊎_elim, arith, eq-eqb, ne_eqb}
+use Rattle.std.proofs.Common.{◌≡◌, ◌≢◌, ℕ, ◌+◌, ◌<◌, ◌≤◌, cond, Bool, ◌++◌, ◌⊎◌, refl, sym, ap, ◌∙◌, inl, inr, ⊎_elim, arith, eq-eqb, ne_eqb}
 use mathlib.Core.Logic.{dite}
 use native.Mathlib.Decide.{ℕ_discrete, dec_lt}
 use Rattle.mesh_words.specs.Setup.{Setup}
@@ -19,6 +19,8 @@ use Rattle.mesh_state.specs.Sure.{SureRule}
 use Rattle.mesh_state.specs.Rule.{Rule}
 use Rattle.mesh_state.proofs.FoundAgain.{still_not}
 use Rattle.mesh_state.proofs.Lists.{plan_on, history_read}
+use Rattle.mesh_state.specs.Owner.{is_early}
+use Rattle.mesh_state.proofs.Known.{early_one, early_late, early_none}
 
 module _ (s : Setup) (w : Words) (n : ℕ) (v : Views) (g : Ghost) (r : Rule s w n v g) (j : ℕ) (far : j ≢ 0) (kind : v.kind j ≡ 2) (none : (v.read j).pin ≡ 0) where
   abbrev own : Read
@@ -40,6 +42,12 @@ module _ (s : Setup) (w : Words) (n : ℕ) (v : Views) (g : Ghost) (r : Rule s w
   kind_sum : (k : ℕ) → sum_below n (λ i. one_where (update v.kind j 0 i) k) + one_where (v.kind j) k ≡ sum_below n (λ i. one_where (v.kind i) k) + one_where 0 k
   kind_sum k = sum_update n (λ i. one_where (v.kind i) k) (λ i. one_where (update v.kind j 0 i) k) j inside (λ i o. ap (λ (x : ℕ). one_where x k) (update_other v.kind j i 0 o)) ∙ ap (λ (x : ℕ). sum_below n (λ i. one_where (v.kind i) k) + one_where x k) (update_same v.kind j 0)
 
+  early_sum : sum_below n (λ i. is_early w.round (update v.kind j 0 i) (read' i)) + is_early w.round (v.kind j) (v.read j) ≡ sum_below n (λ i. is_early w.round (v.kind i) (v.read i)) + 0
+  early_sum = sum_update n (λ i. is_early w.round (v.kind i) (v.read i)) (λ i. is_early w.round (update v.kind j 0 i) (read' i)) j inside (λ i o. ap (λ (k : ℕ). is_early w.round k (read' i)) (update_other v.kind j i 0 o) ∙ others i o) ∙ ap (λ (k : ℕ). sum_below n (λ i. is_early w.round (v.kind i) (v.read i)) + k) (early_none w.round (update v.kind j 0 j) (read' j) (λ e. let z = update_same v.kind j 0 in omega arith))
+    where
+      others : (i : ℕ) → i ≢ j → is_early w.round (v.kind i) (read' i) ≡ is_early w.round (v.kind i) (v.read i)
+      others i o = ap (is_early w.round (v.kind i)) (update_other (update v.read 0 own) j i unread o) ∙ update_cases (λ i u. is_early w.round (v.kind i) u ≡ is_early w.round (v.kind i) (v.read i)) v.read 0 own refl (λ _ _. refl) i
+
   back : (q : ℕ) → MayRead w.round v.ruling.phase read' q → MayRead w.round v.ruling.phase v.read q
   back q (inr k) = inr k
   back q (inl (inl e)) = inl (inl e)
@@ -56,9 +64,9 @@ module _ (s : Setup) (w : Words) (n : ℕ) (v : Views) (g : Ghost) (r : Rule s w
   none_went ok = update_cases (λ _ x. (b : ℕ) → x.pin ≡ w.round + 1 → HasEntry x.went b → HasEntry v.ruling.undone b → ⊥) (update v.read 0 own) j unread (λ b p h m. absurd h)
       (λ i _. update_cases (λ _ x. (b : ℕ) → x.pin ≡ w.round + 1 → HasEntry x.went b → HasEntry v.ruling.undone b → ⊥) v.read 0 own (λ b p h m. ok 0 b p h m) (λ i _. ok i) i)
 
-  pub leaves : (readers : ℕ) → v.ruling.readers ≡ readers + 1
-      → Rule s w n (record v { kind = update v.kind j 0; sure = update v.sure j unsure; read = update (update v.read 0 (record (v.read 0) { notes = (v.read 0).notes ++ (v.read j).notes })) j unread; ruling = record v.ruling { readers = readers } }) g
-  leaves readers one = record {
+  pub leaves : (readers early : ℕ) → v.ruling.readers ≡ readers + 1 → (((v.read j).made < v.ruling.finished) × (v.ruling.early ≡ early + 1)) ⊎ ((v.ruling.finished ≤ (v.read j).made) × (v.ruling.early ≡ early))
+      → Rule s w n (record v { kind = update v.kind j 0; sure = update v.sure j unsure; read = update (update v.read 0 (record (v.read 0) { notes = (v.read 0).notes ++ (v.read j).notes })) j unread; ruling = record v.ruling { readers = readers; early = early } }) g
+  leaves readers early one which = record {
     names_apart = r.names_apart;
     claims = r.claims;
     labels = r.labels;
@@ -75,6 +83,7 @@ module _ (s : Setup) (w : Words) (n : ℕ) (v : Views) (g : Ghost) (r : Rule s w
       spent = update_cases (λ i u. update v.kind j 0 i ≡ 0 → u ≡ unread) (update v.read 0 own) j unread (λ _. refl)
           (λ i ne. update_cases (λ i u. i ≢ j → update v.kind j 0 i ≡ 0 → u ≡ unread) v.read 0 own (λ o e. let y = r.rules.owner.0 in let z = update_other v.kind j 0 0 o in absurd (omega arith)) (λ i _ o e. r.pins.spent i (sym (update_other v.kind j i 0 o) ∙ e)) i ne);
       bit = λ i. let a = ready_le i in let b = r.pins.bit i in omega arith;
+      most = r.pins.most;
       bound = let a = sum_le n (λ i. (read' i).ready) (λ i. (v.read i).ready) ready_le in let b = r.pins.bound in omega arith;
     };
     works = λ i. let t = r.works i in record { only = λ o z. t.only (λ k. o (dite (ℕ_discrete i j) (λ e. let y : v.kind i ≡ v.kind j = ap v.kind e in absurd (omega arith)) (λ f. update_other v.kind j i 0 f ∙ k))) z; found = t.found; known = t.known; open_ = t.open_; given = t.given };
@@ -83,9 +92,9 @@ module _ (s : Setup) (w : Words) (n : ℕ) (v : Views) (g : Ghost) (r : Rule s w
         record { head_is = λ z l f h. absurd f; hist_is = λ b t l f h. absurd f; died_is = λ b k f h. absurd f; name_is = λ b t k f h. absurd f; born_is = λ b k f h i. absurd f; row_is = λ b k f h i. absurd f }
         (λ i _. r.sure i);
     goes = update_cases (λ _ u. ReaderRule s w.round w.name w.hist w.born w.died g.life g.who u) (update v.read 0 own) j unread
-        record { went = λ q b p f. absurd f; walk = λ q p. tt; sided = λ q x k b t p h. absurd (still_not x k b t h); places = λ q x k p h. absurd h; yes_notes = λ k q h. absurd h; no_notes = λ k q h. absurd h }
+        record { went = λ q b p f. absurd f; walk = λ q p. tt; sided = λ q x k b t p h. absurd (still_not x k b t h); dated = λ q x k b t p h. absurd (still_not x k b t h); places = λ q x k p h. absurd h; yes_notes = λ k q h. absurd h; no_notes = λ k q h. absurd h }
         (λ i _. update_cases (λ _ u. ReaderRule s w.round w.name w.hist w.born w.died g.life g.who u) v.read 0 own
-        (let a = r.goes 0 in let b = r.goes j in record { went = a.went; walk = a.walk; sided = a.sided; places = a.places; yes_notes = λ k q h. ⊎_elim (λ t. a.yes_notes k q t) (λ t. b.yes_notes k q t) (entry_of_both (v.read 0).notes (v.read j).notes _ h); no_notes = λ k q h. ⊎_elim (λ t. a.no_notes k q t) (λ t. b.no_notes k q t) (entry_of_both (v.read 0).notes (v.read j).notes _ h) })
+        (let a = r.goes 0 in let b = r.goes j in record { went = a.went; walk = a.walk; sided = a.sided; dated = a.dated; places = a.places; yes_notes = λ k q h. ⊎_elim (λ t. a.yes_notes k q t) (λ t. b.yes_notes k q t) (entry_of_both (v.read 0).notes (v.read j).notes _ h); no_notes = λ k q h. ⊎_elim (λ t. a.no_notes k q t) (λ t. b.no_notes k q t) (entry_of_both (v.read 0).notes (v.read j).notes _ h) })
         (λ i _. r.goes i) i);
     rules = record {
       owner = (update_other v.kind j 0 0 (λ e. far (sym e)) ∙ r.rules.owner.0, r.rules.owner.1);
@@ -96,7 +105,7 @@ module _ (s : Setup) (w : Words) (n : ℕ) (v : Views) (g : Ghost) (r : Rule s w
       halves = r.rules.halves;
       clear = r.rules.clear;
     };
-    stock = record { finished = r.stock.finished; cursor_is = r.stock.cursor_is; free_is = r.stock.free_is; never = r.stock.never; left = r.stock.left };
+    stock = record { finished = r.stock.finished; cursor_is = r.stock.cursor_is; free_is = r.stock.free_is; left = r.stock.left };
     note = record { undone = r.note.undone; all = r.note.all; placed = r.note.placed; seen = λ x e. let t = r.note.seen x e in (t.0, t.1, t.2, λ f. none_went (t.3 f)); quiet = λ e. none_went (r.note.quiet e) };
     retired = r.retired;
     plan = plan_on s w.round v.ruling.phase g.who v.kind (update v.kind j 0) v.work v.work v.ruling.plan (λ i k. r.plan.same i (was i 1 (λ z. omega arith) k)) r.plan;
@@ -110,4 +119,12 @@ module _ (s : Setup) (w : Words) (n : ℕ) (v : Views) (g : Ghost) (r : Rule s w
     once = r.once;
     holders = λ x i m p h. ⊎_elim inl (λ k. inr (dite (ℕ_discrete i j) (λ e. let y : v.kind i ≡ v.kind j = ap v.kind e in absurd (omega arith)) (λ f. update_other v.kind j i 0 f ∙ k))) (r.holders x i m p h);
     hand = r.hand;
+    grows = λ i. record { only = λ o z. (r.grows i).only (kept_work i o) z; grown = (r.grows i).grown };
+    retireds = r.retireds;
+    frees = r.frees;
+    known = r.known;
+    kept = r.kept;
+    early = let a = early_sum in let b = r.early in let f = r.stock.finished in ⊎_elim
+        (λ t. let c = early_one w.round (v.kind j) (v.read j) kind (let l = t.0 in omega arith) in let e = t.1 in omega arith)
+        (λ t. let c = early_late w.round (v.kind j) (v.read j) (let l = t.0 in omega arith) in let e = t.1 in omega arith) which;
   }

@@ -25,6 +25,10 @@ use Rattle.mesh_state.proofs.Lists.{plan_on}
 use Rattle.mesh_state.specs.Fresh.{idle}
 use Rattle.mesh_steps.specs.OwnerSteps.{joined_work}
 use Rattle.mesh_steps.proofs.Pinning.{forgets}
+use Rattle.mesh_state.specs.Owner.{is_early}
+use Rattle.mesh_state.proofs.Known.{early_none}
+use Rattle.mesh_state.specs.Claims.{block_of}
+use Rattle.mesh_state.specs.Work.{GrownRule}
 
 abbrev pub moved : ℕ → Stage → Stage
 moved j Open = Open
@@ -74,11 +78,11 @@ module _ (s : Setup) (w : Words) (n : ℕ) (v : Views) (g : Ghost) (r : Rule s w
   kind_sum k = sum_update n (λ i. one_where (v.kind i) k) (λ i. one_where (update v.kind j 0 i) k) j inside (λ i o. ap (λ (x : ℕ). one_where x k) (update_other v.kind j i 0 o)) ∙ ap (λ (x : ℕ). sum_below n (λ i. one_where (v.kind i) k) + one_where x k) (update_same v.kind j 0)
 
   abbrev joined : Work
-  joined = record { half = 0; round = 0; number = 0; plan = no_plan; drawn = (v.work 0).drawn ++ (v.work j).drawn; found = (v.work 0).found ++ (v.work j).found; known = (v.work 0).known ++ (v.work j).known; open_ = (v.work 0).open_ ++ (v.work j).open_; given = (v.work 0).given ++ (v.work j).given; absent = (v.work 0).absent ++ (v.work j).absent; stood = (v.work 0).stood ++ (v.work j).stood; had = (v.work 0).had ++ (v.work j).had; retired = (v.work 0).retired ++ (v.work j).retired; went = []; walk = Still }
+  joined = record { half = 0; round = 0; number = 0; plan = no_plan; drawn = (v.work 0).drawn ++ (v.work j).drawn; found = (v.work 0).found ++ (v.work j).found; known = (v.work 0).known ++ (v.work j).known; open_ = (v.work 0).open_ ++ (v.work j).open_; given = (v.work 0).given ++ (v.work j).given; absent = (v.work 0).absent ++ (v.work j).absent; stood = (v.work 0).stood ++ (v.work j).stood; had = (v.work 0).had ++ (v.work j).had; grown = (v.work 0).grown ++ (v.work j).grown; retired = (v.work 0).retired ++ (v.work j).retired; went = []; walk = Still }
 
   -- the owner has the claims and the knowledge of both, and is sure of no word, where the pass has read nothing
   takes : v.read j ≡ unread → (workers : ℕ) → v.ruling.workers ≡ workers + 1
-      → Rule s w n (record v { kind = update v.kind j 0; claims = update (update v.claims 0 (v.claims 0 ++ v.claims j)) j []; work = update (update v.work 0 record { half = 0; round = 0; number = 0; plan = no_plan; drawn = (v.work 0).drawn ++ (v.work j).drawn; found = (v.work 0).found ++ (v.work j).found; known = (v.work 0).known ++ (v.work j).known; open_ = (v.work 0).open_ ++ (v.work j).open_; given = (v.work 0).given ++ (v.work j).given; absent = (v.work 0).absent ++ (v.work j).absent; stood = (v.work 0).stood ++ (v.work j).stood; had = (v.work 0).had ++ (v.work j).had; retired = (v.work 0).retired ++ (v.work j).retired; went = []; walk = Still }) j idle; sure = update (update v.sure 0 unsure) j unsure; ruling = record v.ruling { workers = workers; lone = 0 } }) (record g { stage = λ x. moved j (g.stage x) })
+      → Rule s w n (record v { kind = update v.kind j 0; claims = update (update v.claims 0 (v.claims 0 ++ v.claims j)) j []; work = update (update v.work 0 record { half = 0; round = 0; number = 0; plan = no_plan; drawn = (v.work 0).drawn ++ (v.work j).drawn; found = (v.work 0).found ++ (v.work j).found; known = (v.work 0).known ++ (v.work j).known; open_ = (v.work 0).open_ ++ (v.work j).open_; given = (v.work 0).given ++ (v.work j).given; absent = (v.work 0).absent ++ (v.work j).absent; stood = (v.work 0).stood ++ (v.work j).stood; had = (v.work 0).had ++ (v.work j).had; grown = (v.work 0).grown ++ (v.work j).grown; retired = (v.work 0).retired ++ (v.work j).retired; went = []; walk = Still }) j idle; sure = update (update v.sure 0 unsure) j unsure; ruling = record v.ruling { workers = workers; lone = 0 } }) (record g { stage = λ x. moved j (g.stage x) })
   takes spent workers one = record {
     names_apart = r.names_apart;
     claims = record {
@@ -104,7 +108,7 @@ module _ (s : Setup) (w : Words) (n : ℕ) (v : Views) (g : Ghost) (r : Rule s w
     labels = λ x i m p h. let k = was x i m p h in r.labels x k.0 m p k.1;
     chains = r.chains;
     names = r.names;
-    pins = record { now = r.pins.now; later = r.pins.later; count = r.pins.count; past = r.pins.past; few = λ i l. update_cases (λ i x. n ≤ i → x ≡ 0) v.kind j 0 (λ _. refl) (λ i _. r.pins.few i) i l; readers = λ i o. r.pins.readers i (λ k. o (update_other v.kind j i 0 (λ (e : i ≡ j). let z : v.kind i ≡ v.kind j = ap v.kind e in omega arith) ∙ k)); spent = λ i e. dite (ℕ_discrete i j) (λ f. ap v.read f ∙ spent) (λ o. r.pins.spent i (sym (update_other v.kind j i 0 o) ∙ e)); bit = r.pins.bit; bound = r.pins.bound };
+    pins = record { now = r.pins.now; later = r.pins.later; count = r.pins.count; past = r.pins.past; few = λ i l. update_cases (λ i x. n ≤ i → x ≡ 0) v.kind j 0 (λ _. refl) (λ i _. r.pins.few i) i l; readers = λ i o. r.pins.readers i (λ k. o (update_other v.kind j i 0 (λ (e : i ≡ j). let z : v.kind i ≡ v.kind j = ap v.kind e in omega arith) ∙ k)); spent = λ i e. dite (ℕ_discrete i j) (λ f. ap v.read f ∙ spent) (λ o. r.pins.spent i (sym (update_other v.kind j i 0 o) ∙ e)); bit = r.pins.bit; most = r.pins.most; bound = r.pins.bound };
     works = λ i. let K : ℕ → ℕ = update v.kind j 0 in two_at (λ i u. WorkRule s w.round v.ruling.phase w.name w.born w.died g.life (g.who (w.round + 1)) (K i) i u) v.work _ idle
         (let a = r.works 0 in let b = r.works j in record {
           only = λ _ z. absurd (z refl);
@@ -149,7 +153,7 @@ module _ (s : Setup) (w : Words) (n : ℕ) (v : Views) (g : Ghost) (r : Rule s w
       halves = λ a b. let z = r.rules.halves a b in omega arith;
       clear = r.rules.clear;
     };
-    stock = record { finished = r.stock.finished; cursor_is = r.stock.cursor_is; free_is = r.stock.free_is; never = r.stock.never; left = r.stock.left };
+    stock = record { finished = r.stock.finished; cursor_is = r.stock.cursor_is; free_is = r.stock.free_is; left = r.stock.left };
     note = record { undone = r.note.undone; all = r.note.all; placed = r.note.placed; seen = r.note.seen; quiet = r.note.quiet };
     retired = λ b x m u e. ⊎_elim (λ t. inl (moves_retired b t.0 t.1)) inr (r.retired b x m u e);
     plan = plan_on s w.round v.ruling.phase g.who v.kind (update v.kind j 0) v.work (update (update v.work 0 joined) j idle) v.ruling.plan (let K : ℕ → ℕ = update v.kind j 0 in two_at (λ i u. K i ≡ 1 → u.plan ≡ v.ruling.plan) v.work joined idle
@@ -161,15 +165,28 @@ module _ (s : Setup) (w : Words) (n : ℕ) (v : Views) (g : Ghost) (r : Rule s w
       apart = λ i k a b c h l. let t = whose i a b h in let u = whose k a c l in let e = r.drawn.apart t.1 u.1 a b c t.2 u.2 in
           ⊎_elim (λ x. ⊎_elim (λ y. sym x ∙ e ∙ y) (λ y. absurd (t.0 (sym x ∙ e ∙ y.1))) u.3) (λ x. ⊎_elim (λ y. absurd (u.0 (sym y ∙ sym e ∙ x.1))) (λ y. x.0 ∙ sym y.0) u.3) t.3;
     };
-    draws = λ x i m b p one e f. ⊎_elim (λ t. let u = r.draws x i m b p one t.1 f in (u.0, drawn_now i u.0 (b + 1) u.1 t.0)) (λ t. let u = r.draws x j m b p one t.1 f in (u.0, subst (λ (c : ℕ). HasEntry (update (update v.work 0 joined) j idle c).drawn (u.0, b + 1)) (sym t.0) (own_now u.0 (b + 1) (entry_right (v.work 0).drawn (v.work j).drawn (u.0, b + 1) u.1)))) (moved_back j (g.stage x) i m p e);
+    draws = λ x i m p one e f. ⊎_elim (λ t. let u = r.draws x i m p one t.1 f in (u.0, drawn_now i u.0 (block_of p) u.1 t.0)) (λ t. let u = r.draws x j m p one t.1 f in (u.0, subst (λ (c : ℕ). HasEntry (update (update v.work 0 joined) j idle c).drawn (u.0, block_of p)) (sym t.0) (own_now u.0 (block_of p) (entry_right (v.work 0).drawn (v.work j).drawn (u.0, block_of p) u.1)))) (moved_back j (g.stage x) i m p e);
     crew = let K : ℕ → ℕ = update v.kind j 0 in record { rounds = r.crew.rounds; alone = λ i one k z. absurd (last i one k z); none = λ i one l k z. last i one k z };
     inside = record { few = r.inside.few; rows = r.inside.rows; blocks = r.inside.blocks; stand_in = r.inside.stand_in; seconds = λ x i y p h. let k = was x i (y + 1) p h in r.inside.seconds x k.0 y p k.1; hand_in = r.inside.hand_in; retired_in = r.inside.retired_in };
     named = r.named;
     once = two_at (λ _ cs. ListedOnce cs) v.claims (v.claims 0 ++ v.claims j) [] (once_both (v.claims 0) (v.claims j) (λ x m k p q a b. far (sym (held_one 0 j m k p q (sym (r.claims.held 0 x m p a) ∙ r.claims.held j x k q b)).0)) (r.once 0) (r.once j)) tt (λ i _ _. r.once i);
     holders = λ x i m p h. ⊎_elim (λ t. ⊎_elim inl (λ k. inr (update_other v.kind j i 0 t.0 ∙ k)) (r.holders x i m p t.1)) (λ t. inl t.0) (moved_back j (g.stage x) i m p h);
     hand = r.hand;
+    grows = λ i. let K : ℕ → ℕ = update v.kind j 0 in two_at (λ i u. GrownRule s w.round v.ruling.phase w.name w.born (g.who (w.round + 1)) (K i) i u) v.work joined idle record { only = λ _ z. absurd (z refl); grown = λ x k h. ⊎_elim (λ t. (r.grows 0).grown x k t) (λ t. (r.grows j).grown x k t) (entry_of_both (v.work 0).grown (v.work j).grown (x, k) h) } record { only = λ _ _. refl; grown = λ x k h. absurd h } (λ i a b. record { only = λ o. (r.grows i).only (λ k. o (update_other v.kind j i 0 b ∙ k)); grown = (r.grows i).grown }) i;
+    retireds = λ b h. r.retireds b (⊎_elim (λ t. inl (was_retired b t.0 t.1)) inr h);
+    frees = r.frees;
+    known = record {
+      noted = λ b x m u. ⊎_elim inl (λ h. let k = now x h.0 m h.1 h.2 in inr (k.0, h.1, k.1, h.3)) (r.known.noted b x m u);
+      undone = r.known.undone;
+      loose = λ b u e. let h = r.known.loose b u e in let k = now h.0 h.1 h.2 (Drawn b) h.4 in (h.0, k.0, h.2, h.3, k.1);
+    };
+    kept = r.kept;
+    early = r.early ∙ sym (sum_same n (λ i. is_early w.round (v.kind i) (v.read i)) (λ i. is_early w.round (update v.kind j 0 i) (v.read i)) (λ i _. dite (ℕ_discrete i j) (λ e. early_none w.round (update v.kind j 0 i) (v.read i) (λ f. let z = update_at v.kind j i 0 e in omega arith) ∙ sym (early_none w.round (v.kind i) (v.read i) (λ f. let z : v.kind i ≡ v.kind j = ap v.kind e in omega arith))) (λ o. ap (λ (k : ℕ). is_early w.round k (v.read i)) (update_other v.kind j i 0 o))));
   }
     where
+      was_retired : (b i : ℕ) → HasEntry (update (update v.work 0 joined) j idle i).retired b → (k : ℕ) × HasEntry (v.work k).retired b
+      was_retired b = two_at (λ i u. HasEntry u.retired b → (k : ℕ) × HasEntry (v.work k).retired b) v.work joined idle (λ h. ⊎_elim (λ t. (0, t)) (λ t. (j, t)) (entry_of_both (v.work 0).retired (v.work j).retired b h)) (λ h. absurd h) (λ i _ _ h. (i, h))
+
       -- no pass of worker 0 is left: it was alone
       last : (i : ℕ) → v.ruling.phase ≡ 1 → update v.kind j 0 i ≡ 1 → (update (update v.work 0 joined) j idle i).number ≡ 0 → ⊥
       last i one k z = dite (ℕ_discrete i j) (λ e. let y = update_at v.kind j i 0 e in omega arith) (λ o. dite (ℕ_discrete i 0)

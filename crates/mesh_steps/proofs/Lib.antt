@@ -15,6 +15,7 @@ pub mod Phases
 pub mod Splitting
 pub mod JoiningWorkers
 pub mod JoiningReaders
+pub mod EmptySeats
 pub mod Sweeping
 pub mod TakingBack
 pub mod StepsKeep
@@ -22,3 +23,4 @@ pub mod Local
 pub mod Reuse
 pub mod Onward
 pub mod OnwardRounds
+pub mod OnwardSweeps

@@ -1,6 +1,6 @@
 -- What a seat learns of a word that it loads.
 use Rattle.mesh_words.specs.Claims.{Living, claim}
-use Rattle.std.proofs.Common.{◌≡◌, inl, ℕ, ◌+◌, ◌<◌, ◌≤◌, ◌∷◌, refl, sym, ap, ◌∙◌, subst, ⊎_elim, arith}
+use Rattle.std.proofs.Common.{◌≡◌, inl, inr, ℕ, ◌+◌, ◌<◌, ◌≤◌, ◌∷◌, refl, sym, ap, ◌∙◌, subst, ⊎_elim, arith}
 use Rattle.mesh_words.specs.Setup.{Setup}
 use Rattle.mesh_words.specs.Functions.{update}
 use Rattle.mesh_words.specs.Words.{Words}
@@ -12,12 +12,12 @@ use Rattle.mesh_words.proofs.Functions.{update_cases}
 use Rattle.mesh_words.proofs.Sums.{one_if, summand}
 use Rattle.mesh_state.specs.Ghosts.{Free, Placed, Ghost}
 use Rattle.mesh_state.specs.Sure.{SureRule}
-use Rattle.mesh_state.specs.Owner.{OwnerRule, StockRule, NoteRule}
+use Rattle.mesh_state.specs.Owner.{FreeRule, OwnerRule, StockRule, NoteRule}
 use Rattle.mesh_state.specs.Rule.{Rule}
 
 module _ (s : Setup) (w : Words) (n : ℕ) (v : Views) (g : Ghost) (r : Rule s w n v g) where
   learns_sure : (j : ℕ) (u : Sure) → SureRule s.elements v.ruling.workers w.head w.hist w.born w.died w.name w.row g.stage j u → Rule s w n (record v { sure = update v.sure j u }) g
-  learns_sure j u ok = record { names_apart = r.names_apart; claims = r.claims; labels = r.labels; chains = r.chains; names = r.names; pins = r.pins; works = r.works; walks = r.walks; sure = update_cases (λ i x. SureRule s.elements v.ruling.workers w.head w.hist w.born w.died w.name w.row g.stage i x) v.sure j u ok (λ i _. r.sure i); goes = r.goes; rules = r.rules; stock = r.stock; note = r.note; retired = r.retired; plan = r.plan; history = r.history; drawn = r.drawn; draws = r.draws; crew = r.crew; inside = r.inside; named = r.named; once = r.once; holders = r.holders; hand = r.hand }
+  learns_sure j u ok = record { names_apart = r.names_apart; claims = r.claims; labels = r.labels; chains = r.chains; names = r.names; pins = r.pins; works = r.works; walks = r.walks; sure = update_cases (λ i x. SureRule s.elements v.ruling.workers w.head w.hist w.born w.died w.name w.row g.stage i x) v.sure j u ok (λ i _. r.sure i); goes = r.goes; rules = r.rules; stock = r.stock; note = r.note; retired = r.retired; plan = r.plan; history = r.history; drawn = r.drawn; draws = r.draws; crew = r.crew; inside = r.inside; named = r.named; once = r.once; holders = r.holders; hand = r.hand; grows = r.grows; retireds = r.retireds; frees = r.frees; known = r.known; kept = r.kept; early = r.early }
 
   -- words of which a seat is sure while it guards them
   pub loads_head : (j x : ℕ) → Rule s w n (record v { sure = update v.sure j (record (v.sure j) { head = (x, w.head x) ∷ (v.sure j).head }) }) g
@@ -81,8 +81,9 @@ module _ (s : Setup) (w : Words) (n : ℕ) (v : Views) (g : Ghost) (r : Rule s w
   }
 
   -- what the owner learns
-  learns : (u : Ruling) → OwnerRule s.passes w.round w.released g.pins n v.kind u → StockRule w.round w.cursor w.free w.row g.life g.pins u → NoteRule w.round w.taken g.life v.read (record v.ruling { placed = u.placed; seen = u.seen; quiet = u.quiet }) → ((b : ℕ) → HasEntry u.hand b → (v.ruling.phase ≡ 1 → ⊥) × (g.life b ≡ Free)) → u.phase ≡ v.ruling.phase → u.workers ≡ v.ruling.workers → ((b : ℕ) → HasEntry u.hand b → b < s.pool) → Rule s w n (record v { ruling = record v.ruling { clear = u.clear; hand = u.hand; cursor = u.cursor; free = u.free; ever = u.ever; placed = u.placed; seen = u.seen; quiet = u.quiet } }) g
-  learns u rules stock note hand a b hand_in = record {
+  learns : (u : Ruling) → OwnerRule s.passes w.round w.released g.pins n v.kind u → StockRule w.round w.cursor w.free g.pins u → NoteRule w.round w.taken g.life v.read (record v.ruling { placed = u.placed; seen = u.seen; quiet = u.quiet }) → ((b : ℕ) → HasEntry u.hand b → g.life b ≡ Free) → u.phase ≡ v.ruling.phase → u.workers ≡ v.ruling.workers → ((b : ℕ) → HasEntry u.hand b → b < s.pool) → FreeRule s.pool w.cursor w.free w.row w.born g.life u.hand v.ruling.low u.high → ((a : ℕ × ℕ × ℕ) → HasEntry v.ruling.placed a → HasEntry u.placed a)
+      → Rule s w n (record v { ruling = record v.ruling { clear = u.clear; hand = u.hand; cursor = u.cursor; free = u.free; high = u.high; placed = u.placed; seen = u.seen; quiet = u.quiet } }) g
+  learns u rules stock note hand a b hand_in frees more = record {
     names_apart = r.names_apart;
     claims = r.claims;
     labels = r.labels;
@@ -94,7 +95,7 @@ module _ (s : Setup) (w : Words) (n : ℕ) (v : Views) (g : Ghost) (r : Rule s w
     sure = r.sure;
     goes = r.goes;
     rules = record { owner = r.rules.owner; one = r.rules.one; workers = r.rules.workers; readers = r.rules.readers; few_readers = r.rules.few_readers; halves = r.rules.halves; clear = rules.clear };
-    stock = record { finished = r.stock.finished; cursor_is = λ k e. let t = stock.cursor_is k e in ((λ f. t.0 (a ∙ f)), t.1); free_is = stock.free_is; never = stock.never; left = r.stock.left };
+    stock = record { finished = r.stock.finished; cursor_is = λ k e. let t = stock.cursor_is k e in ((λ f. t.0 (a ∙ f)), t.1); free_is = stock.free_is; left = r.stock.left };
     note = record { undone = note.undone; all = note.all; placed = note.placed; seen = note.seen; quiet = note.quiet };
     retired = r.retired;
     plan = r.plan;
@@ -107,6 +108,12 @@ module _ (s : Setup) (w : Words) (n : ℕ) (v : Views) (g : Ghost) (r : Rule s w
     once = r.once;
     holders = r.holders;
     hand = hand;
+    grows = r.grows;
+    retireds = r.retireds;
+    frees = frees;
+    known = record { noted = λ c y k e. ⊎_elim (λ h. inl (more (c, y, k) h)) inr (r.known.noted c y k e); undone = λ c y k e. more (c, y, k) (r.known.undone c y k e); loose = r.known.loose };
+    kept = r.kept;
+    early = r.early;
   }
 
   same_note : NoteRule w.round w.taken g.life v.read (record v.ruling { placed = v.ruling.placed; seen = v.ruling.seen; quiet = v.ruling.quiet })
@@ -116,43 +123,45 @@ module _ (s : Setup) (w : Words) (n : ℕ) (v : Views) (g : Ghost) (r : Rule s w
   pub notes_clear : (q k : ℕ) → HasEntry v.ruling.left (q, k) → w.released q ≡ k → Rule s w n (record v { ruling = record v.ruling { clear = q ∷ v.ruling.clear } }) g
   notes_clear q k h e = let t = r.stock.left q k h in learns (record v.ruling { clear = q ∷ v.ruling.clear })
       record { owner = r.rules.owner; one = r.rules.one; workers = r.rules.workers; readers = r.rules.readers; few_readers = r.rules.few_readers; halves = r.rules.halves; clear = λ i m. ⊎_elim (λ z. (subst (λ (x : ℕ). x < w.round) (sym z) t.0, ap w.released z ∙ e ∙ sym t.1 ∙ ap g.pins (sym z))) (r.rules.clear i) m }
-      record { finished = r.stock.finished; cursor_is = r.stock.cursor_is; free_is = r.stock.free_is; never = r.stock.never; left = r.stock.left } same_note r.hand refl refl r.inside.hand_in
+      record { finished = r.stock.finished; cursor_is = r.stock.cursor_is; free_is = r.stock.free_is; left = r.stock.left } same_note r.hand refl refl r.inside.hand_in r.frees (λ _ h. h)
 
   -- CURSOR, but in the first half
   pub loads_cursor : (v.ruling.phase ≡ 1 → ⊥) → Rule s w n (record v { ruling = record v.ruling { cursor = w.cursor + 1 } }) g
   loads_cursor o = learns (record v.ruling { cursor = w.cursor + 1 })
       record { owner = r.rules.owner; one = r.rules.one; workers = r.rules.workers; readers = r.rules.readers; few_readers = r.rules.few_readers; halves = r.rules.halves; clear = r.rules.clear }
-      record { finished = r.stock.finished; cursor_is = λ k e. (o, omega arith); free_is = r.stock.free_is; never = r.stock.never; left = r.stock.left } same_note r.hand refl refl r.inside.hand_in
+      record { finished = r.stock.finished; cursor_is = λ k e. (o, omega arith); free_is = r.stock.free_is; left = r.stock.left } same_note r.hand refl refl r.inside.hand_in r.frees (λ _ h. h)
 
   pub loads_free : Rule s w n (record v { ruling = record v.ruling { free = w.free + 1 } }) g
   loads_free = learns (record v.ruling { free = w.free + 1 })
       record { owner = r.rules.owner; one = r.rules.one; workers = r.rules.workers; readers = r.rules.readers; few_readers = r.rules.few_readers; halves = r.rules.halves; clear = r.rules.clear }
-      record { finished = r.stock.finished; cursor_is = r.stock.cursor_is; free_is = λ k e. omega arith; never = r.stock.never; left = r.stock.left } same_note r.hand refl refl r.inside.hand_in
+      record { finished = r.stock.finished; cursor_is = r.stock.cursor_is; free_is = λ k e. omega arith; left = r.stock.left } same_note r.hand refl refl r.inside.hand_in r.frees (λ _ h. h)
 
-  -- a number above that of each block that was drawn
-  pub notes_ever : (e : ℕ) → v.ruling.ever ≤ e → Rule s w n (record v { ruling = record v.ruling { ever = e } }) g
-  notes_ever e l = learns (record v.ruling { ever = e })
+  -- the last row of the stock names a free block
+  pub notes_free : (i b : ℕ) → v.ruling.workers ≡ 0 → v.ruling.low ≤ i → v.ruling.high ≡ i + 1 → Noted (v.sure 0).row i b → Rule s w n (record v { ruling = record v.ruling { hand = b ∷ v.ruling.hand; high = i } }) g
+  notes_free i b home l e f = let is : w.row i ≡ b = (r.sure 0).row_is i b f refl home in let t = r.frees.stocked i l (omega arith) in let t2 = t.2 in let shut = r.frees.shut (omega arith) in learns (record v.ruling { hand = b ∷ v.ruling.hand; high = i })
       record { owner = r.rules.owner; one = r.rules.one; workers = r.rules.workers; readers = r.rules.readers; few_readers = r.rules.few_readers; halves = r.rules.halves; clear = r.rules.clear }
-      record { finished = r.stock.finished; cursor_is = r.stock.cursor_is; free_is = r.stock.free_is; never = λ b m. r.stock.never b (omega arith); left = r.stock.left } same_note r.hand refl refl r.inside.hand_in
-
-  -- a row from CURSOR on and below FREE names a free block
-  pub notes_free : (i b c k : ℕ) → (v.ruling.phase ≡ 1 → ⊥) → v.ruling.workers ≡ 0 → v.ruling.cursor ≡ c + 1 → v.ruling.free ≡ k + 1 → c ≤ i → i < k → Noted (v.sure 0).row i b → Rule s w n (record v { ruling = record v.ruling { hand = b ∷ v.ruling.hand } }) g
-  notes_free i b c k o home ci fi l m f = learns (record v.ruling { hand = b ∷ v.ruling.hand })
-      record { owner = r.rules.owner; one = r.rules.one; workers = r.rules.workers; readers = r.rules.readers; few_readers = r.rules.few_readers; halves = r.rules.halves; clear = r.rules.clear }
-      record { finished = r.stock.finished; cursor_is = r.stock.cursor_is; free_is = r.stock.free_is; never = r.stock.never; left = r.stock.left } same_note
-      (λ a h. ⊎_elim (λ e. (o, ap g.life (e ∙ sym ((r.sure 0).row_is i b f refl home)) ∙ (r.claims.rows i (let z = (r.stock.cursor_is c ci).1 in omega arith) (let z = r.stock.free_is k fi in omega arith)).0)) (r.hand a) h) refl refl (λ a h. ⊎_elim (λ e. let z = (r.stock.cursor_is c ci).1 in let y = r.stock.free_is k fi in let o = r.inside.rows i (omega arith) in let q = (r.sure 0).row_is i b f refl home in omega arith) (r.inside.hand_in a) h)
+      record { finished = r.stock.finished; cursor_is = r.stock.cursor_is; free_is = r.stock.free_is; left = r.stock.left } same_note
+      (λ a h. ⊎_elim (λ q. ap g.life (q ∙ sym is) ∙ t.0) (r.hand a) h) refl refl (λ a h. ⊎_elim (λ q. omega arith) (r.inside.hand_in a) h)
+      record {
+        all = λ c k u. ⊎_elim (λ h. inl (inr h)) (λ q. ⊎_elim (λ q. inr (inl q)) (λ q. let q2 = q.2 in elim (dec_lt q.0 i) [ yes m ↦ inr (inr (q.0, q.1, m, q.3)) | no o ↦ inl (inl (sym q.3 ∙ ap w.row (let z : q.0 ≡ i = omega arith in z) ∙ is)) ]) q) (r.frees.all c k u);
+        hand_rows = λ c h q. let q2 = q.2 in absurd (omega arith);
+        hand_stock = λ c h q. let q2 = q.2 in ⊎_elim (λ z. let y = r.frees.once q.0 i q.1 (omega arith) l (omega arith) (q.3 ∙ z ∙ sym is) in omega arith) (λ h. r.frees.hand_stock c h (q.0, q.1, omega arith, q.3)) h;
+        stocked = λ k a m. r.frees.stocked k a (omega arith);
+        once = λ k c a m o p. r.frees.once k c a (omega arith) o (omega arith);
+        shut = λ m. shut;
+      } (λ _ h. h)
 
   found_released : Rule s w n (record v { ruling = record v.ruling { seen = w.released w.round + 1 } }) g
   found_released = learns (record v.ruling { seen = w.released w.round + 1 })
       record { owner = r.rules.owner; one = r.rules.one; workers = r.rules.workers; readers = r.rules.readers; few_readers = r.rules.few_readers; halves = r.rules.halves; clear = r.rules.clear }
-      record { finished = r.stock.finished; cursor_is = r.stock.cursor_is; free_is = r.stock.free_is; never = r.stock.never; left = r.stock.left }
+      record { finished = r.stock.finished; cursor_is = r.stock.cursor_is; free_is = r.stock.free_is; left = r.stock.left }
       record {
         undone = r.note.undone;
         all = r.note.all;
         placed = r.note.placed;
         seen = λ x e. let c = r.pins.count w.round in let t = r.pins.now in let q : x ≡ w.released w.round = omega arith in (w.taken, omega arith, omega arith, λ f j b p h m. out j p (omega arith));
         quiet = r.note.quiet;
-      } r.hand refl refl r.inside.hand_in
+      } r.hand refl refl r.inside.hand_in r.frees (λ _ h. h)
     where
       -- where each pin was given back none is out
       out : (j : ℕ) → (v.read j).pin ≡ w.round + 1 → w.taken ≡ w.released w.round → ⊥
@@ -169,14 +178,14 @@ module _ (s : Setup) (w : Words) (n : ℕ) (v : Views) (g : Ghost) (r : Rule s w
   pub finds_quiet : v.ruling.seen ≡ w.taken + 1 → Rule s w n (record v { ruling = record v.ruling { quiet = 1 } }) g
   finds_quiet e = let t = r.note.seen w.taken e in let t1 = t.1 in let t2 = t.2 in learns (record v.ruling { quiet = 1 })
       record { owner = r.rules.owner; one = r.rules.one; workers = r.rules.workers; readers = r.rules.readers; few_readers = r.rules.few_readers; halves = r.rules.halves; clear = r.rules.clear }
-      record { finished = r.stock.finished; cursor_is = r.stock.cursor_is; free_is = r.stock.free_is; never = r.stock.never; left = r.stock.left }
-      record { undone = r.note.undone; all = r.note.all; placed = r.note.placed; seen = r.note.seen; quiet = λ _. t.3 (omega arith) } r.hand refl refl r.inside.hand_in
+      record { finished = r.stock.finished; cursor_is = r.stock.cursor_is; free_is = r.stock.free_is; left = r.stock.left }
+      record { undone = r.note.undone; all = r.note.all; placed = r.note.placed; seen = r.note.seen; quiet = λ _. t.3 (omega arith) } r.hand refl refl r.inside.hand_in r.frees (λ _ h. h)
 
   -- the owner's claim on a published block shows the block's places
   pub notes_placed : (b x m : ℕ) → HasEntry (v.claims 0) (claim x m (Living b)) → Rule s w n (record v { ruling = record v.ruling { placed = (b, x, m) ∷ v.ruling.placed } }) g
   notes_placed b x m h = learns (record v.ruling { placed = (b, x, m) ∷ v.ruling.placed })
       record { owner = r.rules.owner; one = r.rules.one; workers = r.rules.workers; readers = r.rules.readers; few_readers = r.rules.few_readers; halves = r.rules.halves; clear = r.rules.clear }
-      record { finished = r.stock.finished; cursor_is = r.stock.cursor_is; free_is = r.stock.free_is; never = r.stock.never; left = r.stock.left }
+      record { finished = r.stock.finished; cursor_is = r.stock.cursor_is; free_is = r.stock.free_is; left = r.stock.left }
       record {
         undone = r.note.undone;
         all = r.note.all;
@@ -184,4 +193,4 @@ module _ (s : Setup) (w : Words) (n : ℕ) (v : Views) (g : Ghost) (r : Rule s w
             inl (ap g.life z0 ∙ (r.claims.shape x 0 m (Living b) (r.claims.held 0 x m (Living b) h)).0 ∙ (λ t. Placed (sym z1 t) (sym z2 t)))) (r.note.placed c y k) e;
         seen = r.note.seen;
         quiet = r.note.quiet;
-      } r.hand refl refl r.inside.hand_in
+      } r.hand refl refl r.inside.hand_in r.frees (λ _ h. inr h)

@@ -6,11 +6,11 @@ use Rattle.mesh_words.specs.Words.{Words}
 use Rattle.mesh_words.specs.Views.{Views}
 use Rattle.mesh_steps.specs.States.{Kind, State}
 use Rattle.mesh_steps.specs.WorkSteps.{ClaimStep, DrawStep, FullStep, FillHistory, FillName, FillDied, FillChild, LinkFirst, LinkSecond, PublishStep, RetireStep, RetiredStep}
-use Rattle.mesh_steps.specs.WalkSteps.{WorkTop, WorkEnds, WorkGoes, WorkFinds, WorkHad, WorkPasses, WorkGives, WorkDead, WorkOpen, LoadHead, LoadHistory, LoadBorn, LoadDied, LoadName, LoadRow}
+use Rattle.mesh_steps.specs.WalkSteps.{WorkTop, WorkEnds, WorkGoes, WorkFinds, WorkHad, WorkBoth, WorkPasses, WorkGives, WorkDead, WorkOpen, LoadHead, LoadHistory, LoadBorn, LoadDied, LoadName, LoadRow}
 use Rattle.mesh_steps.specs.PinSteps.{LoadRound, PinStep, UnpinStep, ReadEnds, ReadGoes, ReadFinds, ReadPasses}
-use Rattle.mesh_steps.specs.OwnerSteps.{NoteClear, LoadCursor, LoadFree, NoteEver, NoteFree, LoadReleased, NoteQuiet, NotePlaces, SplitStep, JoinWorker, JoinReader, BeginStep, PlanStep, CloseStep, RefuseStep, RestoreStep, AdvanceStep}
+use Rattle.mesh_steps.specs.OwnerSteps.{NoteClear, LoadCursor, LoadFree, NoteFree, LoadReleased, NoteQuiet, NotePlaces, SplitStep, JoinWorker, JoinReader, BeginStep, PlanStep, CloseStep, RefuseStep, RestoreStep, AdvanceStep}
 use Rattle.mesh_steps.specs.SweepSteps.{StampStep, UnclaimStep, CutLink, CutHistory, FreeStep, ZeroStep, StopStep, RewindStep, RowStep, OpenStep, UnbearStep, UnlinkSecond, UnlinkFirst, BuryStep, UndrawStep}
-use Rattle.mesh_steps.specs.Steps.{ByClaimStep, ByDrawStep, ByFullStep, ByFillHistory, ByFillName, ByFillDied, ByFillChild, ByLinkFirst, ByLinkSecond, ByPublishStep, ByRetireStep, ByRetiredStep, ByWorkTop, ByWorkEnds, ByWorkGoes, ByWorkFinds, ByWorkHad, ByWorkPasses, ByWorkGives, ByWorkDead, ByWorkOpen, ByLoadHead, ByLoadHistory, ByLoadBorn, ByLoadDied, ByLoadName, ByLoadRow, ByLoadRound, ByPinStep, ByUnpinStep, ByReadEnds, ByReadGoes, ByReadFinds, ByReadPasses, ByNoteClear, ByLoadCursor, ByLoadFree, ByNoteEver, ByNoteFree, ByLoadReleased, ByNoteQuiet, ByNotePlaces, BySplitStep, ByJoinWorker, ByJoinReader, ByBeginStep, ByPlanStep, ByCloseStep, ByRefuseStep, ByRestoreStep, ByAdvanceStep, ByStampStep, ByUnclaimStep, ByCutLink, ByCutHistory, ByFreeStep, ByZeroStep, ByStopStep, ByRewindStep, ByRowStep, ByOpenStep, ByUnbearStep, ByUnlinkSecond, ByUnlinkFirst, ByBuryStep, ByUndrawStep}
+use Rattle.mesh_steps.specs.Steps.{ByClaimStep, ByDrawStep, ByFullStep, ByFillHistory, ByFillName, ByFillDied, ByFillChild, ByLinkFirst, ByLinkSecond, ByPublishStep, ByRetireStep, ByRetiredStep, ByWorkTop, ByWorkEnds, ByWorkGoes, ByWorkFinds, ByWorkHad, ByWorkBoth, ByWorkPasses, ByWorkGives, ByWorkDead, ByWorkOpen, ByLoadHead, ByLoadHistory, ByLoadBorn, ByLoadDied, ByLoadName, ByLoadRow, ByLoadRound, ByPinStep, ByUnpinStep, ByReadEnds, ByReadGoes, ByReadFinds, ByReadPasses, ByNoteClear, ByLoadCursor, ByLoadFree, ByNoteFree, ByLoadReleased, ByNoteQuiet, ByNotePlaces, BySplitStep, ByJoinWorker, ByJoinReader, ByBeginStep, ByPlanStep, ByCloseStep, ByRefuseStep, ByRestoreStep, ByAdvanceStep, ByStampStep, ByUnclaimStep, ByCutLink, ByCutHistory, ByFreeStep, ByZeroStep, ByStopStep, ByRewindStep, ByRowStep, ByOpenStep, ByUnbearStep, ByUnlinkSecond, ByUnlinkFirst, ByBuryStep, ByUndrawStep}
 use Rattle.mesh_steps.specs.Local.{IsLocal, StepsLocal}
 
 -- so a kind of step is local
@@ -74,8 +74,11 @@ work_finds s w n v after (j, kind, first_, x, k, b, t, at, p, e) = subst (IsLoca
 work_had : Local WorkHad
 work_had s w n v after (j, kind, x, k, b, t, at, second_, p, low, e) = subst (IsLocal s w n v) (sym e) (inl refl, (j, j, inl refl, inl refl, inl refl, (inl refl, inl refl, inr (inl (_, refl)), inl refl, inl refl, inl refl)))
 
+work_both : Local WorkBoth
+work_both s w n v after (j, kind, second_, b, k, i, t, had, is, e) = subst (IsLocal s w n v) (sym e) (inl refl, (j, j, inl refl, inl refl, inl refl, (inl refl, inl refl, inr (inl (_, refl)), inl refl, inl refl, inl refl)))
+
 work_passes : Local WorkPasses
-work_passes s w n v after (j, kind, x, k, b, t, at, not, e) = subst (IsLocal s w n v) (sym e) (inl refl, (j, j, inl refl, inl refl, inl refl, (inl refl, inl refl, inr (inl (_, refl)), inl refl, inl refl, inl refl)))
+work_passes s w n v after (j, kind, x, k, b, t, at, not, grown, how, e) = subst (IsLocal s w n v) (sym e) (inl refl, (j, j, inl refl, inl refl, inl refl, (inl refl, inl refl, inr (inl (_, refl)), inl refl, inl refl, inl refl)))
 
 work_gives : Local WorkGives
 work_gives s w n v after (j, kind, second_, b, k, lead, had, e) = subst (IsLocal s w n v) (sym e) (inl refl, (j, j, inl refl, inl refl, inl refl, (inl refl, inl refl, inr (inl (_, refl)), inl refl, inl refl, inl refl)))
@@ -84,7 +87,7 @@ work_dead : Local WorkDead
 work_dead s w n v after (j, kind, second_, b, k, had, dead, e) = subst (IsLocal s w n v) (sym e) (inl refl, (j, j, inl refl, inl refl, inl refl, (inl refl, inl refl, inr (inl (_, refl)), inl refl, inl refl, inl refl)))
 
 work_open : Local WorkOpen
-work_open s w n v after (j, kind, second_, x, k, stood, stop, e) = subst (IsLocal s w n v) (sym e) (inl refl, (j, j, inl refl, inl refl, inl refl, (inl refl, inl refl, inr (inl (_, refl)), inl refl, inl refl, inl refl)))
+work_open s w n v after (j, kind, second_, x, k, mine, open_, grown, how, e) = subst (IsLocal s w n v) (sym e) (inl refl, (j, j, inl refl, inl refl, inl refl, (inl refl, inl refl, inr (inl (_, refl)), inl refl, inl refl, inl refl)))
 
 load_head : Local LoadHead
 load_head s w n v after (j, x, e) = subst (IsLocal s w n v) (sym e) (inl refl, (j, j, inl refl, inl refl, inl refl, (inl refl, inl refl, inl refl, inr (inl (_, refl)), inl refl, inl refl)))
@@ -134,11 +137,8 @@ load_cursor s w n v after (out, e) = subst (IsLocal s w n v) (sym e) (inl refl, 
 load_free : Local LoadFree
 load_free s w n v after e = subst (IsLocal s w n v) (sym e) (inl refl, (0, 0, inl refl, inl refl, inl refl, (inl refl, inl refl, inl refl, inl refl, inl refl, inr refl)))
 
-note_ever : Local NoteEver
-note_ever s w n v after (last, low, e) = subst (IsLocal s w n v) (sym e) (inl refl, (0, 0, inl refl, inl refl, inl refl, (inl refl, inl refl, inl refl, inl refl, inl refl, inr refl)))
-
 note_free : Local NoteFree
-note_free s w n v after (i, b, c, k, out, home, cursor, free, from, below, row, e) = subst (IsLocal s w n v) (sym e) (inl refl, (0, 0, inl refl, inl refl, inl refl, (inl refl, inl refl, inl refl, inl refl, inl refl, inr refl)))
+note_free s w n v after (i, b, home, low, high, row, e) = subst (IsLocal s w n v) (sym e) (inl refl, (0, 0, inl refl, inl refl, inl refl, (inl refl, inl refl, inl refl, inl refl, inl refl, inr refl)))
 
 load_released : Local LoadReleased
 load_released s w n v after e = subst (IsLocal s w n v) (sym e) (inl refl, (0, 0, inl refl, inl refl, inl refl, (inl refl, inl refl, inl refl, inl refl, inl refl, inr refl)))
@@ -156,7 +156,7 @@ join_worker : Local JoinWorker
 join_worker s w n v after (j, far, kind, left, one, e) = subst (IsLocal s w n v) (sym e) (inl refl, (0, j, inl refl, inr refl, inl refl, (inr (inr (inl (_, refl))), inr (inr (inr (_, _, refl))), inr (inr (inr (_, _, refl))), inr (inr (inr (_, _, refl))), inr (inr (inl (_, refl))), inr refl)))
 
 join_reader : Local JoinReader
-join_reader s w n v after (j, far, kind, none, left, one, e) = subst (IsLocal s w n v) (sym e) (inl refl, (0, j, inl refl, inr refl, inl refl, (inr (inr (inl (_, refl))), inl refl, inl refl, inr (inr (inl (_, refl))), inr (inr (inr (_, _, refl))), inr refl)))
+join_reader s w n v after (j, far, kind, none, left, early, one, which, e) = subst (IsLocal s w n v) (sym e) (inl refl, (0, j, inl refl, inr refl, inl refl, (inr (inr (inl (_, refl))), inr (inr (inl (_, refl))), inr (inr (inl (_, refl))), inr (inr (inl (_, refl))), inr (inr (inr (_, _, refl))), inr refl)))
 
 begin_step : Local BeginStep
 begin_step s w n v after (plan, names, last, aim, room, zero_, cursor, e) = subst (IsLocal s w n v) (sym e) (inl refl, (0, 0, inl refl, inl refl, inl refl, (inl refl, inl refl, inr (inl (_, refl)), inl refl, inl refl, inr refl)))
@@ -189,7 +189,7 @@ cut_history : Local CutHistory
 cut_history s w n v after (zero_, a, z, i, x, b, last, y, m, u, t, l, f1, f2, f3, p, c, from, stood, known, fair, side, e) = subst (IsLocal s w n v) (sym e) (inr (inr (inr (inr (inr (inr (inr (inr (inr (inl (((member_of a u), _, refl))))))))))), (0, 0, inr (inr (inr (refl, still (inl zero_), inr (inl (zero_, inr (inr (inr (member_of a u, _, refl)))))))), inl refl, inl refl, (inl refl, inl refl, inl refl, inr (inl (_, refl)), inl refl, inr refl)))
 
 free_step : Local FreeStep
-free_step s w n v after (zero_, gone, hand, undone, placed, stopped, clear, tops, blocks, more, rest, whole, still, e) = subst (IsLocal s w n v) (sym e) (inl refl, (0, 0, inl refl, inl refl, inl refl, (inl refl, inl refl, inl refl, inl refl, inl refl, inr refl)))
+free_step s w n v after (zero_, gone, hand, undone, kept, placed, clear, hands, rests, keeps, stays, e) = subst (IsLocal s w n v) (sym e) (inl refl, (0, 0, inl refl, inl refl, inl refl, (inl refl, inl refl, inl refl, inl refl, inl refl, inr refl)))
 
 zero_step : Local ZeroStep
 zero_step s w n v after (zero_, b, free, e) = subst (IsLocal s w n v) (sym e) (inr (inr (inr (inr (inr (inr (inr (inr (inr (inr (inl ((b, _, refl)))))))))))), (0, 0, inr (inr (inr (refl, still (inl zero_), inr (inr (inr (inr (inr (inl (b, refl))))))))), inl refl, inl refl, (inl refl, inl refl, inl refl, inr (inl (_, refl)), inl refl, inr refl)))
@@ -201,10 +201,10 @@ rewind_step : Local RewindStep
 rewind_step s w n v after (zero_, stopped, e) = subst (IsLocal s w n v) (sym e) (inr (inr (inl ((_, refl)))), (0, 0, inr (inr (inr (refl, still (inl zero_), inr (inl (zero_, inl refl))))), inl refl, inl refl, (inl refl, inl refl, inl refl, inl refl, inl refl, inr refl)))
 
 row_step : Local RowStep
-row_step s w n v after (zero_, i, b, stopped, e) = subst (IsLocal s w n v) (sym e) (inr (inr (inr (inr (inr (inl ((i, _, refl))))))), (0, 0, inr (inr (inr (refl, still (inl zero_), inr (inl (zero_, inr (inr (inl (i, _, refl)))))))), inl refl, inl refl, (inl refl, inl refl, inl refl, inr (inl (_, refl)), inl refl, inr refl)))
+row_step s w n v after (zero_, i, b, stopped, out, e) = subst (IsLocal s w n v) (sym e) (inr (inr (inr (inr (inr (inl ((i, _, refl))))))), (0, 0, inr (inr (inr (refl, still (inl zero_), inr (inl (zero_, inr (inr (inl (i, _, refl)))))))), inl refl, inl refl, (inl refl, inl refl, inl refl, inr (inl (_, refl)), inl refl, inr refl)))
 
 open_step : Local OpenStep
-open_step s w n v after (zero_, k, at, stopped, rows, one, e) = subst (IsLocal s w n v) (sym e) (inr (inr (inr (inl ((_, refl))))), (0, 0, inr (inr (inr (refl, still (inl zero_), inr (inl (zero_, inr (inl (_, refl))))))), inl refl, inl refl, (inl refl, inl refl, inl refl, inl refl, inl refl, inr refl)))
+open_step s w n v after (zero_, k, hand, stopped, rewound, below, rows, one, left, e) = subst (IsLocal s w n v) (sym e) (inr (inr (inr (inl ((_, refl))))), (0, 0, inr (inr (inr (refl, still (inl zero_), inr (inl (zero_, inr (inl (_, refl))))))), inl refl, inl refl, (inl refl, inl refl, inl refl, inl refl, inl refl, inr refl)))
 
 unbear_step : Local UnbearStep
 unbear_step s w n v after (four, x, m, b, mine, e) = subst (IsLocal s w n v) (sym e) (inr (inr (inr (inr (inr (inr (inr (inr (inr (inr (inl ((b, _, refl)))))))))))), (0, 0, inr (inr (inr (refl, still (inr (inr four)), inr (inr (inr (inr (inr (inl (b, refl))))))))), inl refl, inl refl, (inl refl, inr (inl (_, refl)), inl refl, inr (inl (_, refl)), inl refl, inr refl)))
@@ -239,6 +239,7 @@ steps_local s a b (ByWorkEnds h) = work_ends s a.words a.seats a.views b h
 steps_local s a b (ByWorkGoes h) = work_goes s a.words a.seats a.views b h
 steps_local s a b (ByWorkFinds h) = work_finds s a.words a.seats a.views b h
 steps_local s a b (ByWorkHad h) = work_had s a.words a.seats a.views b h
+steps_local s a b (ByWorkBoth h) = work_both s a.words a.seats a.views b h
 steps_local s a b (ByWorkPasses h) = work_passes s a.words a.seats a.views b h
 steps_local s a b (ByWorkGives h) = work_gives s a.words a.seats a.views b h
 steps_local s a b (ByWorkDead h) = work_dead s a.words a.seats a.views b h
@@ -259,7 +260,6 @@ steps_local s a b (ByReadPasses h) = read_passes s a.words a.seats a.views b h
 steps_local s a b (ByNoteClear h) = note_clear s a.words a.seats a.views b h
 steps_local s a b (ByLoadCursor h) = load_cursor s a.words a.seats a.views b h
 steps_local s a b (ByLoadFree h) = load_free s a.words a.seats a.views b h
-steps_local s a b (ByNoteEver h) = note_ever s a.words a.seats a.views b h
 steps_local s a b (ByNoteFree h) = note_free s a.words a.seats a.views b h
 steps_local s a b (ByLoadReleased h) = load_released s a.words a.seats a.views b h
 steps_local s a b (ByNoteQuiet h) = note_quiet s a.words a.seats a.views b h

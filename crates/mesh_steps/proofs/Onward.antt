@@ -22,6 +22,8 @@ use Rattle.mesh_steps.specs.Steps.{ByClaimStep, ByDrawStep, ByFullStep, ByLinkFi
 use Rattle.mesh_steps.specs.Onward.{Onward, HasChildren, IsEnded, WorkersGoOn, ReadersGoOn, PinsGoOn, ReadyBelow, PinsFit, PassesMade, PassesJoined, ClaimsGoOn, SinglesGoOn, ClaimsGoBack}
 use Rattle.mesh_steps.specs.WalkSteps.{WorkNext, ReadNext}
 use Rattle.mesh_steps.proofs.StepsKeep.{next_named}
+use Rattle.mesh_state.specs.Owner.{is_early}
+use Rattle.mesh_state.proofs.Known.{early_one}
 
 -- a fact of the new value of the function
 pub here : {A : Type 0} (P : A → Type 0) (f : ℕ → A) (j : ℕ) (a : A) → P a → P (update f j a j)
@@ -48,7 +50,7 @@ module _ (s : Setup) (w : Words) (n : ℕ) (v : Views) where
     goes x k l next c is how t named = (c, t, is, (_, ByWorkGoes (j, kind, x, k, c, l, next, is, how, t, named, refl), here (λ (u : Work). u.walk ≡ At x k c t) v.work j _ refl))
 
     passes : (x k c : ℕ) (t : Bool) → (v.work j).walk ≡ At x k c t → (w.born c ≡ 0) ⊎ ((v.work j).round ≤ w.born c) → Onward s w n v (λ b. (b.views.work j).walk ≡ Past x k c t)
-    passes x k c t at how = (_, ByWorkPasses (j, kind, x, k, c, t, at, how, refl), here (λ (u : Work). u.walk ≡ Past x k c t) v.work j _ refl)
+    passes x k c t at how = (_, ByWorkPasses (j, kind, x, k, c, t, at, how, _, inl refl, refl), here (λ (u : Work). u.walk ≡ Past x k c t) v.work j _ refl)
 
     finds : (x k c : ℕ) (t : Bool) → (v.work j).walk ≡ At x k c t → (v.work j).half ≡ 1 → 0 < w.born c → Onward s w n v (λ b. ((b.views.work j).walk ≡ Still) × HasEntry (b.views.work j).known k × HasChildren s (b.views.work j).found k c t)
     finds x k c t at one born = (_, ByWorkFinds (j, kind, one, x, k, c, t, at, born, refl), here (λ (u : Work). (u.walk ≡ Still) × HasEntry u.known k × HasChildren s u.found k c t) v.work j _ (refl, inl refl, children s (v.work j).found k c t))
@@ -177,7 +179,7 @@ pub passes_joined : PassesJoined
 passes_joined s w n v (g, r) j = (
   (λ kind none. (
     _,
-    ByJoinReader (j, other 2 (omega arith) kind, kind, none, (some_reader kind).0, (some_reader kind).1, refl),
+    ByJoinReader (j, other 2 (omega arith) kind, kind, none, (some_reader kind).0, (some_early kind).0, (some_reader kind).1, (some_early kind).1, refl),
     ((update_same v.kind j 0, update_same (update v.read 0 (record (v.read 0) { notes = (v.read 0).notes ++ (v.read j).notes })) j unread, update_same v.sure j unsure), λ k h. first_of (λ (u : Read). HasEntry u.notes k) v.read j _ _ (other 2 (omega arith) kind) (entry_right (v.read 0).notes (v.read j).notes k h)),
   )),
   λ kind. (
@@ -202,6 +204,19 @@ passes_joined s w n v (g, r) j = (
     before : (k : ℕ) → 0 < k → (i : ℕ) × (k ≡ i + 1)
     before zero l = absurd (omega arith)
     before (suc i) l = (i, omega arith)
+
+    -- the pass is counted among the early ones where it is one
+    some_early : v.kind j ≡ 2 → (i : ℕ) × ((((v.read j).made < v.ruling.finished) × (v.ruling.early ≡ i + 1)) ⊎ ((v.ruling.finished ≤ (v.read j).made) × (v.ruling.early ≡ i)))
+    some_early kind = elim (dec_lt (v.read j).made v.ruling.finished) [
+      | yes l ↦ (let t = some l in (t.0, inl (l, t.1)))
+      | no o ↦ (v.ruling.early, inr (omega arith, refl))
+    ]
+      where
+        some : (v.read j).made < v.ruling.finished → (i : ℕ) × (v.ruling.early ≡ i + 1)
+        some l = elim (dec_lt j n) [
+          | yes k ↦ let a = summand n (λ i. is_early w.round (v.kind i) (v.read i)) j k in let f = r.stock.finished in let b = early_one w.round (v.kind j) (v.read j) kind (omega arith) in let e = r.early in before v.ruling.early (omega arith)
+          | no o ↦ let z = r.pins.few j (omega arith) in absurd (omega arith)
+        ]
 
     some_reader : v.kind j ≡ 2 → (i : ℕ) × (v.ruling.readers ≡ i + 1)
     some_reader kind = elim (dec_lt j n) [

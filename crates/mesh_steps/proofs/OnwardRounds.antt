@@ -1,15 +1,18 @@
 -- Rounds go on.
-use Rattle.std.proofs.Common.{◌≡◌, ℕ, zero, suc, ◌+◌, ◌<◌, List, ◌∷◌, ◌⊎◌, refl, sym, ap, ◌∙◌, subst, inl, inr, ⊎_elim, arith}
+use Rattle.std.proofs.Common.{◌≡◌, ℕ, zero, suc, ◌+◌, ◌<◌, ◌≤◌, Bool, true, false, List, ◌∷◌, ◌⊎◌, refl, sym, ap, ◌∙◌, subst, inl, inr, ⊎_elim, arith}
 use Rattle.mesh_words.specs.Setup.{Setup}
 use Rattle.mesh_words.specs.Claims.{Half, Whole, Living, Claim, claim}
 use Rattle.mesh_words.specs.Entries.{HasEntry, EntryAt, Noted}
 use Rattle.mesh_words.specs.Places.{member_of, child_place}
-use Rattle.mesh_words.specs.Views.{Work, Sure, Plan}
+use Rattle.mesh_words.specs.Views.{Work, Sure, Plan, Past}
+use Rattle.mesh_words.specs.Words.{node}
+use Rattle.mesh_steps.specs.Onward.{Onward, HasChildren}
+use Rattle.mesh_steps.proofs.SecondHalf.{side}
 use Rattle.mesh_words.proofs.Functions.{update_same}
 use Rattle.mesh_state.specs.Lists.{IsMember}
 use Rattle.mesh_state.proofs.HeldClaims.{moved_on_here, ended_has}
-use Rattle.mesh_steps.specs.Steps.{ByFillHistory, ByFillName, ByFillDied, ByFillChild, ByLinkSecond, ByRetireStep, ByRetiredStep, ByWorkGives, ByWorkDead, ByWorkOpen, ByLoadHead, ByLoadHistory, ByLoadBorn, ByLoadDied, ByLoadName, ByLoadRow, ByNoteClear, ByNoteFree, ByLoadReleased, ByNoteQuiet, ByNotePlaces, ByBeginStep, ByPlanStep, ByCloseStep, ByRefuseStep, ByRestoreStep, ByUnclaimStep, ByZeroStep, ByRewindStep, ByRowStep, ByOpenStep}
-use Rattle.mesh_steps.specs.OnwardRounds.{LoadsGoOn, FillsGoOn, RetiringGoesOn, RoundsGoOn, NotesGoOn, RowsGoOn}
+use Rattle.mesh_steps.specs.Steps.{ByFillHistory, ByFillName, ByFillDied, ByFillChild, ByLinkSecond, ByRetireStep, ByRetiredStep, ByWorkPasses, ByWorkGives, ByWorkDead, ByWorkOpen, ByLoadHead, ByLoadHistory, ByLoadBorn, ByLoadDied, ByLoadName, ByLoadRow, ByNoteClear, ByNoteFree, ByLoadReleased, ByNoteQuiet, ByNotePlaces, ByBeginStep, ByPlanStep, ByCloseStep, ByRefuseStep, ByRestoreStep, ByUnclaimStep, ByZeroStep, ByRewindStep, ByRowStep, ByOpenStep}
+use Rattle.mesh_steps.specs.OnwardRounds.{LoadsGoOn, FillsGoOn, RetiringGoesOn, RoundsGoOn, NotesGoOn, RowsGoOn, GrownGoesOn}
 use Rattle.mesh_steps.proofs.Onward.{here}
 
 pub loads_go_on : LoadsGoOn
@@ -53,7 +56,7 @@ retiring_goes_on s w n v (g, r) j c k kind two = (
     (λ leads. (_, ByWorkGives (j, kind, half, c, k, leads, mine, refl), here (λ (u : Work). HasEntry u.given (c, k)) v.work j _ (inl refl))),
     λ dead. (_, ByWorkDead (j, kind, half, c, k, mine, dead, refl), here (λ (u : Work). HasEntry u.open_ k) v.work j _ (inl refl)),
   )),
-  (λ x mine how. (_, ByWorkOpen (j, kind, half, x, k, mine, how, refl), here (λ (u : Work). HasEntry u.open_ k) v.work j _ (inl refl))),
+  (λ x mine how. (_, ByWorkOpen (j, kind, half, x, k, inl mine, _, _, inl (how, refl, refl), refl), here (λ (u : Work). HasEntry u.open_ k) v.work j _ (inl refl))),
   λ mine. (
     (λ dead. (_, ByRetiredStep (j, kind, half, c, k, mine, dead, more.0, more.1, refl), here (λ (u : Work). (i : ℕ) → IsMember s k i → HasEntry u.open_ i) v.work j _ more.2)),
     λ alive listed open_. (
@@ -96,7 +99,7 @@ notes_go_on s w n v (g, r) = (
   (_, ByLoadReleased refl, ap (λ q. w.released q + 1) r.stock.finished),
   (λ same. (_, ByNoteQuiet (same, refl), refl)),
   (λ c x m mine. (_, ByNotePlaces (c, x, m, mine, refl), inl refl)),
-  λ i c k a rest cursor free low high noted. (_, ByNoteFree (i, a, c, k, (λ e. omega arith), r.rules.halves (λ e. omega arith) (λ e. omega arith), cursor, free, low, high, noted, refl), inl refl),
+  λ i a home low high noted. (_, ByNoteFree (i, a, home, low, high, noted, refl), inl refl),
 )
 
 pub rows_go_on : RowsGoOn
@@ -104,7 +107,44 @@ rows_go_on s w n v (g, r) rest = (
   (λ c mine. (_, ByZeroStep (rest, c, mine, refl), (update_same w.born c 0, inl (refl, refl)))),
   λ stopped. (
     (_, ByRewindStep (rest, stopped, refl), (refl, refl)),
-    (λ i c. (_, ByRowStep (rest, i, c, stopped, refl), (update_same w.row i c, inl (refl, refl)))),
-    λ k at rows one. (_, ByOpenStep (rest, k, at, stopped, rows, one, refl), refl),
+    (λ i c out. (_, ByRowStep (rest, i, c, stopped, out, refl), (update_same w.row i c, inl (refl, refl)))),
+    λ k hand rewound below rows one left. (_, ByOpenStep (rest, k, hand, stopped, rewound, below, rows, one, left, refl), (refl, refl)),
   ),
 )
+
+pub grown_goes_on : GrownGoesOn
+grown_goes_on s w n v (g, r) j x k kind two = (
+  (λ c t at born. (
+    _,
+    ByWorkPasses (j, kind, x, k, c, t, at, inr (late born), _, inr (half, late born, refl), refl),
+    here (λ (u : Work). (u.walk ≡ Past x k c t) × HasChildren s u.grown k c t) v.work j _ (refl, λ u. child u c t),
+  )),
+  λ mine. by (w.head x).block (w.head x).died refl refl mine,
+)
+  where
+    half : (v.work j).half ≡ 2
+    half = (r.walks j).half kind ∙ two
+
+    late : {c : ℕ} → w.born c ≡ w.round + 1 → (v.work j).round ≤ w.born c
+    late e = let a = (r.walks j).at_work kind in omega arith
+
+    child : (u : Bool) (c : ℕ) (t : Bool) → HasEntry ((child_place s.elements c t false, s.child k false) ∷ (child_place s.elements c t true, s.child k true) ∷ (v.work j).grown) (child_place s.elements c t u, s.child k u)
+    child false c t = inl refl
+    child true c t = inr (inl refl)
+
+    opened : HasEntry (v.work j).grown (x, k) → ((w.head x).block ≡ 0) ⊎ (0 < (w.head x).died) → Onward s w n v (λ b. HasEntry (b.views.work j).open_ k)
+    opened mine how = (_, ByWorkOpen (j, kind, half, x, k, inr mine, _, _, inl (how, refl, refl), refl), here (λ (u : Work). HasEntry u.open_ k) v.work j _ (inl refl))
+
+    by : (b d : ℕ) → (w.head x).block ≡ b → (w.head x).died ≡ d → HasEntry (v.work j).grown (x, k) → Onward s w n v (λ b. HasEntry (b.views.work j).open_ k) ⊎ ((c : ℕ) × (t : Bool) × ((w.head x).block ≡ c + 1) × Onward s w n v (λ b. HasChildren s (b.views.work j).grown k c t))
+    by zero d e f mine = inl (opened mine (inl e))
+    by (suc c) (suc d) e f mine = inl (opened mine (inr (omega arith)))
+    by (suc c) zero e f mine = let b : (w.head x).block ≡ c + 1 = omega arith in let t = side s w n v g r j kind half x k mine c b in inr (
+      c,
+      t.0,
+      b,
+      (
+        _,
+        ByWorkOpen (j, kind, half, x, k, inr mine, _, _, inr (c, t.0, mine, (λ i. node (b i) (f i)), t.1, refl, refl), refl),
+        here (λ (u : Work). HasChildren s u.grown k c t.0) v.work j _ (λ u. child u c t.0),
+      ),
+    )

@@ -5,14 +5,14 @@ use Rattle.std.proofs.Common.{◌≡◌, ℕ, zero, suc, ◌+◌, ◌<◌, ◌�
 use native.Mathlib.Decide.{dec_lt, ℕ_discrete}
 use Rattle.mesh_words.specs.Setup.{Setup, places}
 use Rattle.mesh_words.specs.Functions.{update}
-use Rattle.mesh_words.specs.Sums.{sum_below}
+use Rattle.mesh_words.specs.Sums.{one_where, sum_below}
 use Rattle.mesh_words.specs.Words.{Words, Node}
 use Rattle.mesh_words.specs.Views.{Plan, no_plan, Walk, Views}
 use Rattle.mesh_words.specs.Claims.{Progress, Living, Claim, claim}
 use Rattle.mesh_words.specs.Places.{member_of}
 use Rattle.mesh_words.specs.Entries.{HasEntry, EntryAt, Noted}
 use Rattle.mesh_words.proofs.Functions.{update_same, update_other, update_cases}
-use Rattle.mesh_state.specs.Ghosts.{Free, Stage, Open, Held, Life, Placed, Undone, chained, Ghost}
+use Rattle.mesh_state.specs.Ghosts.{Stage, Open, Held, Life, Placed, Undone, chained, Ghost}
 use Rattle.mesh_state.specs.Chains.{Covers, Finds, Reaches, IsPlace, IsHead}
 use Rattle.mesh_state.specs.Claims.{ClaimsRule, draws_of}
 use Rattle.mesh_state.specs.Bisections.{Fits, IsSound, IsKept, MayRead, NamesRule}
@@ -28,6 +28,10 @@ use Rattle.mesh_state.proofs.ChainSteps.{named}
 use Rattle.mesh_steps.proofs.BlockSteps.{ends_round}
 use Rattle.mesh_state.proofs.HeldClaims.{not_open}
 use Rattle.mesh_state.proofs.Across.{Went, low, some_worker}
+use Rattle.mesh_words.proofs.Sums.{sum_same, one_if, none_if}
+use Rattle.mesh_state.specs.Owner.{is_early}
+use Rattle.mesh_state.proofs.Known.{early_one, early_none, retireds_on}
+use Rattle.mesh_state.specs.Work.{GrownRule}
 
 module _ (s : Setup) (w : Words) (n : ℕ) (v : Views) (g : Ghost) (r : Rule s w n v g) where
   abbrev d : ℕ
@@ -79,15 +83,19 @@ module _ (s : Setup) (w : Words) (n : ℕ) (v : Views) (g : Ghost) (r : Rule s w
         sided = λ x n b t h. absurd (still_not x n b t (⊎_elim (λ z. inl (sym e.1 ∙ z)) (λ z. inr (sym e.1 ∙ z)) h));
       })
 
+  idle_grows : Home → (round p : ℕ) (name born : ℕ → ℕ) (who : ℕ → ℕ) (j : ℕ) → GrownRule s round p name born who (v.kind j) j (update v.work 0 idle j)
+  idle_grows h round p name born who = update_cases (λ j u. GrownRule s round p name born who (v.kind j) j u) v.work 0 idle record { only = λ _ _. refl; grown = λ x i f. absurd f }
+      (λ j ne. let e = (r.grows j).only (not_work h j) ne in record { only = (r.grows j).only; grown = λ x i f. absurd (subst (λ (l : List (ℕ × ℕ)). HasEntry l (x, i)) e f) })
+
   -- no pass at work, and the owner's draws forgotten: there is none
   idle_drawn : Home → (p cursor free : ℕ) (row : ℕ → ℕ) → DrawnRule p cursor free row v.kind (update v.work 0 idle)
   idle_drawn h p cursor free row = none_drawn p cursor free row v.kind (update v.work 0 idle) (update_cases (λ _ u. u.drawn ≡ []) v.work 0 idle refl (λ j ne. r.drawn.only j (not_work h j) ne))
 
   -- the owner goes on to another phase of the same round, and forgets what held in this one
-  pub rephases : Home → (p : ℕ) (who : ℕ → ℕ → ℕ) (hand : List ℕ) (cursor : ℕ) (retired : List ℕ) (plan : Plan) → (0 < p → w.round < s.rounds) → (p ≡ 1 → v.ruling.phase ≡ 0) → PlanRule s w.round p who (λ _. 0) v.work plan → RetiredKnown w.round w.died g.life (update v.work 0 idle) retired → ((k : ℕ) → cursor ≡ k + 1 → (p ≡ 1 → ⊥) × (w.cursor ≡ k)) → ((b : ℕ) → HasEntry hand b → (p ≡ 1 → ⊥) × (g.life b ≡ Free)) → ((q : ℕ) → q ≤ w.round → who q ≡ g.who q)
-      → ClaimsRule s w.round w.cursor w.free p w.row w.claimed w.head w.born g.life g.stage v.claims → Labels s w.round p w.name g.stage who plan.target → NamesRule s w.round p w.name w.head w.hist w.born w.died g.life who v.read → InsideRule s w.free w.row g.life g.stage hand retired
-      → Rule s w n (record v { work = update v.work 0 idle; ruling = record v.ruling { phase = p; hand = hand; cursor = cursor; retired = retired; plan = plan } }) (record g { who = who })
-  rephases h p who hand cursor retired plan room early lists known sure free old claims labels names inside = record {
+  pub rephases : Home → (p : ℕ) (who : ℕ → ℕ → ℕ) (cursor : ℕ) (retired : List ℕ) (plan : Plan) → (0 < p → w.round < s.rounds) → (p ≡ 1 → v.ruling.phase ≡ 0) → PlanRule s w.round p who (λ _. 0) v.work plan → RetiredKnown w.round w.died g.life (update v.work 0 idle) retired → ((b : ℕ) → HasEntry retired b → ((j : ℕ) × HasEntry (v.work j).retired b) ⊎ HasEntry v.ruling.retired b) → ((k : ℕ) → cursor ≡ k + 1 → (p ≡ 1 → ⊥) × (w.cursor ≡ k)) → ((q : ℕ) → q ≤ w.round → who q ≡ g.who q)
+      → ClaimsRule s w.round w.cursor w.free p w.row w.claimed w.head w.born g.life g.stage v.claims → Labels s w.round p w.name g.stage who plan.target → NamesRule s w.round p w.name w.head w.hist w.born w.died g.life who v.read → InsideRule s w.free w.row g.life g.stage v.ruling.hand retired
+      → Rule s w n (record v { work = update v.work 0 idle; ruling = record v.ruling { phase = p; cursor = cursor; retired = retired; plan = plan } }) (record g { who = who })
+  rephases h p who cursor retired plan room early lists known from sure old claims labels names inside = record {
     names_apart = r.names_apart;
     claims = claims;
     labels = labels;
@@ -99,19 +107,25 @@ module _ (s : Setup) (w : Words) (n : ℕ) (v : Views) (g : Ghost) (r : Rule s w
     sure = r.sure;
     goes = λ i. goes_who s w.round w.name w.hist w.born w.died g.life g.who who old (v.read i) (λ q e. r.pins.past i q e) (r.goes i);
     rules = record { owner = r.rules.owner; one = r.rules.one; workers = r.rules.workers; readers = r.rules.readers; few_readers = r.rules.few_readers; halves = λ _ _. h; clear = r.rules.clear };
-    stock = record { finished = r.stock.finished; cursor_is = sure; free_is = r.stock.free_is; never = r.stock.never; left = r.stock.left };
+    stock = record { finished = r.stock.finished; cursor_is = sure; free_is = r.stock.free_is; left = r.stock.left };
     note = record { undone = r.note.undone; all = r.note.all; placed = r.note.placed; seen = r.note.seen; quiet = r.note.quiet };
     retired = known;
     plan = plan_on s w.round p who (λ _. 0) v.kind v.work (update v.work 0 idle) plan (λ j k. absurd (not_work h j k)) lists;
     history = history_who w.round g.who who v.read v.ruling.history old r.history;
     drawn = idle_drawn h p w.cursor w.free w.row;
-    draws = λ x j m b q e h. absurd (not_open j m q (sym h ∙ r.claims.none x (early e)));
+    draws = λ x j m q e h. absurd (not_open j m q (sym h ∙ r.claims.none x (early e)));
     crew = crew_free s w.round p v.kind (update v.work 0 idle) g.stage v.ruling.lone (r.crew.rounds.0, room) (λ _ j k. not_work h j k);
     inside = inside;
     named = r.named;
     once = r.once;
     holders = r.holders;
-    hand = free;
+    hand = r.hand;
+    grows = idle_grows h w.round p w.name w.born (who d);
+    retireds = retireds_on w.round w.died w.died g.life g.life v.work (update v.work 0 idle) v.ruling.retired retired (λ b k. ⊎_elim (λ t. inl (t.0, update_cases (λ i x. HasEntry x.retired b → HasEntry (v.work i).retired b) v.work 0 idle (λ f. absurd f) (λ _ _ f. f) t.0 t.1)) (from b) k) (λ _ _ _ u _. (u, refl)) r.retireds;
+    frees = r.frees;
+    known = r.known;
+    kept = r.kept;
+    early = r.early;
   }
 
   zero_total : (k : ℕ) (f : ℕ → ℕ) → ((i : ℕ) → f i ≡ 0) → sum_below k f ≡ 0
@@ -172,18 +186,18 @@ module _ (s : Setup) (w : Words) (n : ℕ) (v : Views) (g : Ghost) (r : Rule s w
   last_forest names e i = subst (λ (q : ℕ). (HasEntry names i → Holds (g.who q) i) × (Holds (g.who q) i → HasEntry names i)) r.stock.finished (r.history.forests v.ruling.finished names e i)
 
   -- the first half begins: the lists of the round stand over the last forest of the history
-  pub begins : (plan : Plan) (names : List ℕ) → EntryAt v.ruling.history v.ruling.finished names → IsTarget s (HasEntry names) plan → v.ruling.finished < s.rounds → v.ruling.phase ≡ 0 → v.ruling.cursor ≡ 1 → Rule s w n (record v { work = update v.work 0 idle; ruling = record v.ruling { phase = 1; hand = []; cursor = 0; plan = plan } }) (record g { who = g.who })
-  begins plan names last aim room z c = rephases (r.rules.halves (λ e. omega arith) (λ e. omega arith)) 1 g.who [] 0 v.ruling.retired plan (λ _. let f = r.stock.finished in omega arith) (λ _. z)
+  pub begins : (plan : Plan) (names : List ℕ) → EntryAt v.ruling.history v.ruling.finished names → IsTarget s (HasEntry names) plan → v.ruling.finished < s.rounds → v.ruling.phase ≡ 0 → v.ruling.cursor ≡ 1 → Rule s w n (record v { work = update v.work 0 idle; ruling = record v.ruling { phase = 1; cursor = 0; plan = plan } }) (record g { who = g.who })
+  begins plan names last aim room z c = rephases (r.rules.halves (λ e. omega arith) (λ e. omega arith)) 1 g.who 0 v.ruling.retired plan (λ _. let f = r.stock.finished in omega arith) (λ _. z)
       record { same = λ j e. absurd (omega arith); aim = λ _ _. target_on s (HasEntry names) (Holds (g.who w.round)) plan (last_forest names last) aim; within = λ i _ _ h. aim.olds i ((last_forest names last i).1 (h.0, sym (r.names.fresh i z) ∙ h.1)); whole = λ i l. absurd (omega arith); done = λ i e. absurd (omega arith) }
-      (calm_retired ((λ e. omega arith), λ e. omega arith)) (λ k e. absurd (omega arith)) (λ b f. absurd f) (λ _ _. refl)
+      (calm_retired ((λ e. omega arith), λ e. omega arith)) (λ _ h. inr h) (λ k e. absurd (omega arith)) (λ _ _. refl)
       (claims_phase 1 (λ o e. omega arith) (λ _. (r.stock.cursor_is 0 c).1 ∙ sym (zero_total (places s) (λ x. draws_of (g.stage x)) (λ x. ap draws_of (r.claims.none x z)))) (λ x j m q h e. absurd (not_open j m q (sym h ∙ r.claims.none x z))) (λ x e. absurd (omega arith)))
       (λ x j m q h e. absurd (not_open j m q (sym h ∙ r.claims.none x z)))
       (names_phase 1 (λ _. omega arith) (λ _. ((λ e. omega arith), λ e. omega arith)) (λ _. omega arith) (λ e. absurd (omega arith)))
-      record { few = r.inside.few; rows = r.inside.rows; blocks = r.inside.blocks; stand_in = r.inside.stand_in; seconds = r.inside.seconds; hand_in = λ b h. absurd h; retired_in = r.inside.retired_in }
+      record { few = r.inside.few; rows = r.inside.rows; blocks = r.inside.blocks; stand_in = r.inside.stand_in; seconds = r.inside.seconds; hand_in = r.inside.hand_in; retired_in = r.inside.retired_in }
 
   -- the second half is planned: by the owner's view each claim has a living block, and each name that the round needs is bisected; so the round in work is the target
   pub plans : (retire : List ℕ) → ((i : ℕ) → HasEntry v.ruling.plan.needs i → HasEntry (v.work 0).known i) → v.ruling.phase ≡ 1 → Home → ((x m : ℕ) (p : Progress) → HasEntry (v.claims 0) (claim x m p) → (b : ℕ) × (p ≡ Living b)) → Rule s w n (record v { work = update v.work 0 idle; ruling = record v.ruling { phase = 2; plan = record v.ruling.plan { retire = retire } } }) (record g { who = g.who })
-  plans retire known one h lives = rephases h 2 g.who v.ruling.hand v.ruling.cursor v.ruling.retired (record v.ruling.plan { retire = retire }) (λ _. r.crew.rounds.1 (omega arith)) (λ e. absurd (omega arith))
+  plans retire known one h lives = rephases h 2 g.who v.ruling.cursor v.ruling.retired (record v.ruling.plan { retire = retire }) (λ _. r.crew.rounds.1 (omega arith)) (λ e. absurd (omega arith))
       (let t = r.plan.aim (omega arith) (omega arith) in record {
         same = λ j e. absurd (omega arith);
         aim = λ _ _. record { closed = t.closed; olds = t.olds; needs = t.needs; least = t.least };
@@ -191,21 +205,21 @@ module _ (s : Setup) (w : Words) (n : ℕ) (v : Views) (g : Ghost) (r : Rule s w
         whole = λ i _ _ k. inl (t.least (g.who d) (bisected_closed s w n v g r d (inr (refl, omega arith))) (λ a o. (o.0, r.names.grows a o.0 (omega arith) o.1)) (λ a o. ((r.works 0).known a (known a o)).1) i k);
         done = λ i e. absurd (omega arith);
       })
-      (calm_retired ((λ e. omega arith), λ e. omega arith)) (λ k e. ((λ f. absurd (omega arith)), (r.stock.cursor_is k e).1)) (λ b f. ((λ e. absurd (omega arith)), (r.hand b f).1)) (λ _ _. refl)
+      (calm_retired ((λ e. omega arith), λ e. omega arith)) (λ _ h. inr h) (λ k e. ((λ f. absurd (omega arith)), (r.stock.cursor_is k e).1)) (λ _ _. refl)
       (claims_phase 2 (λ o e. omega arith) (λ e. absurd (omega arith)) (λ x j m q e _. lives x m q (subst (λ (i : ℕ). HasEntry (v.claims i) (claim x m q)) (home_claims h x j m q e) (r.claims.holds j x m q e))) (λ x e. absurd (omega arith)))
       (λ x j m q e f. absurd (omega arith)) (names_phase 2 (λ _. omega arith) (λ l. absurd (l.0 refl)) (λ l. absurd (omega arith)) (λ e. absurd (omega arith))) r.inside
 
   -- the round is closed: by the owner's view no listed patch is left
   pub closes : ((i : ℕ) → IsListed s v.ruling.plan.retire i → HasEntry (v.work 0).open_ i) → v.ruling.phase ≡ 2 → Home → Rule s w n (record v { work = update v.work 0 idle; ruling = record v.ruling { phase = 3; retired = (v.work 0).retired ++ v.ruling.retired } }) (record g { who = g.who })
-  closes gone two h = rephases h 3 g.who v.ruling.hand v.ruling.cursor ((v.work 0).retired ++ v.ruling.retired) v.ruling.plan (λ _. r.crew.rounds.1 (omega arith)) (λ e. absurd (omega arith))
+  closes gone two h = rephases h 3 g.who v.ruling.cursor ((v.work 0).retired ++ v.ruling.retired) v.ruling.plan (λ _. r.crew.rounds.1 (omega arith)) (λ e. absurd (omega arith))
       record { same = λ j e. absurd (omega arith); aim = λ _ _. r.plan.aim (omega arith) (omega arith); within = λ i _ _. r.plan.within i (omega arith) (omega arith); whole = λ i _ _. r.plan.whole i (omega arith) (omega arith); done = λ i _ k. ((r.works 0).open_ i (gone i k)).1 }
-      (owner_retired h) (λ k e. ((λ f. absurd (omega arith)), (r.stock.cursor_is k e).1)) (λ b f. ((λ e. absurd (omega arith)), (r.hand b f).1)) (λ _ _. refl) (claims_phase 3 (λ o e. o refl) (λ e. absurd (omega arith)) (λ x j m q e f. absurd (omega arith)) (λ x e. absurd (omega arith)))
+      (owner_retired h) (λ b k. ⊎_elim (λ t. inl (0, t)) inr (entry_of_both (v.work 0).retired v.ruling.retired b k)) (λ k e. ((λ f. absurd (omega arith)), (r.stock.cursor_is k e).1)) (λ _ _. refl) (claims_phase 3 (λ o e. o refl) (λ e. absurd (omega arith)) (λ x j m q e f. absurd (omega arith)) (λ x e. absurd (omega arith)))
       (λ x j m q e f. absurd (omega arith)) (names_phase 3 (λ _. omega arith) (λ l. absurd (l.1 refl)) (λ l. absurd (omega arith)) (λ e. absurd (omega arith)))
       record { few = r.inside.few; rows = r.inside.rows; blocks = r.inside.blocks; stand_in = r.inside.stand_in; seconds = r.inside.seconds; hand_in = r.inside.hand_in; retired_in = λ b t. ⊎_elim ((r.walks 0).retired_in b) (r.inside.retired_in b) (entry_of_both (v.work 0).retired v.ruling.retired b t) }
 
   -- the round is refused
   pub refuses : v.ruling.phase ≡ 1 → Home → Rule s w n (record v { work = update v.work 0 idle; ruling = record v.ruling { phase = 4 } }) (record g { who = g.who })
-  refuses one h = rephases h 4 g.who v.ruling.hand v.ruling.cursor v.ruling.retired v.ruling.plan (λ _. r.crew.rounds.1 (omega arith)) (λ e. absurd (omega arith)) (no_lists 4 g.who (inr refl)) (calm_retired ((λ e. omega arith), λ e. omega arith)) (λ k e. ((λ f. absurd (omega arith)), (r.stock.cursor_is k e).1)) (λ b f. ((λ e. absurd (omega arith)), (r.hand b f).1)) (λ _ _. refl) (claims_phase 4 (λ o e. omega arith) (λ e. absurd (omega arith)) (λ x j m q e f. absurd (omega arith)) (λ x e. absurd (omega arith)))
+  refuses one h = rephases h 4 g.who v.ruling.cursor v.ruling.retired v.ruling.plan (λ _. r.crew.rounds.1 (omega arith)) (λ e. absurd (omega arith)) (no_lists 4 g.who (inr refl)) (calm_retired ((λ e. omega arith), λ e. omega arith)) (λ _ h. inr h) (λ k e. ((λ f. absurd (omega arith)), (r.stock.cursor_is k e).1)) (λ _ _. refl) (claims_phase 4 (λ o e. omega arith) (λ e. absurd (omega arith)) (λ x j m q e f. absurd (omega arith)) (λ x e. absurd (omega arith)))
       (λ x j m q e f. absurd (omega arith)) (names_phase 4 (λ l. absurd (omega arith)) (λ _. ((λ e. omega arith), λ e. omega arith)) (λ l. absurd (omega arith)) (λ e. absurd (omega arith))) r.inside
 
   -- the next round reads as this one, while nothing is born or retired in it
@@ -228,7 +242,7 @@ module _ (s : Setup) (w : Words) (n : ℕ) (v : Views) (g : Ghost) (r : Rule s w
 
   -- the round is taken back: its claims have ended, and the round in work is again as the last
   pub restores : v.ruling.phase ≡ 4 → v.claims 0 ≡ [] → Rule s w n (record v { work = update v.work 0 idle; ruling = record v.ruling { phase = 0 } }) (record g { who = update g.who d (g.who w.round) })
-  restores four none = rephases home 0 who' v.ruling.hand v.ruling.cursor v.ruling.retired v.ruling.plan (λ l. absurd (omega arith)) (λ e. absurd (omega arith)) (no_lists 0 who' (inl refl)) (calm_retired ((λ e. omega arith), λ e. omega arith)) (λ k e. ((λ f. absurd (omega arith)), (r.stock.cursor_is k e).1)) (λ b f. ((λ e. absurd (omega arith)), (r.hand b f).1)) old
+  restores four none = rephases home 0 who' v.ruling.cursor v.ruling.retired v.ruling.plan (λ l. absurd (omega arith)) (λ e. absurd (omega arith)) (no_lists 0 who' (inl refl)) (calm_retired ((λ e. omega arith), λ e. omega arith)) (λ _ h. inr h) (λ k e. ((λ f. absurd (omega arith)), (r.stock.cursor_is k e).1)) old
       (claims_phase 0 (λ o e. omega arith) (λ e. absurd (omega arith)) (λ x j m q e f. absurd (omega arith)) (λ x _. all_open home none x)) (λ x j m q e f. absurd (omega arith))
       record {
         fits = λ q k. ⊎_elim (λ e. subst (λ (f : ℕ → ℕ). Fits s w.name w.head w.hist w.born w.died g.life f q) (sym (old q (low s w n v g r q e))) (r.names.fits q (inl e)))
@@ -264,7 +278,7 @@ module _ (s : Setup) (w : Words) (n : ℕ) (v : Views) (g : Ghost) (r : Rule s w
 
   -- the round is finished: the history has its forest, the target less the listed patches
   pub advances : (forest : List ℕ) → ((i : ℕ) → HasEntry forest i → HasEntry v.ruling.plan.target i × (IsListed s v.ruling.plan.retire i → ⊥)) → ((i : ℕ) → HasEntry v.ruling.plan.target i → (IsListed s v.ruling.plan.retire i → ⊥) → HasEntry forest i) → v.ruling.phase ≡ 3 → v.claims 0 ≡ [] → ((b : ℕ) → HasEntry ((v.work 0).retired ++ v.ruling.retired) b → (x : ℕ) × (m : ℕ) × HasEntry v.ruling.placed (b, x, m) × IsStamped x b × ((y : ℕ) → m ≡ y + 1 → IsStamped y b))
-      → Rule s (record w { round = d; taken = 0 }) n (record v { work = update v.work 0 idle; ruling = record v.ruling { phase = 0; finished = v.ruling.finished + 1; history = v.ruling.history ++ forest ∷ []; left = (w.round, w.taken) ∷ v.ruling.left; retired = []; seen = 0; quiet = 0 } }) (record g { who = update g.who (d + 1) (g.who d) })
+      → Rule s (record w { round = d; taken = 0 }) n (record v { work = update v.work 0 idle; ruling = record v.ruling { phase = 0; finished = v.ruling.finished + 1; early = v.ruling.readers; history = v.ruling.history ++ forest ∷ []; left = (w.round, w.taken) ∷ v.ruling.left; retired = []; kept = ((v.work 0).retired ++ v.ruling.retired) ++ v.ruling.kept; seen = 0; quiet = 0 } }) (record g { who = update g.who (d + 1) (g.who d) })
   advances forest of all three none shown = record {
     names_apart = r.names_apart;
     claims = record {
@@ -305,15 +319,16 @@ module _ (s : Setup) (w : Words) (n : ℕ) (v : Views) (g : Ghost) (r : Rule s w
       readers = r.pins.readers;
       spent = r.pins.spent;
       bit = r.pins.bit;
+      most = r.pins.most;
       bound = let b = r.pins.bound in omega arith;
     };
     works = idle_works home d 0 w.name w.born w.died g.life (who' (d + 1));
     walks = idle_walks home d 0 w.name w.hist w.born w.died g.life who';
     sure = r.sure;
     goes = λ i. let t = goes_who s w.round w.name w.hist w.born w.died g.life g.who who' (λ q l. old q (omega arith)) (v.read i) (λ q e. r.pins.past i q e) (r.goes i) in
-        record { went = t.went; walk = t.walk; sided = t.sided; places = t.places; yes_notes = λ k q h. let a = t.yes_notes k q h in let a0 = a.0 in (omega arith, a.1); no_notes = λ k q h. let a = t.no_notes k q h in let a0 = a.0 in (omega arith, a.1) };
+        record { went = t.went; walk = t.walk; sided = t.sided; dated = t.dated; places = t.places; yes_notes = λ k q h. let a = t.yes_notes k q h in let a0 = a.0 in (omega arith, a.1); no_notes = λ k q h. let a = t.no_notes k q h in let a0 = a.0 in (omega arith, a.1) };
     rules = record { owner = r.rules.owner; one = r.rules.one; workers = r.rules.workers; readers = r.rules.readers; few_readers = r.rules.few_readers; halves = λ _ _. home; clear = λ q h. let t = r.rules.clear q h in let t0 = t.0 in (omega arith, t.1) };
-    stock = record { finished = ap (λ (i : ℕ). i + 1) r.stock.finished; cursor_is = λ k e. ((λ f. absurd (omega arith)), (r.stock.cursor_is k e).1); free_is = r.stock.free_is; never = r.stock.never; left = λ q k h. ⊎_elim (λ e. let a : q ≡ w.round = ap (λ (t : ℕ × ℕ). t.0) e in let b : k ≡ w.taken = ap (λ (t : ℕ × ℕ). t.1) e in (omega arith, ap g.pins a ∙ r.pins.now ∙ sym b)) (λ t. let u = r.stock.left q k t in let u0 = u.0 in (omega arith, u.1)) h };
+    stock = record { finished = ap (λ (i : ℕ). i + 1) r.stock.finished; cursor_is = λ k e. ((λ f. absurd (omega arith)), (r.stock.cursor_is k e).1); free_is = r.stock.free_is; left = λ q k h. ⊎_elim (λ e. let a : q ≡ w.round = ap (λ (t : ℕ × ℕ). t.0) e in let b : k ≡ w.taken = ap (λ (t : ℕ × ℕ). t.1) e in (omega arith, ap g.pins a ∙ r.pins.now ∙ sym b)) (λ t. let u = r.stock.left q k t in let u0 = u.0 in (omega arith, u.1)) h };
     note = record { undone = r.note.undone; all = r.note.all; placed = r.note.placed; seen = λ x e. absurd (omega arith); quiet = λ e. absurd (omega arith) };
     retired = λ b x m u e. elim (dec_lt 0 (w.died b)) [ yes p ↦ let t = (r.chains.dieds b x m u p).2 in absurd (omega arith) | no o ↦ absurd (omega arith) ];
     plan = record { same = λ j k. absurd (not_work home j k); aim = λ l. absurd (omega arith); within = λ i l. absurd (omega arith); whole = λ i l. absurd (omega arith); done = λ i e. absurd (omega arith) };
@@ -328,17 +343,44 @@ module _ (s : Setup) (w : Words) (n : ℕ) (v : Views) (g : Ghost) (r : Rule s w
       made = r.history.made;
     };
     drawn = idle_drawn home 0 w.cursor w.free w.row;
-    draws = λ x j m b q e. absurd (omega arith);
+    draws = λ x j m q e. absurd (omega arith);
     crew = crew_free s d 0 v.kind (update v.work 0 idle) g.stage v.ruling.lone ((let l = r.crew.rounds.1 (omega arith) in omega arith), λ l. absurd (omega arith)) (λ _ j k. absurd (not_work home j k));
     inside = record { few = r.inside.few; rows = r.inside.rows; blocks = r.inside.blocks; stand_in = r.inside.stand_in; seconds = r.inside.seconds; hand_in = r.inside.hand_in; retired_in = λ b h. absurd h };
     named = r.named;
     once = r.once;
     holders = r.holders;
-    hand = λ b f. ((λ e. absurd (omega arith)), (r.hand b f).1);
+    hand = r.hand;
+    grows = idle_grows home d 0 w.name w.born (who' (d + 1));
+    retireds = λ b k. absurd (⊎_elim (λ t. idle_retired b t.0 t.1) (λ f. f) k);
+    frees = r.frees;
+    known = r.known;
+    kept = record {
+      all = λ b x m u p l. elim (dec_lt w.round (w.died b)) [
+        | yes k ↦ entry_left ((v.work 0).retired ++ v.ruling.retired) v.ruling.kept b (all_retired b x m u (omega arith))
+        | no k ↦ entry_right ((v.work 0).retired ++ v.ruling.retired) v.ruling.kept b (r.kept.all b x m u p (omega arith))
+      ];
+      right = λ b h. ⊎_elim
+          (λ h. let t = r.retireds b (⊎_elim (λ a. inl (0, a)) inr (entry_of_both (v.work 0).retired v.ruling.retired b h)) in let e = t.3 in (t.0, t.1, t.2, omega arith, omega arith))
+          (λ h. let t = r.kept.right b h in let l = t.4 in (t.0, t.1, t.2, t.3, omega arith)) (entry_of_both ((v.work 0).retired ++ v.ruling.retired) v.ruling.kept b h);
+    };
+    early = r.rules.readers ∙ sym (sum_same n (λ j. one_where (v.kind j) 2) (λ j. is_early d (v.kind j) (v.read j)) (λ j _. early_now j));
   }
     where
       home : Home
       home = r.rules.halves (λ e. omega arith) (λ e. omega arith)
+
+      -- each reader's pass was made before
+      early_now : (j : ℕ) → is_early d (v.kind j) (v.read j) ≡ one_where (v.kind j) 2
+      early_now j = dite (ℕ_discrete (v.kind j) 2) (λ e. early_one d (v.kind j) (v.read j) e (let a = (r.history.made j).0 in let b = (r.history.seen j).0 in omega arith) ∙ sym (one_if (v.kind j) 2 e)) (λ o. early_none d (v.kind j) (v.read j) o ∙ sym (none_if (v.kind j) 2 o))
+
+      idle_retired : (b j : ℕ) → HasEntry (update v.work 0 idle j).retired b → ⊥
+      idle_retired b = update_cases (λ j u. HasEntry u.retired b → ⊥) v.work 0 idle (λ h. h) (λ j ne h. subst (λ (l : List ℕ). HasEntry l b) ((r.walks j).only (not_work home j) ne).3 h)
+
+      -- the owner knows each block that was retired in the round
+      all_retired : (b x m : ℕ) → g.life b ≡ Placed x m → w.died b ≡ d → HasEntry ((v.work 0).retired ++ v.ruling.retired) b
+      all_retired b x m u e = ⊎_elim
+          (λ t. dite (ℕ_discrete t.0 0) (λ z. entry_left (v.work 0).retired v.ruling.retired b (subst (λ (a : ℕ). HasEntry (v.work a).retired b) z t.1)) (λ z. absurd (subst (λ (l : List ℕ). HasEntry l b) ((r.walks t.0).only (not_work home t.0) z).3 t.1)))
+          (λ t. entry_right (v.work 0).retired v.ruling.retired b t) (r.retired b x m u e)
 
       -- the forest is that of the round in work
       held : (i : ℕ) → HasEntry forest i → Holds (g.who d) i
@@ -353,7 +395,7 @@ module _ (s : Setup) (w : Words) (n : ℕ) (v : Views) (g : Ghost) (r : Rule s w
 
       stamped : (x b : ℕ) → IsPlace s.elements g.life x → (w.head x).block ≡ b + 1 → (w.head x).died ≡ 0 → w.died b ≡ 0
       stamped x b live e z = let t = named (λ _. Unit {0}) (Went w.round w.died v.kind v.work v.read) s.elements w.round w.head w.hist w.born w.died g.life r.chains x b (w.head x) (r.chains.heads x live) e in let p = placed (g.life b) t.0 x t.1 in
-          ⊎_elim (λ k. k) (λ k. absurd (at t.0 t.1 p.0 p.1 p.2 (shown b (⊎_elim (λ q. absurd (idle_none q.0 q.1)) (λ q. q) (owner_retired home b p.0 p.1 p.2 k))))) (died_of (r.chains.heads x live))
+          ⊎_elim (λ k. k) (λ k. absurd (let q = shown b (⊎_elim (λ q. absurd (idle_none q.0 q.1)) (λ q. q) (owner_retired home b p.0 p.1 p.2 k)) in at t.0 t.1 p.0 p.1 p.2 (q.0, q.1, q.2, q.3, q.4))) (died_of (r.chains.heads x live))
         where
           idle_none : (j : ℕ) → HasEntry (update v.work 0 idle j).retired b → ⊥
           idle_none = update_cases (λ j u. HasEntry u.retired b → ⊥) v.work 0 idle (λ h. h) (λ j ne h. subst (λ (l : List ℕ). HasEntry l b) ((r.walks j).only (not_work home j) ne).3 h)

@@ -21,16 +21,18 @@ use Rattle.mesh_state.specs.Lists.{HistoryRule}
 use Rattle.mesh_state.proofs.Lists.{history_read}
 use Rattle.mesh_state.specs.Rule.{Rule}
 use Rattle.mesh_state.proofs.Inside.{label_of, label_one, label_place}
-use Rattle.mesh_state.proofs.FoundAgain.{still_not, at_past, at_one, past_one, one_more, chained_stands, placed_chained, standing, none_found, first_block, seen_live}
+use Rattle.mesh_state.proofs.FoundAgain.{still_not, at_past, at_one, past_one, one_more, placed, chained_stands, placed_chained, standing, none_found, first_block, seen_live}
 use Rattle.mesh_state.proofs.ChainSteps.{named, older_head, dead_end}
 use Rattle.mesh_state.proofs.Across.{Went, no_pin, zero_or_more, place_one, name_one}
+use Rattle.mesh_state.proofs.Known.{early_on, early_other}
+use Rattle.mesh_state.specs.Owner.{EarlyRule}
 
 module _ (s : Setup) (w : Words) (n : ℕ) (v : Views) (g : Ghost) (r : Rule s w n v g) where
   -- what a step of a reader's view is to show
   pub rereads : (j taken : ℕ) (released pins : ℕ → ℕ) (u : Read) → PinsRule s w.round taken released n v.kind (update v.read j u) pins → ((q : ℕ) → HasEntry v.ruling.clear q → (q < w.round) × (released q ≡ pins q)) → ((q k : ℕ) → HasEntry v.ruling.left (q, k) → (q < w.round) × (pins q ≡ k)) → w.taken ≤ taken → ((b : ℕ) → u.pin ≡ w.round + 1 → HasEntry u.went b → ((x m : ℕ) → g.life b ≡ Undone x m → ⊥) ⊎ (((v.read j).pin ≡ w.round + 1) × HasEntry (v.read j).went b))
-      → ((q : ℕ) → u.pin ≡ q + 1 → IsKept w.round v.read q) → ReaderRule s w.round w.name w.hist w.born w.died g.life g.who u → HistoryRule w.round g.who (update v.read j u) v.ruling.history
+      → ((q : ℕ) → u.pin ≡ q + 1 → IsKept w.round v.read q) → ReaderRule s w.round w.name w.hist w.born w.died g.life g.who u → HistoryRule w.round g.who (update v.read j u) v.ruling.history → EarlyRule w.round n v.kind (update v.read j u) v.ruling.early
       → Rule s (record w { taken = taken; released = released }) n (record v { read = update v.read j u }) (record g { pins = pins })
-  rereads j taken released pins u p clear left more walks kept goes history = record {
+  rereads j taken released pins u p clear left more walks kept goes history made = record {
     names_apart = r.names_apart;
     claims = r.claims;
     labels = r.labels;
@@ -42,7 +44,7 @@ module _ (s : Setup) (w : Words) (n : ℕ) (v : Views) (g : Ghost) (r : Rule s w
     sure = r.sure;
     goes = update_cases (λ _ x. ReaderRule s w.round w.name w.hist w.born w.died g.life g.who x) v.read j u goes (λ i _. r.goes i);
     rules = record { owner = r.rules.owner; one = r.rules.one; workers = r.rules.workers; readers = r.rules.readers; few_readers = r.rules.few_readers; halves = r.rules.halves; clear = clear };
-    stock = record { finished = r.stock.finished; cursor_is = r.stock.cursor_is; free_is = r.stock.free_is; never = r.stock.never; left = left };
+    stock = record { finished = r.stock.finished; cursor_is = r.stock.cursor_is; free_is = r.stock.free_is; left = left };
     note = record { undone = r.note.undone; all = r.note.all; placed = r.note.placed; seen = λ x e. let t = r.note.seen x e in let t2 = t.2 in (t.0, t.1, omega arith, λ f. none (t.3 f)); quiet = λ e. none (r.note.quiet e) };
     retired = r.retired;
     plan = r.plan;
@@ -55,6 +57,12 @@ module _ (s : Setup) (w : Words) (n : ℕ) (v : Views) (g : Ghost) (r : Rule s w
     once = r.once;
     holders = r.holders;
     hand = r.hand;
+    grows = r.grows;
+    retireds = r.retireds;
+    frees = r.frees;
+    known = r.known;
+    kept = r.kept;
+    early = made;
   }
     where
       none : NoneWent w.round v.read v.ruling.undone → NoneWent w.round (update v.read j u) v.ruling.undone
@@ -91,6 +99,7 @@ module _ (s : Setup) (w : Words) (n : ℕ) (v : Views) (g : Ghost) (r : Rule s w
     readers = update_cases (λ i x. (v.kind i ≡ 2 → ⊥) → (x.pin ≡ 0) × (x.ready ≡ 0)) v.read j u (λ o. absurd (o k)) (λ i _. r.pins.readers i);
     spent = update_cases (λ i x. v.kind i ≡ 0 → x ≡ unread) v.read j u (λ z. absurd (omega arith)) (λ i _. r.pins.spent i);
     bit = update_cases (λ _ x. x.ready ≤ 1) v.read j u b (λ i _. r.pins.bit i);
+    most = r.pins.most;
     bound = bound;
   }
 
@@ -113,11 +122,12 @@ module _ (s : Setup) (w : Words) (n : ℕ) (v : Views) (g : Ghost) (r : Rule s w
         readers = update_cases (λ i x. (v.kind i ≡ 2 → ⊥) → (x.pin ≡ 0) × (x.ready ≡ 0)) v.read j unread (λ _. (refl, refl)) (λ i _. r.pins.readers i);
         spent = update_cases (λ i x. v.kind i ≡ 0 → x ≡ unread) v.read j unread (λ _. refl) (λ i _. r.pins.spent i);
         bit = update_cases (λ _ x. x.ready ≤ 1) v.read j unread (omega arith) (λ i _. r.pins.bit i);
+        most = r.pins.most;
         bound = let a = sum_le n (λ i. (update v.read j unread i).ready) (λ i. (v.read i).ready) (update_cases (λ i x. x.ready ≤ (v.read i).ready) v.read j unread (omega arith) (λ _ _. omega arith)) in let b = r.pins.bound in omega arith;
       }
       r.rules.clear r.stock.left (omega arith) (λ b p h. absurd h) (λ q e. absurd (omega arith))
-      record { went = λ q b p h. absurd h; walk = λ q p. tt; sided = λ q x k b t p h. absurd (still_not x k b t h); places = λ q x k p h. absurd h; yes_notes = λ k q h. absurd h; no_notes = λ k q h. absurd h }
-      (history_read w.round g.who v.read v.ruling.history j unread (v.ruling.history, refl) (omega arith, omega arith) (omega arith, λ q e. absurd (omega arith)) r.history)
+      record { went = λ q b p h. absurd h; walk = λ q p. tt; sided = λ q x k b t p h. absurd (still_not x k b t h); dated = λ q x k b t p h. absurd (still_not x k b t h); places = λ q x k p h. absurd h; yes_notes = λ k q h. absurd h; no_notes = λ k q h. absurd h }
+      (history_read w.round g.who v.read v.ruling.history j unread (v.ruling.history, refl) (omega arith, omega arith) (omega arith, λ q e. absurd (omega arith)) r.history) (early_other w.round n v.kind v.read j unread v.ruling.early o r.early)
     where
       same : (i : ℕ) → (update v.read j unread i).pin ≡ (v.read i).pin
       same = update_cases (λ i x. x.pin ≡ (v.read i).pin) v.read j unread (sym (r.pins.readers j o).0) (λ _ _. refl)
@@ -128,7 +138,7 @@ module _ (s : Setup) (w : Words) (n : ℕ) (v : Views) (g : Ghost) (r : Rule s w
       (same_pin j u k refl (⊎_elim (λ t. let e = t.0 in omega arith) (λ e. omega arith) how) (⊎_elim
       (λ t. let l = t.1 in let e = t.0 in let f = few_ready (λ i. (update v.read j u i).ready) (update_cases (λ _ x. x.ready ≤ 1) v.read j u (omega arith) (λ i _. r.pins.bit i)) (update_cases (λ i x. (v.kind i ≡ 2 → ⊥) → x.ready ≡ 0) v.read j u (λ o. absurd (o k)) (λ i _ o. (r.pins.readers i o).1)) in omega arith)
       (λ e. let a = ready_sum j u (inside j k) in let b = r.pins.bound in omega arith) how))
-      r.rules.clear r.stock.left (omega arith) (λ b p h. inr (p, h)) (λ q h. inr (j, h)) record { went = g0.went; walk = g0.walk; sided = g0.sided; places = g0.places; yes_notes = g0.yes_notes; no_notes = g0.no_notes } (told_on j u refl refl (inr refl) (λ q e. inl e))
+      r.rules.clear r.stock.left (omega arith) (λ b p h. inr (p, h)) (λ q h. inr (j, h)) record { went = g0.went; walk = g0.walk; sided = g0.sided; dated = g0.dated; places = g0.places; yes_notes = g0.yes_notes; no_notes = g0.no_notes } (told_on j u refl refl (inr refl) (λ q e. inl e)) (early_on w.round n v.kind v.read j u v.ruling.early refl r.early)
 
   -- a pin is taken: the bound holds
   pub pins : (j : ℕ) → v.kind j ≡ 2 → (v.read j).pin ≡ 0 → (v.read j).ready ≡ 1
@@ -146,11 +156,14 @@ module _ (s : Setup) (w : Words) (n : ℕ) (v : Views) (g : Ghost) (r : Rule s w
         readers = update_cases (λ i x. (v.kind i ≡ 2 → ⊥) → (x.pin ≡ 0) × (x.ready ≡ 0)) v.read j u (λ o. absurd (o k)) (λ i _. r.pins.readers i);
         spent = update_cases (λ i x. v.kind i ≡ 0 → x ≡ unread) v.read j u (λ z. absurd (omega arith)) (λ i _. r.pins.spent i);
         bit = update_cases (λ _ x. x.ready ≤ 1) v.read j u (omega arith) (λ i _. r.pins.bit i);
+        most = λ q. dite (ℕ_discrete q w.round)
+            (λ e. let b : p' q ≡ g.pins w.round + 1 = update_at g.pins w.round q (g.pins w.round + 1) e in let c = r.pins.now in let a = ready_sum j u (inside j k) in let m = r.pins.bound in omega arith)
+            (λ o. let b : p' q ≡ g.pins q = update_other g.pins w.round q (g.pins w.round + 1) o in let m = r.pins.most q in omega arith);
         bound = let a = ready_sum j u (inside j k) in let b = r.pins.bound in omega arith;
       }
       (λ q h. let t = r.rules.clear q h in let l = t.0 in (t.0, t.1 ∙ sym (update_other g.pins w.round q (g.pins w.round + 1) (λ (e : q ≡ w.round). omega arith))))
       (λ q i h. let t = r.stock.left q i h in let l = t.0 in (t.0, update_other g.pins w.round q (g.pins w.round + 1) (λ (e : q ≡ w.round). omega arith) ∙ t.1))
-      (omega arith) (λ b p h. absurd h) (λ q h. inl (omega arith)) record { went = λ q b h m. absurd m; walk = λ q h. tt; sided = λ q x k b t p h. absurd (still_not x k b t h); places = λ q x k h m. absurd m; yes_notes = (r.goes j).yes_notes; no_notes = (r.goes j).no_notes } (told_on j u refl refl (inr refl) (λ q e. inr (omega arith)))
+      (omega arith) (λ b p h. absurd h) (λ q h. inl (omega arith)) record { went = λ q b h m. absurd m; walk = λ q h. tt; sided = λ q x k b t p h. absurd (still_not x k b t h); dated = λ q x k b t p h. absurd (still_not x k b t h); places = λ q x k h m. absurd m; yes_notes = (r.goes j).yes_notes; no_notes = (r.goes j).no_notes } (told_on j u refl refl (inr refl) (λ q e. inr (omega arith))) (early_on w.round n v.kind v.read j u v.ruling.early refl r.early)
 
   -- a pin is given back
   pub unpins : (j q0 : ℕ) → v.kind j ≡ 2 → (v.read j).pin ≡ q0 + 1
@@ -168,10 +181,11 @@ module _ (s : Setup) (w : Words) (n : ℕ) (v : Views) (g : Ghost) (r : Rule s w
         readers = update_cases (λ i x. (v.kind i ≡ 2 → ⊥) → (x.pin ≡ 0) × (x.ready ≡ 0)) v.read j u (λ o. absurd (o k)) (λ i _. r.pins.readers i);
         spent = update_cases (λ i x. v.kind i ≡ 0 → x ≡ unread) v.read j u (λ z. absurd (omega arith)) (λ i _. r.pins.spent i);
         bit = update_cases (λ _ x. x.ready ≤ 1) v.read j u (r.pins.bit j) (λ i _. r.pins.bit i);
+        most = r.pins.most;
         bound = let a = ready_sum j u (inside j k) in let b = r.pins.bound in omega arith;
       }
       (λ q h. let t = r.rules.clear q h in (t.0, update_other w.released q0 q (w.released q0 + 1) (λ (e : q ≡ q0). no_pin s w n v g r q h j (had ∙ ap (λ (x : ℕ). x + 1) (sym e))) ∙ t.1))
-      r.stock.left (omega arith) (λ b p h. absurd h) (λ q h. absurd (omega arith)) record { went = λ q b h m. absurd m; walk = λ q h. absurd (omega arith); sided = λ q x k b t p h. absurd (still_not x k b t h); places = λ q x k h m. absurd m; yes_notes = (r.goes j).yes_notes; no_notes = (r.goes j).no_notes } (told_on j u refl refl (inl refl) (λ q e. absurd (omega arith)))
+      r.stock.left (omega arith) (λ b p h. absurd h) (λ q h. absurd (omega arith)) record { went = λ q b h m. absurd m; walk = λ q h. absurd (omega arith); sided = λ q x k b t p h. absurd (still_not x k b t h); dated = λ q x k b t p h. absurd (still_not x k b t h); places = λ q x k h m. absurd m; yes_notes = (r.goes j).yes_notes; no_notes = (r.goes j).no_notes } (told_on j u refl refl (inl refl) (λ q e. absurd (omega arith))) (early_on w.round n v.kind v.read j u v.ruling.early refl r.early)
 
   -- a walk goes on: the reader's pin stays
   module _ (j q0 : ℕ) (kind : v.kind j ≡ 2) (pinned : (v.read j).pin ≡ q0 + 1) where
@@ -184,16 +198,16 @@ module _ (s : Setup) (w : Words) (n : ℕ) (v : Views) (g : Ghost) (r : Rule s w
     same_q : (q : ℕ) → (v.read j).pin ≡ q + 1 → q0 ≡ q
     same_q q p = one_more q0 q (sym pinned ∙ p)
 
-    abbrev walked : List ℕ → Walk → List Note → List (ℕ × ℕ) → Read
-    walked went walk notes places = record (v.read j) { went = went; walk = walk; notes = notes; places = places }
+    abbrev walked : List ℕ → Walk → List Note → List (ℕ × ℕ) → ℕ → Read
+    walked went walk notes places back = record (v.read j) { went = went; walk = walk; notes = notes; places = places; back = back }
 
-    walks_on : (went : List ℕ) (walk : Walk) (notes : List Note) (places : List (ℕ × ℕ)) → ((b : ℕ) → HasEntry went b → ((t : Bool) × (x : ℕ) × (stands (g.life b) t ≡ x + 1)) × ((w.died b ≡ 0) ⊎ (q0 < w.died b)))
+    walks_on : (went : List ℕ) (walk : Walk) (notes : List Note) (places : List (ℕ × ℕ)) (back : ℕ) → ((x i b : ℕ) (t : Bool) → (walk ≡ At x i b t) ⊎ (walk ≡ Past x i b t) → 0 < back → (w.hist (member_of b t)).died < back) → ((b : ℕ) → HasEntry went b → ((t : Bool) × (x : ℕ) × (stands (g.life b) t ≡ x + 1)) × ((w.died b ≡ 0) ⊎ (q0 < w.died b)))
         → Walks s w.name w.hist w.born w.died g.life (g.who q0) q0 went walk → ((x i b : ℕ) (t : Bool) → (walk ≡ At x i b t) ⊎ (walk ≡ Past x i b t) → w.name (member_of b t) ≡ i)
         → ((i q : ℕ) → HasEntry notes record { round = q; name = i; bisected = true } → (q ≤ w.round) × ((b : ℕ) × (g.who q i ≡ b + 1))) → ((i q : ℕ) → HasEntry notes record { round = q; name = i; bisected = false } → (q ≤ w.round) × (g.who q i ≡ 0)) → ((x i : ℕ) → HasEntry places (x, i) → IsPlaceOf s w.name (g.who q0) x i) → ((b : ℕ) → (v.read j).pin ≡ w.round + 1 → HasEntry went b → ((x m : ℕ) → g.life b ≡ Undone x m → ⊥) ⊎ (((v.read j).pin ≡ w.round + 1) × HasEntry (v.read j).went b))
-        → Rule s w n (record v { read = update v.read j (walked went walk notes places) }) g
-    walks_on went walk notes places ok here sd yes_ no_ at fresh = rereads j w.taken w.released g.pins (walked went walk notes places) (same_pin j (walked went walk notes places) kind refl (r.pins.bit j) (let a = ready_sum j (walked went walk notes places) (inside j kind) in let b = r.pins.bound in omega arith))
+        → Rule s w n (record v { read = update v.read j (walked went walk notes places back) }) g
+    walks_on went walk notes places back dd ok here sd yes_ no_ at fresh = rereads j w.taken w.released g.pins (walked went walk notes places back) (same_pin j (walked went walk notes places back) kind refl (r.pins.bit j) (let a = ready_sum j (walked went walk notes places back) (inside j kind) in let b = r.pins.bound in omega arith))
         r.rules.clear r.stock.left (omega arith) fresh (λ q h. inr (j, h))
-        record { went = λ q b p h. subst (λ (x : ℕ). ((t : Bool) × (y : ℕ) × (stands (g.life b) t ≡ y + 1)) × ((w.died b ≡ 0) ⊎ (x < w.died b))) (same_q q p) (ok b h); walk = λ q p. subst (λ (x : ℕ). Walks s w.name w.hist w.born w.died g.life (g.who x) x went walk) (same_q q p) here; sided = λ q x i b t p h. sd x i b t h; places = λ q x i p h. subst (λ (y : ℕ). IsPlaceOf s w.name (g.who y) x i) (same_q q p) (at x i h); yes_notes = yes_; no_notes = no_ } (told_on j (walked went walk notes places) refl refl (inl refl) (λ q e. inl e))
+        record { went = λ q b p h. subst (λ (x : ℕ). ((t : Bool) × (y : ℕ) × (stands (g.life b) t ≡ y + 1)) × ((w.died b ≡ 0) ⊎ (x < w.died b))) (same_q q p) (ok b h); walk = λ q p. subst (λ (x : ℕ). Walks s w.name w.hist w.born w.died g.life (g.who x) x went walk) (same_q q p) here; sided = λ q x i b t p h. sd x i b t h; dated = λ q x i b t p h. dd x i b t h; places = λ q x i p h. subst (λ (y : ℕ). IsPlaceOf s w.name (g.who y) x i) (same_q q p) (at x i h); yes_notes = yes_; no_notes = no_ } (told_on j (walked went walk notes places back) refl refl (inl refl) (λ q e. inl e)) (early_on w.round n v.kind v.read j (walked went walk notes places back) v.ruling.early refl r.early)
 
     places_ok : (x i : ℕ) → HasEntry (v.read j).places (x, i) → IsPlaceOf s w.name (g.who q0) x i
     places_ok x i h = (r.goes j).places q0 x i pinned h
@@ -254,9 +268,9 @@ module _ (s : Setup) (w : Words) (n : ℕ) (v : Views) (g : Ghost) (r : Rule s w
         r.named.hists n.0 c x n.1 t h.1 (ap (λ (i : Node). i.block) (sym n.3) ∙ e) ch ∙ (r.goes j).sided q0 x k n.0 n.1 pinned (inr n.2)
 
     -- the word stops the walk: the name is not bisected
-    pub ends : (x k : ℕ) (l : Node) → IsNext x k l → (l.block ≡ 0) ⊎ ((0 < l.died) × (l.died ≤ q0)) → Rule s w n (record v { read = update v.read j (walked (v.read j).went Still (record { round = q0; name = k; bisected = false } ∷ (v.read j).notes) (v.read j).places) }) g
+    pub ends : (x k : ℕ) (l : Node) → IsNext x k l → (l.block ≡ 0) ⊎ ((0 < l.died) × (l.died ≤ q0)) → Rule s w n (record v { read = update v.read j (walked (v.read j).went Still (record { round = q0; name = k; bisected = false } ∷ (v.read j).notes) (v.read j).places (v.read j).back) }) g
     ends x k l next stop = let f = leads x k l next in let z : g.who q0 k ≡ 0 = ⊎_elim (λ e. e) (λ t. absurd (none t.0 (f.2 t.0 t.1) stop f.0)) (zero_or_more (g.who q0 k)) in
-        walks_on (v.read j).went Still (record { round = q0; name = k; bisected = false } ∷ (v.read j).notes) (v.read j).places went_ok tt (λ y i b t z. absurd (still_not y i b t z)) (note_no_yes k) (note_no k z) places_ok (λ b p h. inr (p, h))
+        walks_on (v.read j).went Still (record { round = q0; name = k; bisected = false } ∷ (v.read j).notes) (v.read j).places (v.read j).back (λ y i b t z. absurd (still_not y i b t z)) went_ok tt (λ y i b t z. absurd (still_not y i b t z)) (note_no_yes k) (note_no k z) places_ok (λ b p h. inr (p, h))
       where
         none : (c : ℕ) → Reaches w.hist w.born w.died g.life q0 x c l → (l.block ≡ 0) ⊎ ((0 < l.died) × (l.died ≤ q0)) → IsHead w.round w.died g.life x l → ⊥
         none c h (inl e) o = none_found w.hist w.born w.died g.life q0 x c l e h
@@ -264,10 +278,11 @@ module _ (s : Setup) (w : Words) (n : ℕ) (v : Views) (g : Ghost) (r : Rule s w
         none c h (inr e) (inr o) = let dd = o.4 e.0 in let e0 = e.0 in let e1 = e.1 in dead_end (λ _. Unit {0}) (Went w.round w.died v.kind v.work v.read) s.elements w.round w.head w.hist w.born w.died g.life r.chains q0 x c h.0 l o.0 o.1 o.2 o.3 (omega arith) (omega arith) h.1
 
     -- the word leads to a block, and the walk goes there
-    pub goes_to : (x k b : ℕ) (l : Node) → IsNext x k l → l.block ≡ b + 1 → (l.died ≡ 0) ⊎ (q0 < l.died) → (t : Bool) × Rule s w n (record v { read = update v.read j (walked (b ∷ (v.read j).went) (At x k b t) (v.read j).notes (v.read j).places) }) g
+    pub goes_to : (x k b : ℕ) (l : Node) → IsNext x k l → l.block ≡ b + 1 → (l.died ≡ 0) ⊎ (q0 < l.died) → (t : Bool) × Rule s w n (record v { read = update v.read j (walked (b ∷ (v.read j).went) (At x k b t) (v.read j).notes (v.read j).places l.died) }) g
     goes_to x k b l next is may = let f = leads x k l next in let o = named (λ _. Unit {0}) (Went w.round w.died v.kind v.work v.read) s.elements w.round w.head w.hist w.born w.died g.life r.chains x b l f.0 is in let st = chained_stands (g.life b) o.0 x o.1 in let al = alive may f.0 in (
       o.0,
-      walks_on (b ∷ (v.read j).went) (At x k b o.0) (v.read j).notes (v.read j).places
+      walks_on (b ∷ (v.read j).went) (At x k b o.0) (v.read j).notes (v.read j).places l.died
+          (λ y i c t z d. ⊎_elim (λ e. let p = at_one x k b o.0 y i c t e in subst (λ (q : ℕ × Bool). (w.hist (member_of q.0 q.1)).died < l.died) (λ q. (p.2 q, p.3 q)) (falls d f.0 o.0 st o.1)) (λ e. absurd (at_past x k b o.0 y i c t e)) z)
           (λ c h. ⊎_elim (λ e. subst (λ (y : ℕ). ((t : Bool) × (x : ℕ) × (stands (g.life y) t ≡ x + 1)) × ((w.died y ≡ 0) ⊎ (q0 < w.died y))) (sym e) ((o.0, x, st), al)) (went_ok c) h)
           (inl refl, st, f.1, λ c e. let h = first_block w.hist w.born w.died g.life q0 x c b l is (f.2 c e) in ⊎_elim inl (λ y. inr (subst (λ (i : Bool). Reaches w.hist w.born w.died g.life q0 x c (w.hist (member_of b i))) (r.chains.sides b h.0 o.0 x h.1 st) y)) h.2)
           (λ y i c t z. ⊎_elim (λ e. let p = at_one x k b o.0 y i c t e in sym (ap (λ (q : ℕ × Bool). w.name (member_of q.0 q.1)) (λ q. (p.2 q, p.3 q))) ∙ next_named x k l next b o.0 is o.1 ∙ p.1) (λ e. absurd (at_past x k b o.0 y i c t e)) z)
@@ -280,12 +295,25 @@ module _ (s : Setup) (w : Words) (n : ℕ) (v : Views) (g : Ghost) (r : Rule s w
         alive (inl z) (inr o) = let e : w.died o.0 ≡ w.died b = ap w.died (one_more o.0 b (sym o.2 ∙ is)) in let y = low_q in ⊎_elim (λ a. inl (sym e ∙ a)) (λ a. inr (omega arith)) (o.5 z)
         alive (inr m) (inr o) = let e : w.died o.0 ≡ w.died b = ap w.died (one_more o.0 b (sym o.2 ∙ is)) in let y : l.died ≡ w.died o.0 = o.4 (omega arith) in inr (omega arith)
 
+        -- the block that the word names with a retired round was retired then, and its HISTORY word is of a round before it was born
+        falls : 0 < l.died → IsHead w.round w.died g.life x l → (u : Bool) → stands (g.life b) u ≡ x + 1 → chained (g.life b) u ≡ x + 1 → (w.hist (member_of b u)).died < l.died
+        falls d (inl z) u st ch = let e : l.died ≡ 0 = ap (λ (i : Node). i.died) z in absurd (omega arith)
+        falls d (inr o) u st ch =
+            let e : w.died o.0 ≡ w.died b = ap w.died (one_more o.0 b (sym o.2 ∙ is)) in
+            let y : l.died ≡ w.died o.0 = o.4 d in
+            let p = placed (g.life b) u x ch in
+            let r0 = r.chains.dieds b p.0 p.1 p.2 (omega arith) in
+            let r1 = r0.0 in let r2 = r0.1 in
+            ⊎_elim (λ z. let i : (w.hist (member_of b u)).died ≡ 0 = ap (λ (i : Node). i.died) z in omega arith)
+            (λ c. let i : (w.hist (member_of b u)).died ≡ w.died c.0 = ap (λ (i : Node). i.died) c.2 in let k = c.5 r1 in omega arith)
+            (r.chains.hists b u x st)
+
     -- BORN of the block: the name is bisected
-    pub finds_it : (x k b : ℕ) (t : Bool) → (v.read j).walk ≡ At x k b t → 0 < w.born b → w.born b ≤ q0 → Rule s w n (record v { read = update v.read j (walked (v.read j).went Still (record { round = q0; name = k; bisected = true } ∷ (v.read j).notes) ((child_place s.elements b t false, s.child k false) ∷ (child_place s.elements b t true, s.child k true) ∷ (v.read j).places)) }) g
+    pub finds_it : (x k b : ℕ) (t : Bool) → (v.read j).walk ≡ At x k b t → 0 < w.born b → w.born b ≤ q0 → Rule s w n (record v { read = update v.read j (walked (v.read j).went Still (record { round = q0; name = k; bisected = true } ∷ (v.read j).notes) ((child_place s.elements b t false, s.child k false) ∷ (child_place s.elements b t true, s.child k true) ∷ (v.read j).places) (v.read j).back) }) g
     finds_it x k b t at p l = let h = subst (Walks s w.name w.hist w.born w.died g.life (g.who q0) q0 (v.read j).went) at ((r.goes j).walk q0 pinned) in
         let c : chained (g.life b) t ≡ x + 1 = ⊎_elim (λ y. placed_chained (g.life b) t x y.0 y.1 y.2 h.1) (λ y. let z = r.chains.undone b y.0 y.1 y.2 in absurd (omega arith)) (standing (g.life b) t x h.1) in
         let u = r.names.sound q0 can b t x c (p, l, (went_ok b h.0).1) in let e = name_one s w n v g r q0 x (w.name (member_of b t)) k u.1 h.2 in
-        walks_on (v.read j).went Still (record { round = q0; name = k; bisected = true } ∷ (v.read j).notes) ((child_place s.elements b t false, s.child k false) ∷ (child_place s.elements b t true, s.child k true) ∷ (v.read j).places) went_ok tt (λ y i b t z. absurd (still_not y i b t z)) (note_yes k b (ap (g.who q0) (sym e) ∙ u.0)) (note_yes_no k)
+        walks_on (v.read j).went Still (record { round = q0; name = k; bisected = true } ∷ (v.read j).notes) ((child_place s.elements b t false, s.child k false) ∷ (child_place s.elements b t true, s.child k true) ∷ (v.read j).places) (v.read j).back (λ y i b t z. absurd (still_not y i b t z)) went_ok tt (λ y i b t z. absurd (still_not y i b t z)) (note_yes k b (ap (g.who q0) (sym e) ∙ u.0)) (note_yes_no k)
         (λ y i m. ⊎_elim (λ f. kid_at u.0 e false y i f) (λ m2. ⊎_elim (λ f. kid_at u.0 e true y i f) (λ m3. places_ok y i m3) m2) m) (λ c p h. inr (p, h))
       where
         -- a child's place and name
@@ -293,8 +321,10 @@ module _ (s : Setup) (w : Words) (n : ℕ) (v : Views) (g : Ghost) (r : Rule s w
         kid_at bis is c y i f = inr (b, t, c, ap (λ (z : ℕ × ℕ). z.0) f, bis, ap (λ (z : ℕ × ℕ). z.1) f ∙ ap (λ (z : ℕ). s.child z c) (sym is))
 
     -- or the block is passed by
-    pub passes : (x k b : ℕ) (t : Bool) → (v.read j).walk ≡ At x k b t → (w.born b ≡ 0) ⊎ (q0 < w.born b) → Rule s w n (record v { read = update v.read j (walked (v.read j).went (Past x k b t) (v.read j).notes (v.read j).places) }) g
+    pub passes : (x k b : ℕ) (t : Bool) → (v.read j).walk ≡ At x k b t → (w.born b ≡ 0) ⊎ (q0 < w.born b) → Rule s w n (record v { read = update v.read j (walked (v.read j).went (Past x k b t) (v.read j).notes (v.read j).places (v.read j).back) }) g
     passes x k b t at not = let h = subst (Walks s w.name w.hist w.born w.died g.life (g.who q0) q0 (v.read j).went) at ((r.goes j).walk q0 pinned) in
-        walks_on (v.read j).went (Past x k b t) (v.read j).notes (v.read j).places went_ok (h.0, h.1, h.2, λ c e. ⊎_elim (λ y. let z : w.born b ≡ w.born c = ap w.born y.0 in let y0 = y.1.0 in let y1 = y.1.1 in absurd (omega arith)) (λ y. y) (h.3 c e))
+        walks_on (v.read j).went (Past x k b t) (v.read j).notes (v.read j).places (v.read j).back
+        (λ y i c u z o. ⊎_elim (λ e. absurd (at_past y i c u x k b t (sym e))) (λ e. let p = past_one x k b t y i c u e in subst (λ (q : ℕ × Bool). (w.hist (member_of q.0 q.1)).died < (v.read j).back) (λ q. (p.2 q, p.3 q)) ((r.goes j).dated q0 x k b t pinned (inl at) o)) z)
+        went_ok (h.0, h.1, h.2, λ c e. ⊎_elim (λ y. let z : w.born b ≡ w.born c = ap w.born y.0 in let y0 = y.1.0 in let y1 = y.1.1 in absurd (omega arith)) (λ y. y) (h.3 c e))
         (λ y i c u z. ⊎_elim (λ e. absurd (at_past y i c u x k b t (sym e))) (λ e. let p = past_one x k b t y i c u e in sym (ap (λ (q : ℕ × Bool). w.name (member_of q.0 q.1)) (λ q. (p.2 q, p.3 q))) ∙ (r.goes j).sided q0 x k b t pinned (inl at) ∙ p.1) z)
         (λ i q u. (r.goes j).yes_notes i q u) (λ i q u. (r.goes j).no_notes i q u) places_ok (λ b p h. inr (p, h))

@@ -27,6 +27,8 @@ use Rattle.mesh_state.proofs.HeldClaims.{not_open, held_one, free_not, placed_on
 use Rattle.mesh_state.proofs.Across.{Went, is_living, Of, name_one, chained_of, low, some_worker, first_half, unmet}
 use Rattle.mesh_steps.proofs.SureWords.{retired_on, sure_on, block_back, head_back}
 use Rattle.mesh_state.proofs.Bisections as rounds
+use Rattle.mesh_state.proofs.Known.{frees_on, known_goes, retireds_work, grows_off}
+use Rattle.mesh_state.specs.Work.{GrownRule}
 
 module _ (s : Setup) (w : Words) (n : ℕ) (v : Views) (g : Ghost) (r : Rule s w n v g) where
   abbrev d : ℕ
@@ -182,15 +184,24 @@ module _ (s : Setup) (w : Words) (n : ℕ) (v : Views) (g : Ghost) (r : Rule s w
       };
       history = history_who w.round g.who who' v.read v.ruling.history (λ q l. update_other g.who d q now (λ (e : q ≡ w.round + 1). omega arith)) r.history;
       drawn = drawn_update v.ruling.phase w.cursor w.free w.row v.kind v.work j (record (v.work j) { known = known }) refl r.drawn;
-      draws = draws_update v.ruling.phase v.work stage' j (record (v.work j) { known = known }) refl (draws_goes v.ruling.phase v.work g.stage x j m (Whole b) (Living b) is (λ c e. e) r.draws);
+      draws = draws_update v.ruling.phase v.work stage' j (record (v.work j) { known = known }) refl (draws_goes v.ruling.phase v.work g.stage x j m (Whole b) (Living b) is (λ _. (refl, refl)) r.draws);
       crew = crew_goes s w.round v.ruling.phase v.kind v.work (update v.work j (record (v.work j) { known = known })) g.stage v.ruling.lone x j m (Living b) kind (number_kept v.work j (record (v.work j) { known = known }) refl) r.crew;
       inside = inside_goes s w.free w.row g.life g.stage v.ruling.hand v.ruling.retired x j m (Whole b) j (Living b) is r.inside;
       named = r.named;
       once = update_cases (λ _ cs. ListedOnce cs) v.claims j (moved_on (v.claims j) x (Living b)) (once_moved (v.claims j) x (Living b) (r.once j)) (λ i _. r.once i);
       holders = λ z i k q h. dite (ℕ_discrete z x) (λ f. ⊎_elim (λ e. inl (sym (held_one j i m k (Living b) q (sym (update_at g.stage x z (Held j m (Living b)) f) ∙ h)).0 ∙ e)) (λ e. inr (ap v.kind (sym (held_one j i m k (Living b) q (sym (update_at g.stage x z (Held j m (Living b)) f) ∙ h)).0) ∙ e)) (r.holders x j m (Whole b) is)) (λ o. r.holders z i k q (sym (update_other g.stage x z (Held j m (Living b)) o) ∙ h));
-      hand = λ c h. absurd ((r.hand c h).0 one);
+      hand = r.hand;
+      grows = update_cases (λ i u. GrownRule s w.round v.ruling.phase w.name born' (who' d) (v.kind i) i u) v.work j (record (v.work j) { known = known }) (grows_off s w.round v.ruling.phase w.name w.born w.name born' (g.who d) (who' d) (v.kind j) j (v.work j) (record (v.work j) { known = known }) (λ e. let z = one in omega arith) refl (r.grows j)) (λ i _. grows_off s w.round v.ruling.phase w.name w.born w.name born' (g.who d) (who' d) (v.kind i) i (v.work i) (v.work i) (λ e. let z = one in omega arith) refl (r.grows i));
+      retireds = retireds_work w.round w.died g.life v.work v.ruling.retired j (record (v.work j) { known = known }) refl r.retireds;
+      frees = frees_on s.pool w.cursor w.free w.row w.born born' g.life g.life v.ruling.hand v.ruling.low v.ruling.high (λ _ e. e) (λ c e. (e, λ z. other_born c (λ (f : c ≡ b). free_not x m (sym e ∙ ap g.life f ∙ at)) ∙ z)) r.frees;
+      known = known_goes g.life g.stage v.ruling.placed x j m j (Whole b) (Living b) is refl (λ c e. whole_not c e) r.known;
+      kept = r.kept;
+      early = r.early;
     }
       where
+        whole_not : (c : ℕ) → Whole b ≡ Drawn c → ⊥
+        whole_not c e = cc
+
         not_drawn : (c : ℕ) → Living b ≡ Drawn c → ⊥
         not_drawn c e = cc
 

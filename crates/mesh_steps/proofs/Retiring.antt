@@ -1,5 +1,5 @@
 -- A patch is retired in the second half.
-use Rattle.std.proofs.Common.{◌≡◌, ℕ, ◌+◌, ◌<◌, ◌≤◌, Bool, true, false, List, ◌⊎◌, refl, sym, ap, ◌∙◌, subst, inl, inr, ⊎_elim, arith, ◌∷◌}
+use Rattle.std.proofs.Common.{◌≡◌, ◌≢◌, ℕ, ◌+◌, ◌<◌, ◌≤◌, Bool, true, false, List, ◌⊎◌, refl, sym, ap, ◌∙◌, subst, inl, inr, ⊎_elim, arith, ◌∷◌}
 use mathlib.Core.Logic.{dite}
 use native.Mathlib.Decide.{ℕ_discrete}
 use Rattle.mesh_words.specs.Setup.{Setup}
@@ -21,11 +21,13 @@ use Rattle.mesh_state.proofs.Lists.{draws_update}
 use Rattle.mesh_state.specs.Rule.{Rule}
 use Rattle.mesh_state.proofs.Inside.{below_pool}
 use Rattle.mesh_state.proofs.HeldClaims.{free_not}
-use Rattle.mesh_state.proofs.FoundAgain.{goes_on, goes_who, workers_on, workers_who, Moves}
+use Rattle.mesh_state.proofs.FoundAgain.{goes_on, goes_who, workers_on, workers_who, Moves, one_more}
 use Rattle.mesh_steps.proofs.BlockSteps.{kills}
 use Rattle.mesh_state.proofs.Across.{Went, low, some_worker}
 use Rattle.mesh_steps.proofs.SureWords.{sure_on}
 use Rattle.mesh_state.proofs.Bisections as rounds
+use Rattle.mesh_state.proofs.Known.{kept_on}
+use Rattle.mesh_state.specs.Work.{GrownRule, IsGrown}
 
 module _ (s : Setup) (w : Words) (n : ℕ) (v : Views) (g : Ghost) (r : Rule s w n v g) where
   abbrev d : ℕ
@@ -131,9 +133,32 @@ module _ (s : Setup) (w : Words) (n : ℕ) (v : Views) (g : Ghost) (r : Rule s w
         once = r.once;
         holders = r.holders;
         hand = r.hand;
+        grows = update_cases (λ i u. GrownRule s w.round v.ruling.phase w.name w.born (who' d) (v.kind i) i u) v.work j (record (v.work j) { open_ = names; retired = b ∷ (v.work j).retired }) record { only = λ o. absurd (o kind); grown = λ y i h. let t = (r.grows j).grown y i h in (t.0, still_grown y i t.1) } (λ a _. record { only = (r.grows a).only; grown = λ y i h. let t = (r.grows a).grown y i h in (t.0, still_grown y i t.1) });
+        retireds = λ c h. dite (ℕ_discrete c b) (λ f. (X, M, ap g.life f ∙ at, update_at w.died b c d f)) (λ f. let t = r.retireds c (was_retired c f h) in (t.0, t.1, t.2, update_other w.died b c d f ∙ t.3));
+        frees = r.frees;
+        known = r.known;
+        kept = kept_on w.round w.died (update w.died b d) g.life g.life v.ruling.kept (λ c y k u p l. (u, update_other w.died b c d (λ (f : c ≡ b). let z = update_at w.died b c d f in omega arith))) (λ c y k u p l. (u, update_other w.died b c d (λ (f : c ≡ b). let z : w.died c ≡ w.died b = ap w.died f in omega arith))) r.kept;
+        early = r.early;
       },
     )
       where
+        still_grown : (y i : ℕ) → IsGrown s w.round w.name w.born (g.who d) y i → IsGrown s w.round w.name w.born (who' d) y i
+        still_grown y i h = let c : ℕ = h.0 in let k : ℕ = w.name (member_of h.0 h.1) in (
+          h.0,
+          h.1,
+          h.2,
+          h.3,
+          h.4,
+          ap (λ (f : ℕ → ℕ). f k) (update_same g.who d now) ∙ ⊎_elim
+              (λ e. let z : k ≡ w.name (member_of b e.0) = e.3 ∙ rounds.name_side w.name b e.0 in let o = was e.0 e.1 (ap (λ (l : Life). chained l e.0) at ∙ e.2) in let q : h.0 + 1 ≡ b + 1 = sym h.5 ∙ ap (g.who d) z ∙ o in let f : w.born h.0 ≡ w.born b = ap w.born (one_more h.0 b q) in let l = entry.2.4 in let h4 = h.4 in absurd (omega arith))
+              (λ e. e.0 ∙ h.5) (rounds.marks_cases M X (w.name (member_of b false)) (w.name (member_of b true)) 0 (g.who d) k),
+          h.6,
+        )
+
+        was_retired : (c : ℕ) → c ≢ b → ((i : ℕ) × HasEntry (update v.work j (record (v.work j) { open_ = names; retired = b ∷ (v.work j).retired }) i).retired c) ⊎ HasEntry v.ruling.retired c → ((i : ℕ) × HasEntry (v.work i).retired c) ⊎ HasEntry v.ruling.retired c
+        was_retired c o (inl t) = inl (t.0, update_cases (λ i x. HasEntry x.retired c → HasEntry (v.work i).retired c) v.work j (record (v.work j) { open_ = names; retired = b ∷ (v.work j).retired }) (λ h. ⊎_elim (λ e. absurd (o e)) (λ h. h) h) (λ _ _ h. h) t.0 t.1)
+        was_retired c o (inr h) = inr h
+
         within : (i a : ℕ) → now i ≡ a + 1 → HasEntry v.ruling.plan.target i
         within i a e = ⊎_elim (λ c. let z : 0 ≡ a + 1 = sym c.4 ∙ e in absurd (omega arith)) (λ c. r.plan.within i (let z = two in omega arith) (let z = two in omega arith) (a, sym c.0 ∙ e))
             (rounds.marks_cases M X (w.name (member_of b false)) (w.name (member_of b true)) 0 (g.who d) i)

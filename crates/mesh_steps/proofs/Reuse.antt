@@ -1,9 +1,9 @@
 -- No step reuses a block to which a walk goes.
-use Rattle.std.proofs.Common.{◌≡◌, ℕ, ◌+◌, ◌<◌, ◌≤◌, List, [], ◌∷◌, ◌++◌, refl, sym, ap, ◌∙◌, subst, inl, inr, ⊎_elim, arith}
+use Rattle.std.proofs.Common.{◌⊎◌, ◌≡◌, ℕ, ◌+◌, ◌<◌, ◌≤◌, List, [], ◌∷◌, ◌++◌, refl, sym, ap, ◌∙◌, subst, inl, inr, ⊎_elim, arith}
 use mathlib.Core.Logic.{dite}
 use native.Mathlib.Decide.{ℕ_discrete}
 use Rattle.mesh_words.specs.Claims.{Progress, Claimed, Failed, Drawn, Half, Whole, Living, Claim, claim, moved_on, ended}
-use Rattle.mesh_words.specs.Entries.{HasEntry}
+use Rattle.mesh_words.specs.Entries.{HasEntry, Noted}
 use Rattle.mesh_words.specs.Functions.{update}
 use Rattle.mesh_words.specs.Places.{member_of}
 use Rattle.mesh_words.specs.Setup.{Setup, setup_of}
@@ -18,24 +18,26 @@ use Rattle.mesh_steps.specs.Reuse.{Spares, StepsSpare}
 use Rattle.mesh_state.specs.Rule.{Lawful}
 use Rattle.mesh_steps.specs.States.{Kind, State}
 use Rattle.mesh_steps.specs.WorkSteps.{ClaimStep, DrawStep, FullStep, FillHistory, FillName, FillDied, FillChild, LinkFirst, LinkSecond, PublishStep, RetireStep, RetiredStep}
-use Rattle.mesh_steps.specs.WalkSteps.{WorkTop, WorkEnds, WorkGoes, WorkFinds, WorkHad, WorkPasses, WorkGives, WorkDead, WorkOpen, LoadHead, LoadHistory, LoadBorn, LoadDied, LoadName, LoadRow}
+use Rattle.mesh_steps.specs.WalkSteps.{WorkTop, WorkEnds, WorkGoes, WorkFinds, WorkHad, WorkBoth, WorkPasses, WorkGives, WorkDead, WorkOpen, LoadHead, LoadHistory, LoadBorn, LoadDied, LoadName, LoadRow}
 use Rattle.mesh_steps.specs.PinSteps.{LoadRound, PinStep, UnpinStep, ReadEnds, ReadGoes, ReadFinds, ReadPasses}
-use Rattle.mesh_steps.specs.OwnerSteps.{NoteClear, LoadCursor, LoadFree, NoteEver, NoteFree, LoadReleased, NoteQuiet, NotePlaces, SplitStep, JoinWorker, JoinReader, BeginStep, PlanStep, CloseStep, RefuseStep, RestoreStep, AdvanceStep}
+use Rattle.mesh_steps.specs.OwnerSteps.{NoteClear, LoadCursor, LoadFree, NoteFree, LoadReleased, NoteQuiet, NotePlaces, SplitStep, JoinWorker, JoinReader, BeginStep, PlanStep, CloseStep, RefuseStep, RestoreStep, AdvanceStep}
 use Rattle.mesh_steps.specs.SweepSteps.{StampStep, UnclaimStep, CutLink, CutHistory, FreeStep, ZeroStep, StopStep, RewindStep, RowStep, OpenStep, UnbearStep, UnlinkSecond, UnlinkFirst, BuryStep, UndrawStep}
 use Rattle.mesh_steps.specs.SweepSteps.{IsClear}
-use Rattle.mesh_steps.specs.Steps.{Step, ByClaimStep, ByDrawStep, ByFullStep, ByFillHistory, ByFillName, ByFillDied, ByFillChild, ByLinkFirst, ByLinkSecond, ByPublishStep, ByRetireStep, ByRetiredStep, ByWorkTop, ByWorkEnds, ByWorkGoes, ByWorkFinds, ByWorkHad, ByWorkPasses, ByWorkGives, ByWorkDead, ByWorkOpen, ByLoadHead, ByLoadHistory, ByLoadBorn, ByLoadDied, ByLoadName, ByLoadRow, ByLoadRound, ByPinStep, ByUnpinStep, ByReadEnds, ByReadGoes, ByReadFinds, ByReadPasses, ByNoteClear, ByLoadCursor, ByLoadFree, ByNoteEver, ByNoteFree, ByLoadReleased, ByNoteQuiet, ByNotePlaces, BySplitStep, ByJoinWorker, ByJoinReader, ByBeginStep, ByPlanStep, ByCloseStep, ByRefuseStep, ByRestoreStep, ByAdvanceStep, ByStampStep, ByUnclaimStep, ByCutLink, ByCutHistory, ByFreeStep, ByZeroStep, ByStopStep, ByRewindStep, ByRowStep, ByOpenStep, ByUnbearStep, ByUnlinkSecond, ByUnlinkFirst, ByBuryStep, ByUndrawStep}
+use Rattle.mesh_steps.specs.Steps.{Step, ByClaimStep, ByDrawStep, ByFullStep, ByFillHistory, ByFillName, ByFillDied, ByFillChild, ByLinkFirst, ByLinkSecond, ByPublishStep, ByRetireStep, ByRetiredStep, ByWorkTop, ByWorkEnds, ByWorkGoes, ByWorkFinds, ByWorkHad, ByWorkBoth, ByWorkPasses, ByWorkGives, ByWorkDead, ByWorkOpen, ByLoadHead, ByLoadHistory, ByLoadBorn, ByLoadDied, ByLoadName, ByLoadRow, ByLoadRound, ByPinStep, ByUnpinStep, ByReadEnds, ByReadGoes, ByReadFinds, ByReadPasses, ByNoteClear, ByLoadCursor, ByLoadFree, ByNoteFree, ByLoadReleased, ByNoteQuiet, ByNotePlaces, BySplitStep, ByJoinWorker, ByJoinReader, ByBeginStep, ByPlanStep, ByCloseStep, ByRefuseStep, ByRestoreStep, ByAdvanceStep, ByStampStep, ByUnclaimStep, ByCutLink, ByCutHistory, ByFreeStep, ByZeroStep, ByStopStep, ByRewindStep, ByRowStep, ByOpenStep, ByUnbearStep, ByUnlinkSecond, ByUnlinkFirst, ByBuryStep, ByUndrawStep}
 use Rattle.mesh_state.proofs.HeldClaims.{moved_on_has, ended_has}
 use Rattle.mesh_state.proofs.Lawful.{clear_rounds}
 use Rattle.mesh_reading.proofs.ReadingLaws.{reached_stays}
 use Rattle.mesh_state.proofs.SeatLaws.{owner_sure}
+use Rattle.mesh_state.specs.Owner.{InRows}
+use Rattle.mesh_state.proofs.Across.{no_early}
 
 -- none of the claims has drawn the block
 abbrev None : ℕ → List Claim → Type 0
 None c cs = (x m : ℕ) → HasEntry cs (claim x m (Drawn c)) → ⊥
 
--- so a kind of step spares a block that is in no free row, not free in the owner's hand, and of no claim that has drawn it
+-- so a kind of step spares a block that is in no free row, not free in the owner's hand or stock, and of no claim that has drawn it
 abbrev Spared : Kind → Type 0
-Spared K = (s : Setup) (w : Words) (n : ℕ) (v : Views) (after : State) → K s w n v after → Lawful s w n v → (q c : ℕ) → MayRead w.round v.ruling.phase v.read q → ((i : ℕ) → w.cursor ≤ i → i < w.free → w.row i ≡ c → ⊥) → (HasEntry v.ruling.hand c → ⊥) → ((j : ℕ) → None c (v.claims j)) → Spares q c w after
+Spared K = (s : Setup) (w : Words) (n : ℕ) (v : Views) (after : State) → K s w n v after → Lawful s w n v → (q c : ℕ) → MayRead w.round v.ruling.phase v.read q → ((i : ℕ) → w.cursor ≤ i → i < w.free → w.row i ≡ c → ⊥) → (HasEntry v.ruling.hand c ⊎ InRows v.ruling.low v.ruling.high w.row c → ⊥) → ((j : ℕ) → None c (v.claims j)) → Spares q c w after
 
 claimed_not : (c : ℕ) → Claimed ≡ Drawn c → ⊥
 claimed_not c e = cc
@@ -59,9 +61,16 @@ moved : (cs : List Claim) (x : ℕ) (q : Progress) (c : ℕ) → (q ≡ Drawn c 
 moved cs x q c not none y m h = ⊎_elim (λ t. not (sym t.1)) (λ t. none y m t.1) (moved_on_has cs x q y m (Drawn c) h)
 
 -- a walk at a round that may be read goes to no block of which the rounds are clear
-passed : (s : Setup) (w : Words) (n : ℕ) (v : Views) → Lawful s w n v → (q : ℕ) → MayRead w.round v.ruling.phase v.read q → (e : ℕ) → 0 < e → IsClear v e → (b i : ℕ) → GoesTo q (node b e) i → ⊥
-passed s w n v k q may e p clear b i go = ⊎_elim (λ z. omega arith)
-    (λ low. let c = clear q low in let f = (clear_rounds s w n v k q 0 c).0 in ⊎_elim (λ y. ⊎_elim (λ z. omega arith) (λ t. (clear_rounds s w n v k q t.0 c).1 t.1) y) (λ y. let z = y.0 in omega arith) may) go.1
+passed : (s : Setup) (w : Words) (n : ℕ) (v : Views) → Lawful s w n v → (q : ℕ) → MayRead w.round v.ruling.phase v.read q → (e : ℕ) → 0 < e → e ≤ w.round → IsClear v e → (b i : ℕ) → GoesTo q (node b e) i → ⊥
+passed s w n v k q may e p l clear b i go = ⊎_elim (λ z. omega arith)
+    (λ low. ⊎_elim
+    (λ a. ⊎_elim (λ y. ⊎_elim (λ z. omega arith) (λ t. let z = no_early s w n v k.0 k.1 a t.0 q t.1 in omega arith) y) (λ y. let z = y.0 in omega arith) may)
+    (λ f. let c = f q low in let g = (clear_rounds s w n v k q 0 c).0 in ⊎_elim (λ y. ⊎_elim (λ z. omega arith) (λ t. (clear_rounds s w n v k q t.0 c).1 t.1) y) (λ y. let z = y.0 in omega arith) may) clear) go.1
+
+-- a block that is in chains between rounds was retired in a finished round, if at all
+retired_low : (s : Setup) (w : Words) (n : ℕ) (v : Views) → Lawful s w n v → v.ruling.phase ≡ 0 → (b e y m : ℕ) → Noted (v.sure 0).died b e → HasEntry v.ruling.placed (b, y, m) → (HasEntry v.ruling.undone b → ⊥) → e ≤ w.round
+retired_low s w n v (g, r) rest b e y m f known fair = let d = (r.sure 0).died_is b e f (inl (refl, r.rules.halves (λ z. omega arith) (λ z. omega arith))) in
+    let c = r.names.calm b y m ((λ z. omega arith), λ z. omega arith) (⊎_elim (λ a. a) (λ a. absurd (fair (r.note.all b y m a))) (r.note.placed b y m known)) in omega arith
 
 claim_step : Spared ClaimStep
 claim_step s w n v after (j, x, m, k_, kind, bit, lead, absent, aimed, here, mate, e) k q0 c may rows hand drawn = subst (Spares q0 c w) (sym e) (λ _. refl, λ _. inl refl, rows, update_cases (λ _ cs. None c cs) v.claims j (claim x m Claimed ∷ v.claims j) (λ y i h. ⊎_elim (λ z. claimed_not c (ap (λ (k : Claim). k.progress) (sym z))) (λ z. drawn j y i z) h) (λ i _. drawn i))
@@ -114,8 +123,11 @@ work_finds s w n v after (j, kind, first_, x, k_, b, t, at, p, e) k q0 c may row
 work_had : Spared WorkHad
 work_had s w n v after (j, kind, x, k_, b, t, at, second_, p, low, e) k q0 c may rows hand drawn = subst (Spares q0 c w) (sym e) (λ _. refl, λ _. inl refl, rows, drawn)
 
+work_both : Spared WorkBoth
+work_both s w n v after (j, kind, second_, b, k_, i, t, had, is, e) k q0 c may rows hand drawn = subst (Spares q0 c w) (sym e) (λ _. refl, λ _. inl refl, rows, drawn)
+
 work_passes : Spared WorkPasses
-work_passes s w n v after (j, kind, x, k_, b, t, at, not, e) k q0 c may rows hand drawn = subst (Spares q0 c w) (sym e) (λ _. refl, λ _. inl refl, rows, drawn)
+work_passes s w n v after (j, kind, x, k_, b, t, at, not, grown, how, e) k q0 c may rows hand drawn = subst (Spares q0 c w) (sym e) (λ _. refl, λ _. inl refl, rows, drawn)
 
 work_gives : Spared WorkGives
 work_gives s w n v after (j, kind, second_, b, k_, lead, had, e) k q0 c may rows hand drawn = subst (Spares q0 c w) (sym e) (λ _. refl, λ _. inl refl, rows, drawn)
@@ -124,7 +136,7 @@ work_dead : Spared WorkDead
 work_dead s w n v after (j, kind, second_, b, k_, had, dead, e) k q0 c may rows hand drawn = subst (Spares q0 c w) (sym e) (λ _. refl, λ _. inl refl, rows, drawn)
 
 work_open : Spared WorkOpen
-work_open s w n v after (j, kind, second_, x, k_, stood, stop, e) k q0 c may rows hand drawn = subst (Spares q0 c w) (sym e) (λ _. refl, λ _. inl refl, rows, drawn)
+work_open s w n v after (j, kind, second_, x, k_, mine, open_, grown, how, e) k q0 c may rows hand drawn = subst (Spares q0 c w) (sym e) (λ _. refl, λ _. inl refl, rows, drawn)
 
 load_head : Spared LoadHead
 load_head s w n v after (j, x, e) k q0 c may rows hand drawn = subst (Spares q0 c w) (sym e) (λ _. refl, λ _. inl refl, rows, drawn)
@@ -174,11 +186,8 @@ load_cursor s w n v after (out, e) k q0 c may rows hand drawn = subst (Spares q0
 load_free : Spared LoadFree
 load_free s w n v after e k q0 c may rows hand drawn = subst (Spares q0 c w) (sym e) (λ _. refl, λ _. inl refl, rows, drawn)
 
-note_ever : Spared NoteEver
-note_ever s w n v after (low_, low, e) k q0 c may rows hand drawn = subst (Spares q0 c w) (sym e) (λ _. refl, λ _. inl refl, rows, drawn)
-
 note_free : Spared NoteFree
-note_free s w n v after (i, b, from_, k_, out, home, cursor, free, from, below, row, e) k q0 c may rows hand drawn = subst (Spares q0 c w) (sym e) (λ _. refl, λ _. inl refl, rows, drawn)
+note_free s w n v after (i, b, home, low, high, row, e) k q0 c may rows hand drawn = subst (Spares q0 c w) (sym e) (λ _. refl, λ _. inl refl, rows, drawn)
 
 load_released : Spared LoadReleased
 load_released s w n v after e k q0 c may rows hand drawn = subst (Spares q0 c w) (sym e) (λ _. refl, λ _. inl refl, rows, drawn)
@@ -196,7 +205,7 @@ join_worker : Spared JoinWorker
 join_worker s w n v after (j, far, kind, left, one, e) k q0 c may rows hand drawn = subst (Spares q0 c w) (sym e) (λ _. refl, λ _. inl refl, rows, update_cases (λ _ cs. None c cs) (update v.claims 0 (v.claims 0 ++ v.claims j)) j [] (λ y i h. absurd h) (λ k _. update_cases (λ _ cs. None c cs) v.claims 0 (v.claims 0 ++ v.claims j) (λ y i h. ⊎_elim (drawn 0 y i) (drawn j y i) (entry_of_both (v.claims 0) (v.claims j) (claim y i (Drawn c)) h)) (λ i _. drawn i) k))
 
 join_reader : Spared JoinReader
-join_reader s w n v after (j, far, kind, none, left, one, e) k q0 c may rows hand drawn = subst (Spares q0 c w) (sym e) (λ _. refl, λ _. inl refl, rows, drawn)
+join_reader s w n v after (j, far, kind, none, left, early, one, which, e) k q0 c may rows hand drawn = subst (Spares q0 c w) (sym e) (λ _. refl, λ _. inl refl, rows, update_cases (λ _ cs. None c cs) v.claims j [] (λ y i h. absurd h) (λ i _. drawn i))
 
 begin_step : Spared BeginStep
 begin_step s w n v after (plan, names, last, aim, room, zero_, cursor, e) k q0 c may rows hand drawn = subst (Spares q0 c w) (sym e) (λ _. refl, λ _. inl refl, rows, drawn)
@@ -226,10 +235,10 @@ cut_link : Spared CutLink
 cut_link s w n v after (zero_, x, b, e, y, m, t, l, f1, f2, f3, p, clear, known, fair, side, last) k q0 c may rows hand drawn = subst (Spares q0 c w) (sym last) (λ _. refl, λ _. inl refl, rows, drawn)
 
 cut_history : Spared CutHistory
-cut_history s w n v after (zero_, a, z, i, x, b, e, y, m, u, t, l, f1, f2, f3, p, clear, from, stood, known, fair, side, last) k q0 c may rows hand drawn = subst (Spares q0 c w) (sym last) (λ _. refl, λ o. dite (ℕ_discrete (member_of c o) (member_of a u)) (λ z. inr (λ i go. passed s w n v k q0 may e p clear (b + 1) i (subst (λ (y : Node). GoesTo q0 y i) (ap w.hist z ∙ (owner_sure s w n v k (k.1.rules.halves (λ y. omega arith) (λ y. omega arith))).1 a u (node (b + 1) e) f1) go))) (λ z. inl (update_other w.hist (member_of a u) (member_of c o) l z)), rows, drawn)
+cut_history s w n v after (zero_, a, z, i, x, b, e, y, m, u, t, l, f1, f2, f3, p, clear, from, stood, known, fair, side, last) k q0 c may rows hand drawn = subst (Spares q0 c w) (sym last) (λ _. refl, λ o. dite (ℕ_discrete (member_of c o) (member_of a u)) (λ z. inr (λ i go. passed s w n v k q0 may e p (retired_low s w n v k zero_ b e y m f2 known fair) clear (b + 1) i (subst (λ (y : Node). GoesTo q0 y i) (ap w.hist z ∙ (owner_sure s w n v k (k.1.rules.halves (λ y. omega arith) (λ y. omega arith))).1 a u (node (b + 1) e) f1) go))) (λ z. inl (update_other w.hist (member_of a u) (member_of c o) l z)), rows, drawn)
 
 free_step : Spared FreeStep
-free_step s w n v after (zero_, gone, hand_, undone, placed, stopped, clear, tops, blocks, more, rest, whole, still, e) k q0 c may rows hand drawn = subst (Spares q0 c w) (sym e) (λ _. refl, λ _. inl refl, rows, drawn)
+free_step s w n v after (zero_, gone, hand_, undone, kept, placed, clear, hands, rests, keeps, stays, e) k q0 c may rows hand drawn = subst (Spares q0 c w) (sym e) (λ _. refl, λ _. inl refl, rows, drawn)
 
 zero_step : Spared ZeroStep
 zero_step s w n v after (zero_, b, free, e) k q0 c may rows hand drawn = subst (Spares q0 c w) (sym e) (λ _. refl, λ _. inl refl, rows, drawn)
@@ -241,10 +250,10 @@ rewind_step : Spared RewindStep
 rewind_step s w n v after (zero_, stopped, e) k q0 c may rows hand drawn = subst (Spares q0 c w) (sym e) (λ _. refl, λ _. inl refl, λ i a low. absurd (let z = k.1.stock.free_is 0 stopped in omega arith), drawn)
 
 row_step : Spared RowStep
-row_step s w n v after (zero_, i, b, stopped, e) k q0 c may rows hand drawn = subst (Spares q0 c w) (sym e) (λ _. refl, λ _. inl refl, λ i2 a low. absurd (let z = k.1.stock.free_is 0 stopped in omega arith), drawn)
+row_step s w n v after (zero_, i, b, stopped, out, e) k q0 c may rows hand drawn = subst (Spares q0 c w) (sym e) (λ _. refl, λ _. inl refl, λ i2 a low. absurd (let z = k.1.stock.free_is 0 stopped in omega arith), drawn)
 
 open_step : Spared OpenStep
-open_step s w n v after (zero_, count, at, stopped, rows2, one, e) k q0 c may rows hand drawn = subst (Spares q0 c w) (sym e) (λ _. refl, λ _. inl refl, λ i a low same. hand (subst (HasEntry v.ruling.hand) (sym ((owner_sure s w n v k (k.1.rules.halves (λ y. omega arith) (λ y. omega arith))).4 i (at i) (rows2 i low).0) ∙ same) (rows2 i low).1), drawn)
+open_step s w n v after (zero_, count, hand_, stopped, rewound, below, rows2, one, left, e) k q0 c may rows hand drawn = subst (Spares q0 c w) (sym e) (λ _. refl, λ _. inl refl, λ i a low same. ⊎_elim (λ t. hand (inr (i, t.0, t.1, same))) (λ t. hand (inl (subst (HasEntry v.ruling.hand) (sym ((owner_sure s w n v k (k.1.rules.halves (λ y. omega arith) (λ y. omega arith))).4 i t.0 t.1.2) ∙ same) t.2))) (rows2 i low), drawn)
 
 unbear_step : Spared UnbearStep
 unbear_step s w n v after (four, x, m, b, mine, e) k q0 c may rows hand drawn = subst (Spares q0 c w) (sym e) (λ _. refl, λ _. inl refl, rows, update_cases (λ _ cs. None c cs) v.claims 0 (moved_on (v.claims 0) x (Whole b)) (moved (v.claims 0) x (Whole b) c (λ z. whole_not b c z) (drawn 0)) (λ i _. drawn i))
@@ -261,7 +270,7 @@ bury_step s w n v after (quiet, b, known, e) k q0 c may rows hand drawn = subst 
 undraw_step : Spared UndrawStep
 undraw_step s w n v after (four, x, m, b, mine, e) k q0 c may rows hand drawn = subst (Spares q0 c w) (sym e) (λ _. refl, λ _. inl refl, rows, update_cases (λ _ cs. None c cs) v.claims 0 (ended (v.claims 0) x) (λ y i h. drawn 0 y i (ended_has (v.claims 0) x y i (Drawn c) h).1) (λ i _. drawn i))
 
-kinds_spare : (s : Setup) (a b : State) → Step s a b → Lawful s a.words a.seats a.views → (q c : ℕ) → MayRead a.words.round a.views.ruling.phase a.views.read q → ((i : ℕ) → a.words.cursor ≤ i → i < a.words.free → a.words.row i ≡ c → ⊥) → (HasEntry a.views.ruling.hand c → ⊥) → ((j : ℕ) → None c (a.views.claims j)) → Spares q c a.words b
+kinds_spare : (s : Setup) (a b : State) → Step s a b → Lawful s a.words a.seats a.views → (q c : ℕ) → MayRead a.words.round a.views.ruling.phase a.views.read q → ((i : ℕ) → a.words.cursor ≤ i → i < a.words.free → a.words.row i ≡ c → ⊥) → (HasEntry a.views.ruling.hand c ⊎ InRows a.views.ruling.low a.views.ruling.high a.words.row c → ⊥) → ((j : ℕ) → None c (a.views.claims j)) → Spares q c a.words b
 kinds_spare s a b (ByClaimStep h) = claim_step s a.words a.seats a.views b h
 kinds_spare s a b (ByDrawStep h) = draw_step s a.words a.seats a.views b h
 kinds_spare s a b (ByFullStep h) = full_step s a.words a.seats a.views b h
@@ -279,6 +288,7 @@ kinds_spare s a b (ByWorkEnds h) = work_ends s a.words a.seats a.views b h
 kinds_spare s a b (ByWorkGoes h) = work_goes s a.words a.seats a.views b h
 kinds_spare s a b (ByWorkFinds h) = work_finds s a.words a.seats a.views b h
 kinds_spare s a b (ByWorkHad h) = work_had s a.words a.seats a.views b h
+kinds_spare s a b (ByWorkBoth h) = work_both s a.words a.seats a.views b h
 kinds_spare s a b (ByWorkPasses h) = work_passes s a.words a.seats a.views b h
 kinds_spare s a b (ByWorkGives h) = work_gives s a.words a.seats a.views b h
 kinds_spare s a b (ByWorkDead h) = work_dead s a.words a.seats a.views b h
@@ -299,7 +309,6 @@ kinds_spare s a b (ByReadPasses h) = read_passes s a.words a.seats a.views b h
 kinds_spare s a b (ByNoteClear h) = note_clear s a.words a.seats a.views b h
 kinds_spare s a b (ByLoadCursor h) = load_cursor s a.words a.seats a.views b h
 kinds_spare s a b (ByLoadFree h) = load_free s a.words a.seats a.views b h
-kinds_spare s a b (ByNoteEver h) = note_ever s a.words a.seats a.views b h
 kinds_spare s a b (ByNoteFree h) = note_free s a.words a.seats a.views b h
 kinds_spare s a b (ByLoadReleased h) = load_released s a.words a.seats a.views b h
 kinds_spare s a b (ByNoteQuiet h) = note_quiet s a.words a.seats a.views b h

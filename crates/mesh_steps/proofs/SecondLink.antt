@@ -27,6 +27,7 @@ use Rattle.mesh_state.proofs.Across.{Went, some_worker, first_half}
 use Rattle.mesh_steps.proofs.SureWords.{sure_on, block_back, head_back, not_kid}
 use Rattle.mesh_steps.proofs.Publishing.{Label, member, linked_member, own_place}
 use Rattle.mesh_state.proofs.HeldClaims as held
+use Rattle.mesh_state.proofs.Known.{known_goes}
 
 module _ (s : Setup) (w : Words) (n : ℕ) (v : Views) (g : Ghost) (r : Rule s w n v g) where
   abbrev d : ℕ
@@ -103,7 +104,7 @@ module _ (s : Setup) (w : Words) (n : ℕ) (v : Views) (g : Ghost) (r : Rule s w
       plan = r.plan;
       history = r.history;
       drawn = r.drawn;
-      draws = draws_goes v.ruling.phase v.work g.stage x j (y + 1) (Half b) (Whole b) is (λ c e. e) r.draws;
+      draws = draws_goes v.ruling.phase v.work g.stage x j (y + 1) (Half b) (Whole b) is (λ _. (refl, refl)) r.draws;
       crew = crew_goes s w.round v.ruling.phase v.kind v.work v.work g.stage v.ruling.lone x j (y + 1) (Whole b) kind (λ _. refl) r.crew;
       inside = inside_goes s w.free w.row g.life g.stage v.ruling.hand v.ruling.retired x j (y + 1) (Half b) j (Whole b) is r.inside;
       named = record {
@@ -119,8 +120,17 @@ module _ (s : Setup) (w : Words) (n : ℕ) (v : Views) (g : Ghost) (r : Rule s w
       once = update_cases (λ _ cs. ListedOnce cs) v.claims j (moved_on (v.claims j) x (Whole b)) (once_moved (v.claims j) x (Whole b) (r.once j)) (λ i _. r.once i);
       holders = λ z i c p h. dite (ℕ_discrete z x) (λ f. let t = (held_one j i (y + 1) c (Whole b) p (sym (update_at g.stage x z (Held j (y + 1) (Whole b)) f) ∙ h)).0 in inr (ap v.kind (sym t) ∙ kind)) (λ o. r.holders z i c p (sym (update_other g.stage x z (Held j (y + 1) (Whole b)) o) ∙ h));
       hand = r.hand;
+      grows = r.grows;
+      retireds = r.retireds;
+      frees = r.frees;
+      known = known_goes g.life g.stage v.ruling.placed x j (y + 1) j (Half b) (Whole b) is refl (λ c e. half_not c e) r.known;
+      kept = r.kept;
+      early = r.early;
     }
       where
+        half_not : (c : ℕ) → Half b ≡ Drawn c → ⊥
+        half_not c e = cc
+
         not_drawn : (c : ℕ) → Whole b ≡ Drawn c → ⊥
         not_drawn c e = cc
 

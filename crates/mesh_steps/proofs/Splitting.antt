@@ -25,6 +25,10 @@ use Rattle.mesh_state.proofs.FoundAgain.{still_not, walks_idle}
 use Rattle.mesh_state.proofs.Across.{some_worker}
 use Rattle.mesh_words.proofs.Sums.{one_if, none_if}
 use Rattle.mesh_state.specs.Fresh.{idle, blank}
+use Rattle.mesh_state.specs.Owner.{is_early}
+use Rattle.mesh_state.proofs.Known.{early_late, retireds_on}
+use Rattle.mesh_state.specs.Claims.{block_of}
+use Rattle.mesh_state.specs.Work.{GrownRule}
 
 module _ (s : Setup) (w : Words) (n : ℕ) (v : Views) (g : Ghost) (r : Rule s w n v g) where
   new_kind : v.kind n ≡ 0
@@ -108,6 +112,7 @@ module _ (s : Setup) (w : Words) (n : ℕ) (v : Views) (g : Ghost) (r : Rule s w
         spent = λ j e. dite (ℕ_discrete j n) (λ f. let z = update_at v.kind n j kind f in absurd (⊎_elim (λ t. let y = t.0 in omega arith) (λ t. let y = t.0 in omega arith) which))
             (λ f. update_other v.read n j (new_read notes) f ∙ r.pins.spent j (sym (update_other v.kind n j kind f) ∙ e));
         bit = update_cases (λ _ u. u.ready ≤ 1) v.read n (new_read notes) (omega arith) (λ j _. r.pins.bit j);
+        most = r.pins.most;
         bound = let a = sum (λ (u : Read). u.ready) refl in let b = r.pins.bound in omega arith;
       };
       works = λ j. dite (ℕ_discrete j n)
@@ -128,7 +133,7 @@ module _ (s : Setup) (w : Words) (n : ℕ) (v : Views) (g : Ghost) (r : Rule s w
             row_is = λ b k f z _. absurd (ne z);
           }) j);
       goes = update_cases (λ _ u. ReaderRule s w.round w.name w.hist w.born w.died g.life g.who u) v.read n (new_read notes)
-          record { went = λ q b p f. absurd f; walk = λ q p. tt; sided = λ q x k b t p h. absurd (still_not x k b t h); places = λ q x k p f. absurd f; yes_notes = λ k q h. (r.goes 0).yes_notes k q (told _ h); no_notes = λ k q h. (r.goes 0).no_notes k q (told _ h) }
+          record { went = λ q b p f. absurd f; walk = λ q p. tt; sided = λ q x k b t p h. absurd (still_not x k b t h); dated = λ q x k b t p h. absurd (still_not x k b t h); places = λ q x k p f. absurd f; yes_notes = λ k q h. (r.goes 0).yes_notes k q (told _ h); no_notes = λ k q h. (r.goes 0).no_notes k q (told _ h) }
           (λ j _. r.goes j);
       rules = record {
         owner = (update_other v.kind n 0 kind (λ e. not_first (sym e)) ∙ r.rules.owner.0, omega arith);
@@ -139,7 +144,7 @@ module _ (s : Setup) (w : Words) (n : ℕ) (v : Views) (g : Ghost) (r : Rule s w
         halves = λ a b. ⊎_elim (λ t. absurd (⊎_elim a b t.1)) (λ t. t.2 ∙ r.rules.halves a b) which;
         clear = r.rules.clear;
       };
-      stock = record { finished = r.stock.finished; cursor_is = r.stock.cursor_is; free_is = r.stock.free_is; never = r.stock.never; left = r.stock.left };
+      stock = record { finished = r.stock.finished; cursor_is = r.stock.cursor_is; free_is = r.stock.free_is; left = r.stock.left };
       note = record { undone = r.note.undone; all = r.note.all; placed = r.note.placed; seen = λ x e. let t = r.note.seen x e in (t.0, t.1, t.2, λ f. none (t.3 f)); quiet = λ e. none (r.note.quiet e) };
       retired = λ b x m u e. ⊎_elim (λ t. inl (dite (ℕ_discrete t.0 n) (λ f. absurd (subst (λ (l : List ℕ). HasEntry l b) ((r.walks n).only (λ k. let z = new_kind in omega arith) not_first).3 (subst (λ (i : ℕ). HasEntry (v.work i).retired b) f t.1))) (λ o. (t.0, subst (λ (u : Work). HasEntry u.retired b) (sym (update_other v.work n t.0 (new_work number) o)) t.1)))) inr (r.retired b x m u e);
       plan = plan_on s w.round v.ruling.phase g.who v.kind kind' v.work (update v.work n (new_work number)) v.ruling.plan
@@ -150,7 +155,7 @@ module _ (s : Setup) (w : Words) (n : ℕ) (v : Views) (g : Ghost) (r : Rule s w
         drawn = λ j i b h. r.drawn.drawn j i b (drawn_was j i b h);
         apart = λ j k i b c h l. r.drawn.apart j k i b c (drawn_was j i b h) (drawn_was k i c l);
       };
-      draws = λ x j m b p one e f. dite (ℕ_discrete j n) (λ z. absurd (new_claims x m p (e ∙ ap (λ (i : ℕ). Held i m p) z))) (λ o. let t = r.draws x j m b p one e f in (t.0, subst (λ (u : Work). HasEntry u.drawn (t.0, b + 1)) (sym (update_other v.work n j (new_work number) o)) t.1));
+      draws = λ x j m p one e f. dite (ℕ_discrete j n) (λ z. absurd (new_claims x m p (e ∙ ap (λ (i : ℕ). Held i m p) z))) (λ o. let t = r.draws x j m p one e f in (t.0, subst (λ (u : Work). HasEntry u.drawn (t.0, block_of p)) (sym (update_other v.work n j (new_work number) o)) t.1));
       crew = record {
         rounds = r.crew.rounds;
         alone = λ j one k z. dite (ℕ_discrete j n)
@@ -169,6 +174,13 @@ module _ (s : Setup) (w : Words) (n : ℕ) (v : Views) (g : Ghost) (r : Rule s w
       once = update_cases (λ _ cs. ListedOnce cs) v.claims n [] tt (λ i _. r.once i);
       holders = λ x j m p h. ⊎_elim inl (λ k. inr (update_other v.kind n j kind (λ (e : j ≡ n). new_claims x m p (h ∙ ap (λ (i : ℕ). Held i m p) e)) ∙ k)) (r.holders x j m p h);
       hand = r.hand;
+      grows = update_cases (λ i u. GrownRule s w.round v.ruling.phase w.name w.born (g.who (w.round + 1)) (kind' i) i u) v.work n (new_work number) record { only = λ _ _. refl; grown = λ x k h. absurd h } (λ i o. record { only = λ a. (r.grows i).only (λ k. a (update_other v.kind n i kind o ∙ k)); grown = (r.grows i).grown });
+      retireds = retireds_on w.round w.died w.died g.life g.life v.work (update v.work n (new_work number)) v.ruling.retired v.ruling.retired (λ b h. ⊎_elim (λ t. inl (t.0, update_cases (λ i x. HasEntry x.retired b → HasEntry (v.work i).retired b) v.work n (new_work number) (λ f. absurd f) (λ _ _ f. f) t.0 t.1)) inr h) (λ _ _ _ u _. (u, refl)) r.retireds;
+      frees = r.frees;
+      known = r.known;
+      kept = r.kept;
+      early = let a = one_more_seat (λ j. is_early w.round (v.kind j) (v.read j)) (λ j. is_early w.round (kind' j) (update v.read n (new_read notes) j)) (λ i l. let o : i ≢ n = λ (e : i ≡ n). omega arith in ap (λ (k : ℕ). is_early w.round k (update v.read n (new_read notes) i)) (kind_old i l) ∙ ap (is_early w.round (v.kind i)) (update_other v.read n i (new_read notes) o)) in
+          let z : is_early w.round (kind' n) (update v.read n (new_read notes) n) ≡ 0 = ap (is_early w.round (kind' n)) (update_same v.read n (new_read notes)) ∙ early_late w.round (kind' n) (new_read notes) (let f = r.stock.finished in omega arith) in let e = r.early in omega arith;
     }
       where
         drawn_was : (j i b : ℕ) → HasEntry (update v.work n (new_work number) j).drawn (i, b) → HasEntry (v.work j).drawn (i, b)

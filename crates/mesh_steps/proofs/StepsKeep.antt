@@ -11,11 +11,11 @@ use Rattle.mesh_state.specs.Claims.{block_of}
 use Rattle.mesh_state.specs.Rule.{Lawful, Rule}
 use Rattle.mesh_steps.specs.States.{Kind, State, IsLawful}
 use Rattle.mesh_steps.specs.WorkSteps.{ClaimStep, DrawStep, FullStep, FillHistory, FillName, FillDied, FillChild, LinkFirst, LinkSecond, PublishStep, RetireStep, RetiredStep}
-use Rattle.mesh_steps.specs.WalkSteps.{WorkTop, WorkEnds, WorkGoes, WorkFinds, WorkHad, WorkPasses, WorkGives, WorkDead, WorkOpen, LoadHead, LoadHistory, LoadBorn, LoadDied, LoadName, LoadRow}
+use Rattle.mesh_steps.specs.WalkSteps.{WorkTop, WorkEnds, WorkGoes, WorkFinds, WorkHad, WorkBoth, WorkPasses, WorkGives, WorkDead, WorkOpen, LoadHead, LoadHistory, LoadBorn, LoadDied, LoadName, LoadRow}
 use Rattle.mesh_steps.specs.PinSteps.{LoadRound, PinStep, UnpinStep, ReadEnds, ReadGoes, ReadFinds, ReadPasses}
-use Rattle.mesh_steps.specs.OwnerSteps.{NoteClear, LoadCursor, LoadFree, NoteEver, NoteFree, LoadReleased, NoteQuiet, NotePlaces, SplitStep, JoinWorker, JoinReader, BeginStep, PlanStep, CloseStep, RefuseStep, RestoreStep, AdvanceStep}
+use Rattle.mesh_steps.specs.OwnerSteps.{NoteClear, LoadCursor, LoadFree, NoteFree, LoadReleased, NoteQuiet, NotePlaces, SplitStep, JoinWorker, JoinReader, BeginStep, PlanStep, CloseStep, RefuseStep, RestoreStep, AdvanceStep}
 use Rattle.mesh_steps.specs.SweepSteps.{StampStep, UnclaimStep, CutLink, CutHistory, FreeStep, ZeroStep, StopStep, RewindStep, RowStep, OpenStep, UnbearStep, UnlinkSecond, UnlinkFirst, BuryStep, UndrawStep}
-use Rattle.mesh_steps.specs.Steps.{StepsKeep, ByClaimStep, ByDrawStep, ByFullStep, ByFillHistory, ByFillName, ByFillDied, ByFillChild, ByLinkFirst, ByLinkSecond, ByPublishStep, ByRetireStep, ByRetiredStep, ByWorkTop, ByWorkEnds, ByWorkGoes, ByWorkFinds, ByWorkHad, ByWorkPasses, ByWorkGives, ByWorkDead, ByWorkOpen, ByLoadHead, ByLoadHistory, ByLoadBorn, ByLoadDied, ByLoadName, ByLoadRow, ByLoadRound, ByPinStep, ByUnpinStep, ByReadEnds, ByReadGoes, ByReadFinds, ByReadPasses, ByNoteClear, ByLoadCursor, ByLoadFree, ByNoteEver, ByNoteFree, ByLoadReleased, ByNoteQuiet, ByNotePlaces, BySplitStep, ByJoinWorker, ByJoinReader, ByBeginStep, ByPlanStep, ByCloseStep, ByRefuseStep, ByRestoreStep, ByAdvanceStep, ByStampStep, ByUnclaimStep, ByCutLink, ByCutHistory, ByFreeStep, ByZeroStep, ByStopStep, ByRewindStep, ByRowStep, ByOpenStep, ByUnbearStep, ByUnlinkSecond, ByUnlinkFirst, ByBuryStep, ByUndrawStep}
+use Rattle.mesh_steps.specs.Steps.{StepsKeep, ByClaimStep, ByDrawStep, ByFullStep, ByFillHistory, ByFillName, ByFillDied, ByFillChild, ByLinkFirst, ByLinkSecond, ByPublishStep, ByRetireStep, ByRetiredStep, ByWorkTop, ByWorkEnds, ByWorkGoes, ByWorkFinds, ByWorkHad, ByWorkBoth, ByWorkPasses, ByWorkGives, ByWorkDead, ByWorkOpen, ByLoadHead, ByLoadHistory, ByLoadBorn, ByLoadDied, ByLoadName, ByLoadRow, ByLoadRound, ByPinStep, ByUnpinStep, ByReadEnds, ByReadGoes, ByReadFinds, ByReadPasses, ByNoteClear, ByLoadCursor, ByLoadFree, ByNoteFree, ByLoadReleased, ByNoteQuiet, ByNotePlaces, BySplitStep, ByJoinWorker, ByJoinReader, ByBeginStep, ByPlanStep, ByCloseStep, ByRefuseStep, ByRestoreStep, ByAdvanceStep, ByStampStep, ByUnclaimStep, ByCutLink, ByCutHistory, ByFreeStep, ByZeroStep, ByStopStep, ByRewindStep, ByRowStep, ByOpenStep, ByUnbearStep, ByUnlinkSecond, ByUnlinkFirst, ByBuryStep, ByUndrawStep}
 use Rattle.mesh_state.proofs.HeldClaims.{uses}
 use Rattle.mesh_state.proofs.Inside.{label_below, label_of}
 use Rattle.mesh_state.proofs.TableLaws.{walk_sides}
@@ -37,6 +37,7 @@ use Rattle.mesh_steps.proofs.Pinning as pinning
 use Rattle.mesh_steps.proofs.Splitting as splitting
 use Rattle.mesh_steps.proofs.JoiningWorkers as workers
 use Rattle.mesh_steps.proofs.JoiningReaders as readers
+use Rattle.mesh_steps.proofs.EmptySeats as empty
 use Rattle.mesh_steps.proofs.Phases as phases
 use Rattle.mesh_steps.proofs.Sweeping as sweeping
 use Rattle.mesh_steps.proofs.TakingBack as back
@@ -62,8 +63,8 @@ claim_step s w n v after (j, x, m, k, kind, bit, lead, absent, aimed, here, mate
 abbrev work_at : Views → ℕ → ℕ → ℕ → ℕ → Bool → Views
 work_at v j x k b t = record v { work = update v.work j (record (v.work j) { went = b ∷ (v.work j).went; walk = At x k b t }) }
 
-abbrev read_at : Views → ℕ → ℕ → ℕ → ℕ → Bool → Views
-read_at v j x k b t = record v { read = update v.read j (record (v.read j) { went = b ∷ (v.read j).went; walk = At x k b t }) }
+abbrev read_at : Views → ℕ → ℕ → ℕ → ℕ → Bool → ℕ → Views
+read_at v j x k b t d = record v { read = update v.read j (record (v.read j) { went = b ∷ (v.read j).went; walk = At x k b t; back = d }) }
 
 -- the NAME words show which member it is
 work_goes : Keeps WorkGoes
@@ -73,9 +74,9 @@ work_goes s w n v after (j, kind, x, k, b, l, next, is, may, t, named, e) (g, r)
 
 read_goes : Keeps ReadGoes
 read_goes s w n v after (j, q, kind, pinned, x, k, b, l, next, is, may, t, named, e) (g, r) = let f = pinning.goes_to s w n v g r j q kind pinned x k b l next is may in
-    let here = update_same v.read j (record (v.read j) { went = b ∷ (v.read j).went; walk = At x k b f.0 }) in
-    let same : t ≡ f.0 = ((walk_sides s w n (read_at v j x k b f.0) (g, f.1) j x k b f.0).1 q (ap (λ (u : Read). u.pin) here ∙ pinned) (ap (λ (u : Read). u.walk) here) t).0 named in
-    subst (IsLawful s) (sym e) (subst (λ (u : Bool). Lawful s w n (read_at v j x k b u)) (sym same) (g, f.1))
+    let here = update_same v.read j (record (v.read j) { went = b ∷ (v.read j).went; walk = At x k b f.0; back = l.died }) in
+    let same : t ≡ f.0 = ((walk_sides s w n (read_at v j x k b f.0 l.died) (g, f.1) j x k b f.0).1 q (ap (λ (u : Read). u.pin) here ∙ pinned) (ap (λ (u : Read). u.walk) here) t).0 named in
+    subst (IsLawful s) (sym e) (subst (λ (u : Bool). Lawful s w n (read_at v j x k b u l.died)) (sym same) (g, f.1))
 
 draw_step : Keeps DrawStep
 draw_step s w n v after (j, x, m, mine, kind, low, e) (g, r) = subst (IsLawful s) (sym e) (_, draws.draws_one s w n v g r j x m mine kind low)
@@ -122,8 +123,11 @@ work_finds s w n v after (j, kind, first_, x, k, b, t, at, p, e) (g, r) = subst 
 work_had : Keeps WorkHad
 work_had s w n v after (j, kind, x, k, b, t, at, second_, p, low, e) (g, r) = subst (IsLawful s) (sym e) (_, walks.finds_last s w n v g r j kind x k b t at second_ p low)
 
+work_both : Keeps WorkBoth
+work_both s w n v after (j, kind, second_, b, k, i, t, had, is, e) (g, r) = subst (IsLawful s) (sym e) (_, walks.finds_both s w n v g r j kind b k i t had is)
+
 work_passes : Keeps WorkPasses
-work_passes s w n v after (j, kind, x, k, b, t, at, not, e) (g, r) = subst (IsLawful s) (sym e) (_, walks.passes s w n v g r j kind x k b t at not)
+work_passes s w n v after (j, kind, x, k, b, t, at, not, grown, how, e) (g, r) = subst (IsLawful s) (sym e) (_, walks.passes s w n v g r j kind x k b t at not grown how)
 
 work_gives : Keeps WorkGives
 work_gives s w n v after (j, kind, second_, b, k, lead, had, e) (g, r) = subst (IsLawful s) (sym e) (_, half.gives s w n v g r j kind second_ b k lead had)
@@ -132,7 +136,7 @@ work_dead : Keeps WorkDead
 work_dead s w n v after (j, kind, second_, b, k, had, dead, e) (g, r) = subst (IsLawful s) (sym e) (_, half.opens_dead s w n v g r j kind second_ b k had dead)
 
 work_open : Keeps WorkOpen
-work_open s w n v after (j, kind, second_, x, k, stood, stop, e) (g, r) = subst (IsLawful s) (sym e) (_, half.opens_head s w n v g r j kind second_ x k stood stop)
+work_open s w n v after (j, kind, second_, x, k, mine, open_, grown, how, e) (g, r) = subst (IsLawful s) (sym e) (_, half.opens_head s w n v g r j kind second_ x k mine open_ grown how)
 
 load_head : Keeps LoadHead
 load_head s w n v after (j, x, e) (g, r) = subst (IsLawful s) (sym e) (_, loads.loads_head s w n v g r j x)
@@ -179,11 +183,8 @@ load_cursor s w n v after (out, e) (g, r) = subst (IsLawful s) (sym e) (_, loads
 load_free : Keeps LoadFree
 load_free s w n v after e (g, r) = subst (IsLawful s) (sym e) (_, loads.loads_free s w n v g r)
 
-note_ever : Keeps NoteEver
-note_ever s w n v after (last, low, e) (g, r) = subst (IsLawful s) (sym e) (_, loads.notes_ever s w n v g r last low)
-
 note_free : Keeps NoteFree
-note_free s w n v after (i, b, c, k, out, home, cursor, free, from, below, row, e) (g, r) = subst (IsLawful s) (sym e) (_, loads.notes_free s w n v g r i b c k out home cursor free from below row)
+note_free s w n v after (i, b, home, low, high, row, e) (g, r) = subst (IsLawful s) (sym e) (_, loads.notes_free s w n v g r i b home low high row)
 
 load_released : Keeps LoadReleased
 load_released s w n v after e (g, r) = subst (IsLawful s) (sym e) (_, loads.finds_released s w n v g r)
@@ -201,7 +202,7 @@ join_worker : Keeps JoinWorker
 join_worker s w n v after (j, far, kind, left, one, e) (g, r) = subst (IsLawful s) (sym e) (_, workers.joins s w n v g r j far kind left one)
 
 join_reader : Keeps JoinReader
-join_reader s w n v after (j, far, kind, none, left, one, e) (g, r) = subst (IsLawful s) (sym e) (_, readers.leaves s w n v g r j far kind none left one)
+join_reader s w n v after (j, far, kind, none, left, early, one, which, e) (g, r) = subst (IsLawful s) (sym e) (_, empty.empties s w n _ g (readers.leaves s w n v g r j far kind none left early one which) j far (update_same v.kind j 0))
 
 begin_step : Keeps BeginStep
 begin_step s w n v after (plan, names, last, aim, room, zero_, cursor, e) (g, r) = subst (IsLawful s) (sym e) (_, phases.begins s w n v g r plan names last aim room zero_ cursor)
@@ -234,22 +235,22 @@ cut_history : Keeps CutHistory
 cut_history s w n v after (zero_, a, z, i, x, b, last, y, m, u, t, l, f1, f2, f3, p, c, from, stood, known, fair, side, e) (g, r) = subst (IsLawful s) (sym e) (_, sweeping.cuts_history s w n v g r zero_ a z i x b last y m u t l f1 f2 f3 p c from stood known fair side)
 
 free_step : Keeps FreeStep
-free_step s w n v after (zero_, gone, hand, undone, placed, stopped, clear, tops, blocks, more, rest, whole, still, e) (g, r) = subst (IsLawful s) (sym e) (_, sweeping.frees_all s w n v g r zero_ gone hand undone placed stopped clear tops blocks more rest whole still)
+free_step s w n v after (zero_, gone, hand, undone, kept, placed, clear, hands, rests, keeps, stays, e) (g, r) = subst (IsLawful s) (sym e) (_, sweeping.frees_all s w n v g r zero_ gone hand undone kept placed clear hands rests keeps stays)
 
 zero_step : Keeps ZeroStep
 zero_step s w n v after (zero_, b, free, e) (g, r) = subst (IsLawful s) (sym e) (_, sweeping.zeroes s w n v g r zero_ b free)
 
 stop_step : Keeps StopStep
-stop_step s w n v after (zero_, k, c, free, cursor, used, e) (g, r) = subst (IsLawful s) (sym e) (_, sweeping.stops s w n v g r zero_ k c free cursor used)
+stop_step s w n v after (zero_, k, c, free, cursor, none, e) (g, r) = subst (IsLawful s) (sym e) (_, sweeping.stops s w n v g r zero_ k c free cursor none)
 
 rewind_step : Keeps RewindStep
 rewind_step s w n v after (zero_, stopped, e) (g, r) = subst (IsLawful s) (sym e) (_, sweeping.rewinds s w n v g r zero_ stopped)
 
 row_step : Keeps RowStep
-row_step s w n v after (zero_, i, b, stopped, e) (g, r) = subst (IsLawful s) (sym e) (_, sweeping.lays s w n v g r zero_ i b stopped)
+row_step s w n v after (zero_, i, b, stopped, out, e) (g, r) = subst (IsLawful s) (sym e) (_, sweeping.lays s w n v g r zero_ i b stopped out)
 
 open_step : Keeps OpenStep
-open_step s w n v after (zero_, k, at, stopped, rows, one, e) (g, r) = subst (IsLawful s) (sym e) (_, sweeping.opens_rows s w n v g r zero_ k at stopped rows one)
+open_step s w n v after (zero_, k, hand, stopped, rewound, below, rows, one, left, e) (g, r) = subst (IsLawful s) (sym e) (_, sweeping.opens_rows s w n v g r zero_ k hand stopped rewound below rows one left)
 
 unbear_step : Keeps UnbearStep
 unbear_step s w n v after (four, x, m, b, mine, e) (g, r) = subst (IsLawful s) (sym e) (_, back.unborns s w n v g r ((λ e. omega arith), λ e. omega arith) four x m b mine)
@@ -294,6 +295,7 @@ steps_keep s a b (ByWorkEnds h) lawful = work_ends s a.words a.seats a.views b h
 steps_keep s a b (ByWorkGoes h) lawful = work_goes s a.words a.seats a.views b h lawful
 steps_keep s a b (ByWorkFinds h) lawful = work_finds s a.words a.seats a.views b h lawful
 steps_keep s a b (ByWorkHad h) lawful = work_had s a.words a.seats a.views b h lawful
+steps_keep s a b (ByWorkBoth h) lawful = work_both s a.words a.seats a.views b h lawful
 steps_keep s a b (ByWorkPasses h) lawful = work_passes s a.words a.seats a.views b h lawful
 steps_keep s a b (ByWorkGives h) lawful = work_gives s a.words a.seats a.views b h lawful
 steps_keep s a b (ByWorkDead h) lawful = work_dead s a.words a.seats a.views b h lawful
@@ -314,7 +316,6 @@ steps_keep s a b (ByReadPasses h) lawful = read_passes s a.words a.seats a.views
 steps_keep s a b (ByNoteClear h) lawful = note_clear s a.words a.seats a.views b h lawful
 steps_keep s a b (ByLoadCursor h) lawful = load_cursor s a.words a.seats a.views b h lawful
 steps_keep s a b (ByLoadFree h) lawful = load_free s a.words a.seats a.views b h lawful
-steps_keep s a b (ByNoteEver h) lawful = note_ever s a.words a.seats a.views b h lawful
 steps_keep s a b (ByNoteFree h) lawful = note_free s a.words a.seats a.views b h lawful
 steps_keep s a b (ByLoadReleased h) lawful = load_released s a.words a.seats a.views b h lawful
 steps_keep s a b (ByNoteQuiet h) lawful = note_quiet s a.words a.seats a.views b h lawful

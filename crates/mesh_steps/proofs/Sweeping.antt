@@ -7,26 +7,27 @@ use Rattle.mesh_words.specs.Functions.{update}
 use Rattle.mesh_words.specs.Words.{Words, Node, node}
 use Rattle.mesh_words.specs.Views.{Views, Sure}
 use Rattle.mesh_words.specs.Claims.{Progress, Drawn, Half, Claim}
-use Rattle.mesh_words.specs.Places.{member_of, child_place}
+use Rattle.mesh_words.specs.Places.{member_of}
 use Rattle.mesh_words.specs.Entries.{HasEntry, Noted}
 use Rattle.mesh_words.proofs.Functions.{update_same, update_at, update_other}
 use Rattle.mesh_words.proofs.Entries.{noted_after}
-use Rattle.mesh_state.specs.Ghosts.{Stage, Held, Life, Free, Placed, Undone, chained, stands, Ghost}
+use Rattle.mesh_state.specs.Ghosts.{Stage, Held, Life, Free, Loose, Placed, Undone, chained, stands, Ghost}
 use Rattle.mesh_state.specs.Chains.{Covers, IsPlace, IsUnborn, ChainsRule}
 use Rattle.mesh_state.specs.Claims.{ClaimsRule}
 use Rattle.mesh_state.specs.Bisections.{MayRead}
 use Rattle.mesh_state.specs.Sure.{GuardsBlock, GuardsHead, SureRule}
-use Rattle.mesh_state.specs.Owner.{StockRule, NoteRule}
+use Rattle.mesh_state.specs.Owner.{StockRule, NoteRule, FreeRule, KnownRule, KeptRule}
+use Rattle.mesh_state.proofs.Known.{frees_on, kept_on, retireds_on, grows_off}
 use Rattle.mesh_state.specs.Rule.{Rule}
 use Rattle.mesh_state.specs.Inside.{InsideRule, IsLabel, LabelRule, ListedOnce}
-use Rattle.mesh_state.proofs.Inside.{not_free, few_below, labels_skip, labels_skip_history}
+use Rattle.mesh_state.proofs.Inside.{below_pool, not_free, few_below, labels_skip, labels_skip_history}
 use Rattle.mesh_words.proofs.PlaceNumbers.{child_one, child_outside}
 use Rattle.mesh_state.proofs.Lists.{crew_free}
 use Rattle.mesh_state.proofs.FoundAgain.{placed, chained_stands, names_on, goes_on, walks_home, Moves}
-use Rattle.mesh_state.proofs.ChainSteps.{moves_same, skips, cuts_hist}
+use Rattle.mesh_state.proofs.ChainSteps.{moves_same, skips, cuts_hist, named, older_named}
 use Rattle.mesh_steps.proofs.BlockSteps.{resets, frees, gives_up}
 use Rattle.mesh_state.proofs.HeldClaims.{not_open, free_not}
-use Rattle.mesh_state.proofs.Across.{Went, some_worker, no_pin}
+use Rattle.mesh_state.proofs.Across.{Went, some_worker, no_pin, no_early}
 
 module _ (s : Setup) (w : Words) (n : ℕ) (v : Views) (g : Ghost) (r : Rule s w n v g) where
   abbrev d : ℕ
@@ -72,12 +73,12 @@ module _ (s : Setup) (w : Words) (n : ℕ) (v : Views) (g : Ghost) (r : Rule s w
   }
 
   -- what a sweep is to show: the rest of the rule reads nothing that it changes
-  pub sweeps_to : Quiet → (cursor free : ℕ) (row claimed : ℕ → ℕ) (head hist : ℕ → Node) (born died : ℕ → ℕ) (life : ℕ → Life) (stage : ℕ → Stage) (cs : ℕ → List Claim) (us : ℕ → Sure) (hand : List ℕ) (cursor_is free_is : ℕ) (undone : List ℕ) (placed : List (ℕ × ℕ × ℕ)) (seen quiet : ℕ)
+  pub sweeps_to : Quiet → (cursor free : ℕ) (row claimed : ℕ → ℕ) (head hist : ℕ → Node) (born died : ℕ → ℕ) (life : ℕ → Life) (stage : ℕ → Stage) (cs : ℕ → List Claim) (us : ℕ → Sure) (hand : List ℕ) (cursor_is free_is low high : ℕ) (undone kept : List ℕ) (placed : List (ℕ × ℕ × ℕ)) (seen quiet : ℕ)
       → ClaimsRule s w.round cursor free v.ruling.phase row claimed head born life stage cs → ChainsRule s.elements w.round head hist born died life × Moves Can A s.elements w.round w.head w.hist head hist w.born w.died born died g.life life
       → ((b x m : ℕ) → life b ≡ Placed x m → (g.life b ≡ Placed x m) × (died b ≡ w.died b) × (0 < born b → 0 < w.born b)) → ((x j m : ℕ) (p : Progress) → stage x ≡ Held j m p → j ≡ 0) → OwnSure head hist born died w.name row (us 0)
-      → ((b : ℕ) → HasEntry hand b → (v.ruling.phase ≡ 1 → ⊥) × (life b ≡ Free)) → StockRule w.round cursor free row life g.pins (record v.ruling { hand = hand; cursor = cursor_is; free = free_is; undone = undone; placed = placed; seen = seen; quiet = quiet }) → NoteRule w.round w.taken life v.read (record v.ruling { hand = hand; cursor = cursor_is; free = free_is; undone = undone; placed = placed; seen = seen; quiet = quiet }) → InsideRule s free row life stage hand v.ruling.retired → LabelRule s w.name head hist life → ((j : ℕ) → ListedOnce (cs j))
-      → Rule s (record w { cursor = cursor; free = free; row = row; claimed = claimed; head = head; hist = hist; born = born; died = died }) n (record v { claims = cs; sure = us; ruling = record v.ruling { hand = hand; cursor = cursor_is; free = free_is; undone = undone; placed = placed; seen = seen; quiet = quiet } }) (record g { stage = stage; life = life })
-  sweeps_to q cursor free row claimed head hist born died life stage cs us hand cursor_is free_is undone placed seen quiet claims ch back own sure hands stock note inside named once = record {
+      → ((b : ℕ) → HasEntry hand b → life b ≡ Free) → StockRule w.round cursor free g.pins (record v.ruling { hand = hand; cursor = cursor_is; free = free_is; low = low; high = high; undone = undone; kept = kept; placed = placed; seen = seen; quiet = quiet }) → NoteRule w.round w.taken life v.read (record v.ruling { hand = hand; cursor = cursor_is; free = free_is; low = low; high = high; undone = undone; kept = kept; placed = placed; seen = seen; quiet = quiet }) → InsideRule s free row life stage hand v.ruling.retired → LabelRule s w.name head hist life → ((j : ℕ) → ListedOnce (cs j)) → FreeRule s.pool cursor free row born life hand low high → KnownRule life stage placed → KeptRule w.round died life kept → ((b x m : ℕ) → g.life b ≡ Placed x m → w.died b ≡ d → (life b ≡ Placed x m) × (died b ≡ w.died b))
+      → Rule s (record w { cursor = cursor; free = free; row = row; claimed = claimed; head = head; hist = hist; born = born; died = died }) n (record v { claims = cs; sure = us; ruling = record v.ruling { hand = hand; cursor = cursor_is; free = free_is; low = low; high = high; undone = undone; kept = kept; placed = placed; seen = seen; quiet = quiet } }) (record g { stage = stage; life = life })
+  sweeps_to q cursor free row claimed head hist born died life stage cs us hand cursor_is free_is low high undone kept placed seen quiet claims ch back own sure hands stock note inside named once frees known keeps stays = record {
     names_apart = r.names_apart;
     claims = claims;
     labels = λ x j m p h e. absurd (q.0 e);
@@ -118,13 +119,19 @@ module _ (s : Setup) (w : Words) (n : ℕ) (v : Views) (g : Ghost) (r : Rule s w
     plan = r.plan;
     history = r.history;
     drawn = record { only = r.drawn.only; drawn = λ j i b h. absurd (q.0 (r.drawn.drawn j i b h).0); apart = r.drawn.apart };
-    draws = λ x j m b p e. absurd (q.0 e);
+    draws = λ x j m p e. absurd (q.0 e);
     crew = crew_free s w.round v.ruling.phase v.kind v.work stage v.ruling.lone r.crew.rounds (λ e. absurd (q.0 e));
     inside = inside;
     named = named;
     once = once;
     holders = λ x j m p h. inl (own x j m p h);
     hand = hands;
+    grows = λ j. grows_off s w.round v.ruling.phase w.name w.born w.name born (g.who d) (g.who d) (v.kind j) j (v.work j) (v.work j) q.1 refl (r.grows j);
+    retireds = retireds_on w.round w.died died g.life life v.work v.work v.ruling.retired v.ruling.retired (λ _ h. h) stays r.retireds;
+    frees = frees;
+    known = known;
+    kept = keeps;
+    early = r.early;
   }
     where
       no_block : (j : ℕ) → j ≢ 0 → (b : ℕ) → GuardsBlock v.ruling.workers stage j b → ⊥
@@ -139,11 +146,11 @@ module _ (s : Setup) (w : Words) (n : ℕ) (v : Views) (g : Ghost) (r : Rule s w
   pub sweeps : Quiet → (claimed : ℕ → ℕ) (head hist : ℕ → Node) (born died : ℕ → ℕ) (stage : ℕ → Stage) (cs : ℕ → List Claim) (us : ℕ → Sure) (hand : List ℕ)
       → ClaimsRule s w.round w.cursor w.free v.ruling.phase w.row claimed head born g.life stage cs → ChainsRule s.elements w.round head hist born died g.life × Moves Can A s.elements w.round w.head w.hist head hist w.born w.died born died g.life g.life
       → ((b x m : ℕ) → g.life b ≡ Placed x m → (died b ≡ w.died b) × (0 < born b → 0 < w.born b)) → ((x j m : ℕ) (p : Progress) → stage x ≡ Held j m p → j ≡ 0) → OwnSure head hist born died w.name w.row (us 0)
-      → ((b : ℕ) → HasEntry hand b → (v.ruling.phase ≡ 1 → ⊥) × (g.life b ≡ Free)) → InsideRule s w.free w.row g.life stage hand v.ruling.retired → LabelRule s w.name head hist g.life → ((j : ℕ) → ListedOnce (cs j))
+      → ((b : ℕ) → HasEntry hand b → g.life b ≡ Free) → InsideRule s w.free w.row g.life stage hand v.ruling.retired → LabelRule s w.name head hist g.life → ((j : ℕ) → ListedOnce (cs j)) → FreeRule s.pool w.cursor w.free w.row born g.life hand v.ruling.low v.ruling.high → KnownRule g.life stage v.ruling.placed
       → Rule s (record w { claimed = claimed; head = head; hist = hist; born = born; died = died }) n (record v { claims = cs; sure = us; ruling = record v.ruling { hand = hand } }) (record g { stage = stage })
-  sweeps q claimed head hist born died stage cs us hand claims ch same own sure hands inside named once = sweeps_to q w.cursor w.free w.row claimed head hist born died g.life stage cs us hand v.ruling.cursor v.ruling.free v.ruling.undone v.ruling.placed v.ruling.seen v.ruling.quiet claims ch (λ b x m h. let e = same b x m h in (h, e.0, e.1)) own sure hands
-      (let k = r.stock in record { finished = k.finished; cursor_is = k.cursor_is; free_is = k.free_is; left = k.left; never = k.never })
-      record { undone = r.note.undone; all = r.note.all; placed = r.note.placed; seen = r.note.seen; quiet = r.note.quiet } inside named once
+  sweeps q claimed head hist born died stage cs us hand claims ch same own sure hands inside named once frees known = sweeps_to q w.cursor w.free w.row claimed head hist born died g.life stage cs us hand v.ruling.cursor v.ruling.free v.ruling.low v.ruling.high v.ruling.undone v.ruling.kept v.ruling.placed v.ruling.seen v.ruling.quiet claims ch (λ b x m h. let e = same b x m h in (h, e.0, e.1)) own sure hands
+      (let k = r.stock in record { finished = k.finished; cursor_is = k.cursor_is; free_is = k.free_is; left = k.left })
+      record { undone = r.note.undone; all = r.note.all; placed = r.note.placed; seen = r.note.seen; quiet = r.note.quiet } inside named once frees known (kept_on w.round w.died died g.life g.life v.ruling.kept (λ b x m h _ _. (h, (same b x m h).0)) (λ b x m h _ _. (h, (same b x m h).0)) r.kept) (λ b x m h _. (h, (same b x m h).0))
 
   -- before the round no place is held, so its words are said by the rows alone
   module _ (zero_ : v.ruling.phase ≡ 0) where
@@ -178,14 +185,14 @@ module _ (s : Setup) (w : Words) (n : ℕ) (v : Views) (g : Ghost) (r : Rule s w
 
     -- no pin is out of a round before the block's last
     abbrev pub Clear : ℕ → Type 0
-    Clear e = (q : ℕ) → q < e → HasEntry v.ruling.clear q
+    Clear e = (v.ruling.early ≡ 0) ⊎ ((q : ℕ) → q < e → HasEntry v.ruling.clear q)
+
+    cleared : (e : ℕ) → e ≤ w.round → Clear e → (q : ℕ) → q < e → (j : ℕ) → (v.read j).pin ≡ q + 1 → ⊥
+    cleared e l c q z j p = ⊎_elim (λ a. let y = no_early s w n v g r a j q p in omega arith) (λ a. no_pin s w n v g r q (a q z) j p) c
 
     -- so no round that may be read has the block
     pub over : (b : ℕ) → 0 < w.died b → w.died b ≤ w.round → Clear (w.died b) → (q : ℕ) → Can q → (w.died b ≡ 0) ⊎ (q < w.died b) → ⊥
-    over b p l c q k = ⊎_elim (λ z. omega arith) (λ z. ⊎_elim (λ y. ⊎_elim (λ e. omega arith) (λ t. cleared q (c q z) t.0 t.1) y) (λ y. let e = y.0 in omega arith) k)
-      where
-        cleared : (q : ℕ) → HasEntry v.ruling.clear q → (j : ℕ) → (v.read j).pin ≡ q + 1 → ⊥
-        cleared q h j e = no_pin s w n v g r q h j e
+    over b p l c q k = ⊎_elim (λ z. omega arith) (λ z. ⊎_elim (λ y. ⊎_elim (λ e. omega arith) (λ t. cleared (w.died b) l c q z t.0 t.1) y) (λ y. let e = y.0 in omega arith) k)
 
     not_covers : (b : ℕ) → 0 < w.died b → w.died b ≤ w.round → Clear (w.died b) → (q : ℕ) → Can q → Covers w.born w.died q b → ⊥
     not_covers b p l c q k h = over b p l c q k h.2
@@ -207,7 +214,7 @@ module _ (s : Setup) (w : Words) (n : ℕ) (v : Views) (g : Ghost) (r : Rule s w
         sweeps quiet w.claimed (update w.head x l) w.hist w.born w.died g.stage v.claims (update v.sure 0 (record (v.sure 0) { head = (x, l) ∷ (v.sure 0).head })) v.ruling.hand
         (calm_claims w.cursor w.free w.row (update w.head x l) w.born g.life (λ _ _ _ u. (u, refl)) r.claims.rows r.claims.apart)
         (subst (λ (i : Node). ChainsRule s.elements w.round (update w.head x i) w.hist w.born w.died g.life × Moves Can A s.elements w.round w.head w.hist (update w.head x i) w.hist w.born w.died w.born w.died g.life g.life) hh k)
-        (λ _ _ _ _. (refl, λ p. p)) (λ y j k p h. absurd (no_stage y j k p h)) (add_head x l) r.hand r.inside (labels_skip s w.name w.head w.hist g.life x b t l (ap (λ (i : Node). i.block) h) at hh r.named) r.once
+        (λ _ _ _ _. (refl, λ p. p)) (λ y j k p h. absurd (no_stage y j k p h)) (add_head x l) r.hand r.inside (labels_skip s w.name w.head w.hist g.life x b t l (ap (λ (i : Node). i.block) h) at hh r.named) r.once r.frees r.known
 
     -- so is a history word, of a block in chains or of one that was taken back
     pub cuts_history : (a y' m' x b e y m : ℕ) (u t : Bool) (l : Node) → Noted (v.sure 0).hist (member_of a u) (node (b + 1) e) → Noted (v.sure 0).died b e → Noted (v.sure 0).hist (member_of b t) l → 0 < e → Clear e
@@ -221,7 +228,7 @@ module _ (s : Setup) (w : Words) (n : ℕ) (v : Views) (g : Ghost) (r : Rule s w
         (calm_claims w.cursor w.free w.row w.head w.born g.life (λ _ _ _ u. (u, refl)) r.claims.rows r.claims.apart)
         (subst (λ (i : Node). ChainsRule s.elements w.round w.head (update w.hist (member_of a u) i) w.born w.died g.life × Moves Can A s.elements w.round w.head w.hist w.head (update w.hist (member_of a u) i) w.born w.died w.born w.died g.life g.life) hh k)
         (λ _ _ _ _. (refl, λ p. p)) (λ y j k p h. absurd (no_stage y j k p h))
-        record { heads = own.heads; hists = λ i j k f. ⊎_elim (λ y. update_at w.hist (member_of a u) (member_of i j) l (sym y.0) ∙ y.1) (λ y. update_other w.hist (member_of a u) (member_of i j) l (λ z. y.0 (sym z)) ∙ own.hists i j k y.1) f; dieds = own.dieds; names = own.names; borns = own.borns; rows = own.rows } r.hand r.inside (labels_skip_history s w.name w.head w.hist g.life a x b u t l ua (ap (λ (i : Node). i.block) h) at hh r.named) r.once
+        record { heads = own.heads; hists = λ i j k f. ⊎_elim (λ y. update_at w.hist (member_of a u) (member_of i j) l (sym y.0) ∙ y.1) (λ y. update_other w.hist (member_of a u) (member_of i j) l (λ z. y.0 (sym z)) ∙ own.hists i j k y.1) f; dieds = own.dieds; names = own.names; borns = own.borns; rows = own.rows } r.hand r.inside (labels_skip_history s w.name w.head w.hist g.life a x b u t l ua (ap (λ (i : Node). i.block) h) at hh r.named) r.once r.frees r.known
 
     moves_id : ChainsRule s.elements w.round w.head w.hist w.born w.died g.life × Moves Can A s.elements w.round w.head w.hist w.head w.hist w.born w.died w.born w.died g.life g.life
     moves_id = (r.chains, moves_same Can A s.elements w.round w.head w.hist w.born w.died g.life w.head w.hist w.born w.died (λ _ _. refl) (λ _ _ _ _. refl) (λ _ _ _ _ _ _ h. h) (λ _ _ _ _ _ _ h. h) (λ _ _ _ _ _ _ h. h))
@@ -250,42 +257,59 @@ module _ (s : Setup) (w : Words) (n : ℕ) (v : Views) (g : Ghost) (r : Rule s w
     abbrev pub CleanHistory : (ℕ → Bool) → ℕ → Bool → Type 0
     CleanHistory gone b t = (l : Node) × Noted (v.sure 0).hist (member_of b t) l × ((c : ℕ) → l.block ≡ c + 1 → gone c ≡ false)
 
-    -- a block that stands was drawn before, and the owner does not know it as free
-    drawn_before : v.ruling.free ≡ 1 → (b : ℕ) (t : Bool) (x : ℕ) → stands (g.life b) t ≡ x + 1 → (b < v.ruling.ever) × (HasEntry v.ruling.hand b → ⊥)
-    drawn_before f b t x st = (
-      elim (dec_lt b v.ruling.ever) [ yes l ↦ l | no o ↦ absurd (⊎_elim (λ e. not_free e) (λ k. let z = r.stock.free_is 0 f in let k2 = k.2 in omega arith) (r.stock.never b (omega arith))) ],
-      λ h. not_free (r.hand b h).1,
-    )
-      where
-        not_free : g.life b ≡ Free → ⊥
-        not_free e = let z : 0 ≡ x + 1 = sym (ap (λ (l : Life). stands l t) e) ∙ st in omega arith
+    abbrev pub CleanPlace : (ℕ → Bool) → ℕ → Type 0
+    CleanPlace gone x = CleanHead gone x × ((b y m : ℕ) (t : Bool) → HasEntry v.ruling.placed (b, y, m) → stands (Placed y m) t ≡ x + 1 → (gone b ≡ true) ⊎ CleanHistory gone b t)
 
-    -- All blocks of a list become free at once, where the owner has swept every word of a chain: no word is written
-    module _ (gone : ℕ → Bool) (hand undone : List ℕ) (placed : List (ℕ × ℕ × ℕ)) (stopped : v.ruling.free ≡ 1)
-        (clear : (c : ℕ) → gone c ≡ true → ((e : ℕ) × Noted (v.sure 0).died c e × (0 < e) × (e ≤ v.ruling.finished) × Clear e) ⊎ (HasEntry v.ruling.undone c × Clear v.ruling.finished × (v.ruling.quiet ≡ 1)))
-        (tops : (x : ℕ) → x < s.elements → CleanHead gone x)
-        (blocks : (b : ℕ) → b < v.ruling.ever → HasEntry v.ruling.hand b ⊎ (((t c : Bool) → CleanHead gone (child_place s.elements b t c)) × ((gone b ≡ true) ⊎ ((t : Bool) → CleanHistory gone b t))))
-        (more : (c : ℕ) → HasEntry hand c → HasEntry v.ruling.hand c ⊎ ((gone c ≡ true) × (c < s.pool))) (rest : (c : ℕ) → HasEntry undone c → HasEntry v.ruling.undone c × (gone c ≡ false)) (whole : (c : ℕ) → HasEntry v.ruling.undone c → HasEntry undone c ⊎ (gone c ≡ true)) (still : (c x m : ℕ) → HasEntry placed (c, x, m) → HasEntry v.ruling.placed (c, x, m) × (gone c ≡ false)) where
+    -- before the round each block that is in no row, stock or hand is noted with its places
+    pub noted_places : (b y m : ℕ) → (g.life b ≡ Placed y m) ⊎ (g.life b ≡ Undone y m) → HasEntry v.ruling.placed (b, y, m)
+    noted_places b y m (inl e) = ⊎_elim (λ h. h) (λ h. absurd (no_stage y h.0 m h.1 h.2)) (r.known.noted b y m e)
+    noted_places b y m (inr e) = r.known.undone b y m e
+
+    -- All blocks of a list become free at once, where the owner has swept the words of the places at which they stand: no word is written
+    module _ (gone : ℕ → Bool) (hand undone kept : List ℕ) (placed : List (ℕ × ℕ × ℕ))
+        (clear : (c : ℕ) → gone c ≡ true → (HasEntry v.ruling.undone c × Clear v.ruling.finished × (v.ruling.quiet ≡ 1)) ⊎ ((e y m : ℕ) × Noted (v.sure 0).died c e × (0 < e) × (e ≤ v.ruling.finished) × Clear e × HasEntry v.ruling.placed (c, y, m) × ((t : Bool) (x : ℕ) → stands (Placed y m) t ≡ x + 1 → CleanPlace gone x)))
+        (hands : (c : ℕ) → (HasEntry hand c → HasEntry v.ruling.hand c ⊎ (gone c ≡ true)) × (HasEntry v.ruling.hand c ⊎ (gone c ≡ true) → HasEntry hand c))
+        (rests : (c : ℕ) → (HasEntry undone c → HasEntry v.ruling.undone c × (gone c ≡ false)) × (HasEntry v.ruling.undone c → HasEntry undone c ⊎ (gone c ≡ true)))
+        (keeps : (c : ℕ) → (HasEntry kept c → HasEntry v.ruling.kept c × (gone c ≡ false)) × (HasEntry v.ruling.kept c → HasEntry kept c ⊎ (gone c ≡ true)))
+        (stays : (a : ℕ × ℕ × ℕ) → (HasEntry placed a → HasEntry v.ruling.placed a × (gone a.0 ≡ false)) × (HasEntry v.ruling.placed a → HasEntry placed a ⊎ (gone a.0 ≡ true))) where
       free_undone_ : (x m : ℕ) → Free ≡ Undone x m → ⊥
       free_undone_ x m e = cc
+
+      free_loose : (u : ℕ) → Free ≡ Loose u → ⊥
+      free_loose u e = cc
 
       clash : (t : Bool) → t ≡ true → t ≡ false → ⊥
       clash t a b = cc
 
-      clean : (b : ℕ) (t : Bool) (x : ℕ) → stands (g.life b) t ≡ x + 1 → ((t c : Bool) → CleanHead gone (child_place s.elements b t c)) × ((gone b ≡ true) ⊎ ((t : Bool) → CleanHistory gone b t))
-      clean b t x st = let k = drawn_before stopped b t x st in ⊎_elim (λ h. absurd (k.1 h)) (λ h. h) (blocks b k.0)
+      -- one that is gone stands, and in the chains of its places it is only where these were swept
+      life_of : (c y m : ℕ) → HasEntry v.ruling.placed (c, y, m) → (g.life c ≡ Free → ⊥) × ((u : Bool) (x : ℕ) → chained (g.life c) u ≡ x + 1 → stands (Placed y m) u ≡ x + 1)
+      life_of c y m h = ⊎_elim (λ e. ((λ f. free_not y m (sym f ∙ e)), λ u x k. sym (ap (λ (l : Life). stands l u) e) ∙ chained_stands (g.life c) u x k)) (λ e. ((λ f. free_undone_ y m (sym f ∙ e)), λ u x k. let z : 0 ≡ x + 1 = sym (ap (λ (l : Life). chained l u) e) ∙ k in absurd (omega arith))) (r.note.placed c y m h)
 
-      clean_head : (x : ℕ) → IsPlace s.elements g.life x → CleanHead gone x
-      clean_head x (inl l) = tops x l
-      clean_head x (inr k) = subst (CleanHead gone) (sym k.4) ((clean k.0 false k.3 k.5).0 k.1 k.2)
+      not_freed : (c : ℕ) → gone c ≡ true → g.life c ≡ Free → ⊥
+      not_freed c e f = ⊎_elim (λ t. let y = r.note.undone c t.0 in free_undone_ y.0 y.1 (sym f ∙ y.2)) (λ t. (life_of c t.1 t.2 t.7).0 f) (clear c e)
 
-      clean_history : (b : ℕ) (t : Bool) (x : ℕ) → stands (g.life b) t ≡ x + 1 → gone b ≡ false → CleanHistory gone b t
-      clean_history b t x st f = ⊎_elim (λ e. absurd (clash (gone b) e f)) (λ h. h t) (clean b t x st).1
+      swept : (c : ℕ) (u : Bool) (x : ℕ) → gone c ≡ true → chained (g.life c) u ≡ x + 1 → CleanPlace gone x
+      swept c u x e k = ⊎_elim (λ t. let y = r.note.undone c t.0 in let z : 0 ≡ x + 1 = sym (ap (λ (l : Life). chained l u) y.2) ∙ k in absurd (omega arith)) (λ t. t.8 u x ((life_of c t.1 t.2 t.7).1 u x k)) (clear c e)
+
+      not_headed : (x c : ℕ) → IsPlace s.elements g.life x → (w.head x).block ≡ c + 1 → gone c ≡ true → ⊥
+      not_headed x c l h e = let k = named Can A s.elements w.round w.head w.hist w.born w.died g.life r.chains x c (w.head x) (r.chains.heads x l) h in
+          let t = (swept c k.0 x e k.1).0 in clash (gone c) e (t.2 c (sym (ap (λ (i : Node). i.block) (own.heads x t.0 t.1)) ∙ h))
+
+      not_behind : (b : ℕ) (t : Bool) (x c : ℕ) → stands (g.life b) t ≡ x + 1 → gone b ≡ false → (w.hist (member_of b t)).block ≡ c + 1 → gone c ≡ true → ⊥
+      not_behind b t x c st f h e = let k = older_named Can A s.elements w.round w.head w.hist w.born w.died g.life r.chains x c (w.born b) (w.hist (member_of b t)) (r.chains.hists b t x st) h in
+          let p = at_places (g.life b) t x st in ⊎_elim (λ z. clash (gone b) z f) (λ z. clash (gone c) e (z.2 c (sym (ap (λ (i : Node). i.block) (own.hists b t z.0 z.1)) ∙ h))) ((swept c k.0 x e k.1).1 b p.0 p.1 t (noted_places b p.0 p.1 p.2) p.3)
+        where
+          at_places : (l : Life) (t : Bool) (x : ℕ) → stands l t ≡ x + 1 → (y : ℕ) × (m : ℕ) × ((l ≡ Placed y m) ⊎ (l ≡ Undone y m)) × (stands (Placed y m) t ≡ x + 1)
+          at_places Free t x h = absurd (omega arith)
+          at_places (Loose u) t x h = absurd (omega arith)
+          at_places (Placed y m) t x h = (y, m, inl refl, h)
+          at_places (Undone y m) true x h = (y, m, inr refl, h)
+          at_places (Undone y m) false x h = (y, m, inr refl, h)
 
       -- no reader of a round up to the last has gone to a block that was taken back, nor a worker to any
       unvisited : (c q : ℕ) → HasEntry v.ruling.undone c → Clear v.ruling.finished → v.ruling.quiet ≡ 1 → A q c → ⊥
       unvisited c q h f note a = ⊎_elim
-          (λ b. let l = r.pins.past b.0 q b.1 in let e = r.stock.finished in elim (dec_lt q w.round) [ yes k ↦ no_pin s w n v g r q (f q (omega arith)) b.0 b.1 | no o ↦ r.note.quiet note b.0 c (let e : q ≡ w.round = omega arith in b.1 ∙ ap (λ (i : ℕ). i + 1) e) b.2 h ])
+          (λ b. let l = r.pins.past b.0 q b.1 in let e = r.stock.finished in elim (dec_lt q w.round) [ yes k ↦ cleared v.ruling.finished (omega arith) f q (omega arith) b.0 b.1 | no o ↦ r.note.quiet note b.0 c (let e : q ≡ w.round = omega arith in b.1 ∙ ap (λ (i : ℕ). i + 1) e) b.2 h ])
           (λ b. not_work quiet b.0 b.1) a.0
 
       now_free : (c : ℕ) (t : Bool) (y : ℕ) → stands (cond (gone c) Free (g.life c)) t ≡ y + 1 → (gone c ≡ false) × (stands (g.life c) t ≡ y + 1)
@@ -317,83 +341,152 @@ module _ (s : Setup) (w : Words) (n : ℕ) (v : Views) (g : Ghost) (r : Rule s w
       back : (b x m : ℕ) → cond (gone b) Free (g.life b) ≡ Placed x m → g.life b ≡ Placed x m
       back b x m u = sym (gone_not gone b (by_bool (gone b) (λ e. free_not x m (sym (gone_free gone b e) ∙ u)))) ∙ u
 
-      pub frees_all : Rule s w n (record v { ruling = record v.ruling { hand = hand; undone = undone; placed = placed } }) (record g { life = λ c. cond (gone c) Free (g.life c) })
-      frees_all = sweeps_to quiet w.cursor w.free w.row w.claimed w.head w.hist w.born w.died _ g.stage v.claims v.sure hand v.ruling.cursor v.ruling.free undone placed v.ruling.seen v.ruling.quiet
+      -- a block is free now that was so, or that is gone
+      freed : (c : ℕ) → cond (gone c) Free (g.life c) ≡ Free → (g.life c ≡ Free) ⊎ (gone c ≡ true)
+      freed c e = by (gone c) refl
+        where
+          by : (t : Bool) → gone c ≡ t → (g.life c ≡ Free) ⊎ (gone c ≡ true)
+          by true f = inr f
+          by false f = inl (sym (gone_not gone c f) ∙ e)
+
+      left : (c : ℕ) (l : Life) → (Free ≡ l → ⊥) → cond (gone c) Free (g.life c) ≡ l → (gone c ≡ false) × (g.life c ≡ l)
+      left c l not u = let f = by_bool (gone c) (λ e. not (sym (gone_free gone c e) ∙ u)) in (f, sym (gone_not gone c f) ∙ u)
+
+      pub frees_all : Rule s w n (record v { ruling = record v.ruling { hand = hand; undone = undone; kept = kept; placed = placed } }) (record g { life = λ c. cond (gone c) Free (g.life c) })
+      frees_all = sweeps_to quiet w.cursor w.free w.row w.claimed w.head w.hist w.born w.died _ g.stage v.claims v.sure hand v.ruling.cursor v.ruling.free v.ruling.low v.ruling.high undone kept placed v.ruling.seen v.ruling.quiet
           (calm_claims w.cursor w.free w.row w.head w.born (λ c. cond (gone c) Free (g.life c)) (λ b x m u. (back b x m u, refl)) (λ i a l. let t = r.claims.rows i a l in (either_free gone (w.row i) t.0, t.1)) r.claims.apart)
           (frees Can A s.elements w.round w.head w.hist w.born w.died g.life r.chains gone
           (λ c e q k. ⊎_elim
-          (λ t. let dd = own.dieds c t.0 t.1 in let t2 = t.2 in let t3 = t.3 in let fin = r.stock.finished in let o = over c (omega arith) (omega arith) (subst Clear (sym dd) t.4) q k in ((λ _ _ _. o), λ a. o a.1))
-          (λ t. let y = r.note.undone c t.0 in ((λ u i h. absurd (not_chained c u i y.0 y.1 y.2 h)), λ a. unvisited c q t.0 t.1 t.2 a)) (clear c e))
-          (λ x c l h e. let t = clean_head x l in clash (gone c) e (t.2 c (sym (ap (λ (i : Node). i.block) (own.heads x t.0 t.1)) ∙ h)))
-          (λ b t x c u f h e. let k = clean_history b t x u f in clash (gone c) e (k.2 c (sym (ap (λ (i : Node). i.block) (own.hists b t k.0 k.1)) ∙ h)))
-          (λ c e. ⊎_elim (λ t. let dd = own.dieds c t.0 t.1 in let t2 = t.2 in let t3 = t.3 in let fin = r.stock.finished in gives_up Can A s.elements w.round w.head w.hist w.born w.died g.life r.chains c (omega arith) (omega arith)) (λ t. let y = r.note.undone c t.0 in inl (r.chains.undone c y.0 y.1 y.2)) (clear c e)))
+          (λ t. let y = r.note.undone c t.0 in ((λ u i h. absurd (not_chained c u i y.0 y.1 y.2 h)), λ a. unvisited c q t.0 t.1 t.2 a))
+          (λ t. let dd = own.dieds c t.0 t.3 in let t2 = t.4 in let t3 = t.5 in let fin = r.stock.finished in let o = over c (omega arith) (omega arith) (subst Clear (sym dd) t.6) q k in ((λ _ _ _. o), λ a. o a.1)) (clear c e))
+          not_headed not_behind
+          (λ c e. ⊎_elim (λ t. let y = r.note.undone c t.0 in inl (r.chains.undone c y.0 y.1 y.2)) (λ t. let dd = own.dieds c t.0 t.3 in let t2 = t.4 in let t3 = t.5 in let fin = r.stock.finished in gives_up Can A s.elements w.round w.head w.hist w.born w.died g.life r.chains c (omega arith) (omega arith)) (clear c e)))
           (λ b x m u. (back b x m u, refl, λ p. p)) (λ y j k p h. absurd (no_stage y j k p h)) own
-          (λ c h. ((λ e. omega arith), ⊎_elim (λ k. either_free gone c (r.hand c k).1) (λ k. gone_free gone c k.0) (more c h)))
-          (let k = r.stock in record { finished = k.finished; cursor_is = k.cursor_is; free_is = k.free_is; left = k.left; never = λ b l. ⊎_elim (λ e. inl (either_free gone b e)) inr (k.never b l) })
+          (λ c h. ⊎_elim (λ k. either_free gone c (r.hand c k)) (λ k. gone_free gone c k) ((hands c).0 h))
+          (let k = r.stock in record { finished = k.finished; cursor_is = k.cursor_is; free_is = k.free_is; left = k.left })
           record {
-            undone = λ c h. let t = rest c h in let y = r.note.undone c t.0 in (y.0, y.1, gone_not gone c t.1 ∙ y.2);
-            all = λ c x m h. let g0 = by_bool (gone c) (λ e. free_undone_ x m (sym (gone_free gone c e) ∙ h)) in ⊎_elim (λ q. q) (λ q. absurd (clash (gone c) q g0)) (whole c (r.note.all c x m (sym (gone_not gone c g0) ∙ h)));
-            placed = λ c x m h. let t = still c x m h in let q = gone_not gone c t.1 in ⊎_elim (λ e. inl (q ∙ e)) (λ e. inr (q ∙ e)) (r.note.placed c x m t.0);
-            seen = λ x e. let t = r.note.seen x e in (t.0, t.1, t.2, λ f j b p h m. t.3 f j b p h (rest b m).0);
-            quiet = λ e j b p h m. r.note.quiet e j b p h (rest b m).0;
+            undone = λ c h. let t = (rests c).0 h in let y = r.note.undone c t.0 in (y.0, y.1, gone_not gone c t.1 ∙ y.2);
+            all = λ c x m h. let t = left c (Undone x m) (free_undone_ x m) h in ⊎_elim (λ q. q) (λ q. absurd (clash (gone c) q t.0)) ((rests c).1 (r.note.all c x m t.1));
+            placed = λ c x m h. let t = (stays (c, x, m)).0 h in let q = gone_not gone c t.1 in ⊎_elim (λ e. inl (q ∙ e)) (λ e. inr (q ∙ e)) (r.note.placed c x m t.0);
+            seen = λ x e. let t = r.note.seen x e in (t.0, t.1, t.2, λ f j b p h m. t.3 f j b p h ((rests b).0 m).0);
+            quiet = λ e j b p h m. r.note.quiet e j b p h ((rests b).0 m).0;
           }
-          record { few = r.inside.few; rows = r.inside.rows; blocks = λ c l. either_free gone c (r.inside.blocks c l); stand_in = λ b t x st. r.inside.stand_in b t x (now_free b t x st).1; seconds = r.inside.seconds; hand_in = λ c h. ⊎_elim (r.inside.hand_in c) (λ k. k.1) (more c h); retired_in = r.inside.retired_in } labels r.once
+          record { few = r.inside.few; rows = r.inside.rows; blocks = λ c l. either_free gone c (r.inside.blocks c l); stand_in = λ b t x st. r.inside.stand_in b t x (now_free b t x st).1; seconds = r.inside.seconds; hand_in = λ c h. ⊎_elim (r.inside.hand_in c) (λ k. below_pool s w.free w.row g.life g.stage v.ruling.hand v.ruling.retired r.inside c (not_freed c k)) ((hands c).0 h); retired_in = r.inside.retired_in } labels r.once
+          record {
+            all = λ c l e. ⊎_elim (λ f. ⊎_elim (λ h. inl ((hands c).1 (inl h))) inr (r.frees.all c l f)) (λ f. inl ((hands c).1 (inr f))) (freed c e);
+            hand_rows = λ c h t. ⊎_elim (λ k. r.frees.hand_rows c k t) (λ k. not_freed c k (ap g.life (sym t.3) ∙ (r.claims.rows t.0 t.1 t.2).0)) ((hands c).0 h);
+            hand_stock = λ c h t. ⊎_elim (λ k. r.frees.hand_stock c k t) (λ k. not_freed c k (ap g.life (sym t.3) ∙ (r.frees.stocked t.0 t.1 t.2).0)) ((hands c).0 h);
+            stocked = λ i a l. let t = r.frees.stocked i a l in (either_free gone (w.row i) t.0, t.1, t.2);
+            once = r.frees.once;
+            shut = r.frees.shut;
+          }
+          record {
+            noted = λ c y m u. let t = left c (Placed y m) (free_not y m) u in ⊎_elim inl (λ q. absurd (clash (gone c) q t.0)) ((stays (c, y, m)).1 (noted_places c y m (inl t.1)));
+            undone = λ c y m u. let t = left c (Undone y m) (free_undone_ y m) u in ⊎_elim (λ h. h) (λ q. absurd (clash (gone c) q t.0)) ((stays (c, y, m)).1 (noted_places c y m (inr t.1)));
+            loose = λ c u e. r.known.loose c u (left c (Loose u) (free_loose u) e).1;
+          }
+          record {
+            all = λ c y m u p l. let t = left c (Placed y m) (free_not y m) u in ⊎_elim (λ h. h) (λ q. absurd (clash (gone c) q t.0)) ((keeps c).1 (r.kept.all c y m t.1 p l));
+            right = λ c h. let a = (keeps c).0 h in let t = r.kept.right c a.0 in (t.0, t.1, gone_not gone c a.1 ∙ t.2, t.3, t.4);
+          }
+          (λ c y m u e. let l = r.names.calm c y m ((λ z. omega arith), λ z. omega arith) u in absurd (omega arith))
 
     -- BORN of a free block becomes 0
     pub zeroes : (b : ℕ) → HasEntry v.ruling.hand b → Rule s (record w { born = update w.born b 0 }) n (record v { sure = update v.sure 0 (record (v.sure 0) { born = (b, 0) ∷ (v.sure 0).born }) }) g
-    zeroes b h = let fr : g.life b ≡ Free = (r.hand b h).1 in let off : (c : ℕ) → c ≢ b → update w.born b 0 c ≡ w.born c = λ c o. update_other w.born b c 0 o in
+    zeroes b h = let fr : g.life b ≡ Free = r.hand b h in let off : (c : ℕ) → c ≢ b → update w.born b 0 c ≡ w.born c = λ c o. update_other w.born b c 0 o in
         sweeps quiet w.claimed w.head w.hist (update w.born b 0) w.died g.stage v.claims (update v.sure 0 (record (v.sure 0) { born = (b, 0) ∷ (v.sure 0).born })) v.ruling.hand
         (calm_claims w.cursor w.free w.row w.head (update w.born b 0) g.life (λ c x m u. (u, off c (λ (e : c ≡ b). free_not x m (sym fr ∙ ap g.life (sym e) ∙ u)))) (λ i a l. let t = r.claims.rows i a l in (t.0, zero_at i t.1)) r.claims.apart)
         (resets Can A s.elements w.round w.head w.hist w.born w.died g.life r.chains b (λ t. ap (λ (l : Life). chained l t) fr) w.hist (update w.born b 0) w.died (λ c o. ((λ _. refl), off c o, refl)) (let z = update_same w.born b 0 in omega arith)
         (λ x m u. absurd (free_undone x m (sym fr ∙ u))) (subst (IsUnborn w.round (update w.born b 0 b) (w.died b)) (sym fr) (inl (update_same w.born b 0))))
         (λ c x m u. (refl, λ p. subst (λ (i : ℕ). 0 < i) (off c (λ (e : c ≡ b). free_not x m (sym fr ∙ ap g.life (sym e) ∙ u))) p)) (λ y j k p u. absurd (no_stage y j k p u))
-        record { heads = own.heads; hists = own.hists; dieds = own.dieds; names = own.names; borns = noted_after (v.sure 0).born w.born b 0 own.borns; rows = own.rows } r.hand r.inside r.named r.once
+        record { heads = own.heads; hists = own.hists; dieds = own.dieds; names = own.names; borns = noted_after (v.sure 0).born w.born b 0 own.borns; rows = own.rows } r.hand r.inside r.named r.once (frees_on s.pool w.cursor w.free w.row w.born (update w.born b 0) g.life g.life v.ruling.hand v.ruling.low v.ruling.high (λ _ e. e) (λ c e. (e, zero_on c)) r.frees) r.known
       where
         free_undone : (x m : ℕ) → Free ≡ Undone x m → ⊥
         free_undone x m e = cc
 
-        zero_at : (i : ℕ) → w.born (w.row i) ≡ 0 → update w.born b 0 (w.row i) ≡ 0
-        zero_at i z = dite (ℕ_discrete (w.row i) b) (λ e. update_at w.born b (w.row i) 0 e) (λ o. update_other w.born b (w.row i) 0 o ∙ z)
+        zero_on : (c : ℕ) → w.born c ≡ 0 → update w.born b 0 c ≡ 0
+        zero_on c z = dite (ℕ_discrete c b) (λ e. update_at w.born b c 0 e) (λ o. update_other w.born b c 0 o ∙ z)
 
-    -- FREE becomes 0, where the owner knows each block that was drawn in the round before
-    pub stops : (k c : ℕ) → v.ruling.free ≡ k + 1 → v.ruling.cursor ≡ c + 1 → ((i : ℕ) → i < k → i < c → (b : ℕ) × Noted (v.sure 0).row i b × (b < v.ruling.ever))
-        → Rule s (record w { free = 0 }) n (record v { ruling = record v.ruling { free = 1 } }) g
-    stops k c fk ck used = sweeps_to quiet w.cursor 0 w.row w.claimed w.head w.hist w.born w.died g.life g.stage v.claims v.sure v.ruling.hand v.ruling.cursor 1 v.ruling.undone v.ruling.placed v.ruling.seen v.ruling.quiet
+        zero_at : (i : ℕ) → w.born (w.row i) ≡ 0 → update w.born b 0 (w.row i) ≡ 0
+        zero_at i = zero_on (w.row i)
+
+    -- FREE becomes 0, and the rows that were not drawn are the stock
+    pub stops : (k c : ℕ) → v.ruling.free ≡ k + 1 → v.ruling.cursor ≡ c + 1 → v.ruling.high ≤ v.ruling.low → Rule s (record w { free = 0 }) n (record v { ruling = record v.ruling { free = 1; low = c; high = k } }) g
+    stops k c fk ck none = let fk' = r.stock.free_is k fk in let ck' = (r.stock.cursor_is c ck).1 in sweeps_to quiet w.cursor 0 w.row w.claimed w.head w.hist w.born w.died g.life g.stage v.claims v.sure v.ruling.hand v.ruling.cursor 1 c k v.ruling.undone v.ruling.kept v.ruling.placed v.ruling.seen v.ruling.quiet
         (calm_claims w.cursor 0 w.row w.head w.born g.life (λ _ _ _ u. (u, refl)) (λ i a l. absurd (omega arith)) (λ i j a l. absurd (omega arith))) moves_id
         (λ _ _ _ u. (u, refl, λ p. p)) (λ y j k p u. absurd (no_stage y j k p u)) own r.hand
-        record {
-          finished = r.stock.finished;
-          cursor_is = r.stock.cursor_is;
-          free_is = λ i e. omega arith;
-          left = r.stock.left;
-          never = λ b l. ⊎_elim inl (λ t. let t1 = t.1 in let t2 = t.2 in let fk' = r.stock.free_is k fk in let ck' = (r.stock.cursor_is c ck).1 in let u = used t.0 (omega arith) (omega arith) in let e = own.rows t.0 u.0 u.1 in let t3 = t.3 in let u2 = u.2 in absurd (omega arith)) (r.stock.never b l);
-        }
+        record { finished = r.stock.finished; cursor_is = r.stock.cursor_is; free_is = λ i e. omega arith; left = r.stock.left }
         record { undone = r.note.undone; all = r.note.all; placed = r.note.placed; seen = r.note.seen; quiet = r.note.quiet }
         record { few = omega arith; rows = λ i l. absurd (omega arith); blocks = r.inside.blocks; stand_in = r.inside.stand_in; seconds = r.inside.seconds; hand_in = r.inside.hand_in; retired_in = r.inside.retired_in } r.named r.once
+        record {
+          all = λ b l e. ⊎_elim inl (λ t. ⊎_elim (λ t. let t1 = t.1 in let t2 = t.2 in inr (inr (t.0, omega arith, omega arith, t.3))) (λ t. let t1 = t.1 in let t2 = t.2 in absurd (omega arith)) t) (r.frees.all b l e);
+          hand_rows = λ b h t. let t2 = t.2 in absurd (omega arith);
+          hand_stock = λ b h t. let t1 = t.1 in let t2 = t.2 in r.frees.hand_rows b h (t.0, omega arith, omega arith, t.3);
+          stocked = λ i a l. let t = r.claims.rows i (omega arith) (omega arith) in (t.0, t.1, r.inside.rows i (omega arith));
+          once = λ i j a l b m. r.claims.apart i j (omega arith) (omega arith) (omega arith) (omega arith);
+          shut = λ _. refl;
+        } r.known r.kept (λ _ _ _ u _. (u, refl))
 
     -- CURSOR becomes 0 while FREE is 0
     pub rewinds : v.ruling.free ≡ 1 → Rule s (record w { cursor = 0 }) n (record v { ruling = record v.ruling { cursor = 1 } }) g
-    rewinds f = let z = r.stock.free_is 0 f in sweeps_to quiet 0 w.free w.row w.claimed w.head w.hist w.born w.died g.life g.stage v.claims v.sure v.ruling.hand 1 v.ruling.free v.ruling.undone v.ruling.placed v.ruling.seen v.ruling.quiet
+    rewinds f = let z = r.stock.free_is 0 f in sweeps_to quiet 0 w.free w.row w.claimed w.head w.hist w.born w.died g.life g.stage v.claims v.sure v.ruling.hand 1 v.ruling.free v.ruling.low v.ruling.high v.ruling.undone v.ruling.kept v.ruling.placed v.ruling.seen v.ruling.quiet
         (calm_claims 0 w.free w.row w.head w.born g.life (λ _ _ _ u. (u, refl)) (λ i a l. absurd (omega arith)) (λ i j a l. absurd (omega arith))) moves_id
         (λ _ _ _ u. (u, refl, λ p. p)) (λ y j k p u. absurd (no_stage y j k p u)) own r.hand
-        record { finished = r.stock.finished; cursor_is = λ k e. ((λ a. absurd (omega arith)), omega arith); free_is = r.stock.free_is; left = r.stock.left; never = λ b l. ⊎_elim inl (λ t. let t2 = t.2 in absurd (omega arith)) (r.stock.never b l) } record { undone = r.note.undone; all = r.note.all; placed = r.note.placed; seen = r.note.seen; quiet = r.note.quiet } r.inside r.named r.once
+        record { finished = r.stock.finished; cursor_is = λ k e. ((λ a. absurd (omega arith)), omega arith); free_is = r.stock.free_is; left = r.stock.left } record { undone = r.note.undone; all = r.note.all; placed = r.note.placed; seen = r.note.seen; quiet = r.note.quiet } r.inside r.named r.once
+        record {
+          all = λ b l e. ⊎_elim inl (λ t. ⊎_elim (λ t. let t2 = t.2 in absurd (omega arith)) (λ t. inr (inr t)) t) (r.frees.all b l e);
+          hand_rows = λ b h t. let t2 = t.2 in absurd (omega arith);
+          hand_stock = r.frees.hand_stock;
+          stocked = r.frees.stocked;
+          once = r.frees.once;
+          shut = r.frees.shut;
+        } r.known r.kept (λ _ _ _ u _. (u, refl))
 
-    -- a row is written while FREE is 0
-    pub lays : (i b : ℕ) → v.ruling.free ≡ 1 → Rule s (record w { row = update w.row i b }) n (record v { sure = update v.sure 0 (record (v.sure 0) { row = (i, b) ∷ (v.sure 0).row }) }) g
-    lays i b f = let z = r.stock.free_is 0 f in sweeps_to quiet w.cursor w.free (update w.row i b) w.claimed w.head w.hist w.born w.died g.life g.stage v.claims (update v.sure 0 (record (v.sure 0) { row = (i, b) ∷ (v.sure 0).row })) v.ruling.hand v.ruling.cursor v.ruling.free v.ruling.undone v.ruling.placed v.ruling.seen v.ruling.quiet
-        (calm_claims w.cursor w.free (update w.row i b) w.head w.born g.life (λ _ _ _ u. (u, refl)) (λ k a l. absurd (omega arith)) (λ k j a l. absurd (omega arith))) moves_id
+    -- a row that is not of the stock is written while FREE is 0
+    pub lays : (i b : ℕ) → v.ruling.free ≡ 1 → (i < v.ruling.low) ⊎ (v.ruling.high ≤ i) → Rule s (record w { row = update w.row i b }) n (record v { sure = update v.sure 0 (record (v.sure 0) { row = (i, b) ∷ (v.sure 0).row }) }) g
+    lays i b f out = let z = r.stock.free_is 0 f in let row' : ℕ → ℕ = update w.row i b in let off : (k : ℕ) → v.ruling.low ≤ k → k < v.ruling.high → row' k ≡ w.row k = λ k a l. update_other w.row i k b (λ (e : k ≡ i). ⊎_elim (λ o. omega arith) (λ o. omega arith) out) in
+        sweeps_to quiet w.cursor w.free row' w.claimed w.head w.hist w.born w.died g.life g.stage v.claims (update v.sure 0 (record (v.sure 0) { row = (i, b) ∷ (v.sure 0).row })) v.ruling.hand v.ruling.cursor v.ruling.free v.ruling.low v.ruling.high v.ruling.undone v.ruling.kept v.ruling.placed v.ruling.seen v.ruling.quiet
+        (calm_claims w.cursor w.free row' w.head w.born g.life (λ _ _ _ u. (u, refl)) (λ k a l. absurd (omega arith)) (λ k j a l. absurd (omega arith))) moves_id
         (λ _ _ _ u. (u, refl, λ p. p)) (λ y j k p u. absurd (no_stage y j k p u))
         record { heads = own.heads; hists = own.hists; dieds = own.dieds; names = own.names; borns = own.borns; rows = noted_after (v.sure 0).row w.row i b own.rows } r.hand
-        record { finished = r.stock.finished; cursor_is = r.stock.cursor_is; free_is = r.stock.free_is; left = r.stock.left; never = λ b l. ⊎_elim inl (λ t. let t2 = t.2 in absurd (omega arith)) (r.stock.never b l) } record { undone = r.note.undone; all = r.note.all; placed = r.note.placed; seen = r.note.seen; quiet = r.note.quiet }
+        record { finished = r.stock.finished; cursor_is = r.stock.cursor_is; free_is = r.stock.free_is; left = r.stock.left } record { undone = r.note.undone; all = r.note.all; placed = r.note.placed; seen = r.note.seen; quiet = r.note.quiet }
         record { few = r.inside.few; rows = λ k l. absurd (omega arith); blocks = r.inside.blocks; stand_in = r.inside.stand_in; seconds = r.inside.seconds; hand_in = r.inside.hand_in; retired_in = r.inside.retired_in } r.named r.once
+        record {
+          all = λ c l e. ⊎_elim inl (λ t. ⊎_elim (λ t. let t2 = t.2 in absurd (omega arith)) (λ t. inr (inr (t.0, t.1, t.2, off t.0 t.1 t.2 ∙ t.3))) t) (r.frees.all c l e);
+          hand_rows = λ c h t. let t2 = t.2 in absurd (omega arith);
+          hand_stock = λ c h t. r.frees.hand_stock c h (t.0, t.1, t.2, sym (off t.0 t.1 t.2) ∙ t.3);
+          stocked = λ k a l. let t = r.frees.stocked k a l in let e = off k a l in (ap g.life e ∙ t.0, ap w.born e ∙ t.1, omega arith);
+          once = λ k j a l c m e. r.frees.once k j a l c m (sym (off k a l) ∙ e ∙ off j c m);
+          shut = r.frees.shut;
+        } r.known r.kept (λ _ _ _ u _. (u, refl))
+
+    -- the row is below k and not of the stock, and names the block by what the owner is sure of
+    abbrev pub IsLaid : ℕ → ℕ → ℕ → Type 0
+    IsLaid k i b = (i < k) × ((i < v.ruling.low) ⊎ (v.ruling.high ≤ i)) × Noted (v.sure 0).row i b
 
     -- FREE becomes the number of the rows
-    pub opens_rows : (k : ℕ) (at : ℕ → ℕ) → v.ruling.free ≡ 1 → ((i : ℕ) → i < k → Noted (v.sure 0).row i (at i) × HasEntry v.ruling.hand (at i) × Noted (v.sure 0).born (at i) 0) → ((i j : ℕ) → i < k → j < k → at i ≡ at j → i ≡ j)
-        → Rule s (record w { free = k }) n (record v { ruling = record v.ruling { free = k + 1 } }) g
-    opens_rows k at f rows one = let z = r.stock.free_is 0 f in sweeps_to quiet w.cursor k w.row w.claimed w.head w.hist w.born w.died g.life g.stage v.claims v.sure v.ruling.hand v.ruling.cursor (k + 1) v.ruling.undone v.ruling.placed v.ruling.seen v.ruling.quiet
-        (calm_claims w.cursor k w.row w.head w.born g.life (λ _ _ _ u. (u, refl))
-        (λ i a l. let t = rows i l in let e : w.row i ≡ at i = own.rows i (at i) t.0 in (ap g.life e ∙ (r.hand (at i) t.1).1, ap w.born e ∙ own.borns (at i) 0 t.2))
-        (λ i j a l b m e. one i j l m (sym (own.rows i (at i) (rows i l).0) ∙ e ∙ own.rows j (at j) (rows j m).0))) moves_id
-        (λ _ _ _ u. (u, refl, λ p. p)) (λ y j k p u. absurd (no_stage y j k p u)) own r.hand
-        record { finished = r.stock.finished; cursor_is = r.stock.cursor_is; free_is = λ i e. omega arith; left = r.stock.left; never = λ b l. ⊎_elim inl (λ t. let t2 = t.2 in absurd (omega arith)) (r.stock.never b l) } record { undone = r.note.undone; all = r.note.all; placed = r.note.placed; seen = r.note.seen; quiet = r.note.quiet }
-        record { few = few_below k s.pool at (λ i l. r.inside.hand_in (at i) (rows i l).1) one; rows = λ i l. let e : w.row i ≡ at i = own.rows i (at i) (rows i l).0 in let q = r.inside.hand_in (at i) (rows i l).1 in omega arith; blocks = r.inside.blocks; stand_in = r.inside.stand_in; seconds = r.inside.seconds; hand_in = r.inside.hand_in; retired_in = r.inside.retired_in } r.named r.once
+    pub opens_rows : (k : ℕ) (hand : List ℕ) → v.ruling.free ≡ 1 → v.ruling.cursor ≡ 1 → (v.ruling.low < v.ruling.high → v.ruling.high ≤ k) → ((i : ℕ) → i < k → ((v.ruling.low ≤ i) × (i < v.ruling.high)) ⊎ ((b : ℕ) × IsLaid k i b × HasEntry v.ruling.hand b × Noted (v.sure 0).born b 0))
+        → ((i j b : ℕ) → IsLaid k i b → IsLaid k j b → i ≡ j) → ((b : ℕ) → (HasEntry hand b → HasEntry v.ruling.hand b × ((i : ℕ) → IsLaid k i b → ⊥)) × (HasEntry v.ruling.hand b → HasEntry hand b ⊎ ((i : ℕ) × IsLaid k i b)))
+        → Rule s (record w { free = k }) n (record v { ruling = record v.ruling { hand = hand; free = k + 1; low = 0; high = 0 } }) g
+    opens_rows k hand f c below rows one left = let z = r.stock.free_is 0 f in let zero_c = (r.stock.cursor_is 0 c).1 in sweeps_to quiet w.cursor k w.row w.claimed w.head w.hist w.born w.died g.life g.stage v.claims v.sure hand v.ruling.cursor (k + 1) 0 0 v.ruling.undone v.ruling.kept v.ruling.placed v.ruling.seen v.ruling.quiet
+        (calm_claims w.cursor k w.row w.head w.born g.life (λ _ _ _ u. (u, refl)) (λ i a l. let t = free_row i l in (t.0, t.1)) (λ i j a l b m e. same_row i j l m e)) moves_id
+        (λ _ _ _ u. (u, refl, λ p. p)) (λ y j k p u. absurd (no_stage y j k p u)) own (λ b h. r.hand b ((left b).0 h).0)
+        record { finished = r.stock.finished; cursor_is = r.stock.cursor_is; free_is = λ i e. omega arith; left = r.stock.left } record { undone = r.note.undone; all = r.note.all; placed = r.note.placed; seen = r.note.seen; quiet = r.note.quiet }
+        record { few = few_below k s.pool w.row (λ i l. (free_row i l).2) same_row; rows = λ i l. (free_row i l).2; blocks = r.inside.blocks; stand_in = r.inside.stand_in; seconds = r.inside.seconds; hand_in = λ b h. r.inside.hand_in b ((left b).0 h).0; retired_in = r.inside.retired_in } r.named r.once
+        record {
+          all = λ b l e. ⊎_elim (λ h. ⊎_elim inl (λ t. let t1 = t.1.0 in inr (inl (t.0, omega arith, t1, own.rows t.0 b t.1.2))) ((left b).1 h)) (λ t. ⊎_elim (λ t. let t2 = t.2 in absurd (omega arith)) (λ t. let t1 = t.1 in let t2 = t.2 in let y = below (omega arith) in inr (inl (t.0, omega arith, omega arith, t.3))) t) (r.frees.all b l e);
+          hand_rows = λ b h t. let a = (left b).0 h in ⊎_elim (λ u. r.frees.hand_stock b a.0 (t.0, u.0, u.1, t.3)) (λ u. a.1 t.0 (subst (IsLaid k t.0) (sym (own.rows t.0 u.0 u.1.2) ∙ t.3) u.1)) (rows t.0 t.2);
+          hand_stock = λ b h t. let t2 = t.2 in absurd (omega arith);
+          stocked = λ i a l. absurd (omega arith);
+          once = λ i j a l. absurd (omega arith);
+          shut = λ l. absurd (omega arith);
+        } r.known r.kept (λ _ _ _ u _. (u, refl))
+      where
+        free_row : (i : ℕ) → i < k → (g.life (w.row i) ≡ Free) × (w.born (w.row i) ≡ 0) × (w.row i < s.pool)
+        free_row i l = ⊎_elim (λ t. r.frees.stocked i t.0 t.1) (λ t. let e : w.row i ≡ t.0 = own.rows i t.0 t.1.2 in let p = r.inside.hand_in t.0 t.2 in (ap g.life e ∙ r.hand t.0 t.2, ap w.born e ∙ own.borns t.0 0 t.3, omega arith)) (rows i l)
+
+        same_row : (i j : ℕ) → i < k → j < k → w.row i ≡ w.row j → i ≡ j
+        same_row i j l m e = ⊎_elim
+            (λ t. ⊎_elim (λ u. r.frees.once i j t.0 t.1 u.0 u.1 e) (λ u. absurd (r.frees.hand_stock u.0 u.2 (i, t.0, t.1, e ∙ own.rows j u.0 u.1.2))) (rows j m))
+            (λ t. ⊎_elim (λ u. absurd (r.frees.hand_stock t.0 t.2 (j, u.0, u.1, sym e ∙ own.rows i t.0 t.1.2))) (λ u. one i j t.0 t.1 (subst (IsLaid k j) (sym (own.rows j u.0 u.1.2) ∙ sym e ∙ own.rows i t.0 t.1.2) u.1)) (rows j m))
+            (rows i l)

@@ -24,6 +24,29 @@ use Rattle.mesh_state.proofs.HeldClaims.{not_open, held_one, loose_not, free_loo
 use Rattle.mesh_state.proofs.Across.{Of, Went, chained_of, low}
 use Rattle.mesh_steps.proofs.Sweeping.{Quiet, OwnSure, own_sure, owners, sweeps, sweeps_to}
 use Rattle.mesh_state.proofs.HeldClaims as held
+use Rattle.mesh_state.proofs.Lawful.{uses_block}
+use Rattle.mesh_state.proofs.Known.{frees_on, kept_on, known_goes, known_ends}
+use Rattle.mesh_steps.specs.SweepSteps.{noted_at}
+
+-- the list that the end of a claim leaves
+pub noted_has : (list : List (ℕ × ℕ × ℕ)) (x m : ℕ) (p : Progress) (a : ℕ × ℕ × ℕ) → HasEntry (noted_at list x m p) a → HasEntry list a ⊎ ((b : ℕ) × (p ≡ Living b) × (a ≡ (b, x, m)))
+noted_has list x m Claimed a h = inl h
+noted_has list x m Failed a h = inl h
+noted_has list x m (Drawn b) a h = inl h
+noted_has list x m (Half b) a h = inl h
+noted_has list x m (Whole b) a h = inl h
+noted_has list x m (Living b) a h = ⊎_elim (λ e. inr (b, refl, e)) inl h
+
+pub noted_more : (list : List (ℕ × ℕ × ℕ)) (x m : ℕ) (p : Progress) (a : ℕ × ℕ × ℕ) → HasEntry list a → HasEntry (noted_at list x m p) a
+noted_more list x m Claimed a h = h
+noted_more list x m Failed a h = h
+noted_more list x m (Drawn b) a h = h
+noted_more list x m (Half b) a h = h
+noted_more list x m (Whole b) a h = h
+noted_more list x m (Living b) a h = inr h
+
+pub noted_new : (list : List (ℕ × ℕ × ℕ)) (x m : ℕ) (p : Progress) (b : ℕ) → p ≡ Living b → HasEntry (noted_at list x m p) (b, x, m)
+noted_new list x m p b e = subst (λ (q : Progress). HasEntry (noted_at list x m q) (b, x, m)) (sym e) (inl refl)
 
 module _ (s : Setup) (w : Words) (n : ℕ) (v : Views) (g : Ghost) (r : Rule s w n v g) where
   abbrev d : ℕ
@@ -46,6 +69,9 @@ module _ (s : Setup) (w : Words) (n : ℕ) (v : Views) (g : Ghost) (r : Rule s w
 
   free_undone : (x m : ℕ) → Free ≡ Undone x m → ⊥
   free_undone x m e = cc
+
+  whole_not : (b c : ℕ) → Whole b ≡ Drawn c → ⊥
+  whole_not b c e = cc
 
   undone_not : (x m y k : ℕ) → Undone x m ≡ Placed y k → ⊥
   undone_not x m y k e = cc
@@ -89,7 +115,7 @@ module _ (s : Setup) (w : Words) (n : ℕ) (v : Views) (g : Ghost) (r : Rule s w
           none = r.claims.none;
         }
         (subst (λ (i : ℕ). ChainsRule s.elements w.round (update w.head x (node (b + 1) i)) w.hist w.born w.died g.life × Moves Can_ A_ s.elements w.round w.head w.hist (update w.head x (node (b + 1) i)) w.hist w.born w.died w.born w.died g.life g.life) dd mv)
-        (λ _ _ _ _. (refl, λ p. p)) back_own (add_head x (node (b + 1) d)) r.hand r.inside (labels_heads s w.name w.head head' w.hist g.life (λ y. dite (ℕ_discrete y x) (λ e. ap (λ (l : Node). l.block) (update_at w.head x y (node (b + 1) d) e) ∙ sym (ap (λ (l : Node). l.block) (ap w.head e ∙ h))) (λ o. ap (λ (l : Node). l.block) (update_other w.head x y (node (b + 1) d) o))) r.named) r.once
+        (λ _ _ _ _. (refl, λ p. p)) back_own (add_head x (node (b + 1) d)) r.hand r.inside (labels_heads s w.name w.head head' w.hist g.life (λ y. dite (ℕ_discrete y x) (λ e. ap (λ (l : Node). l.block) (update_at w.head x y (node (b + 1) d) e) ∙ sym (ap (λ (l : Node). l.block) (ap w.head e ∙ h))) (λ o. ap (λ (l : Node). l.block) (update_other w.head x y (node (b + 1) d) o))) r.named) r.once r.frees r.known
       where
         shape_at : (head' : ℕ → Node) → ((y : ℕ) → y ≢ x → head' y ≡ w.head y) → ((y : ℕ) → (head' y).block ≡ (w.head y).block) → ((a m k : ℕ) → g.life a ≡ Placed m k → w.born a ≡ d → w.head x ≡ node (a + 1) 0 → ⊥) → ((a m k : ℕ) → g.life a ≡ Placed m k → w.born a ≡ 0 → w.head x ≡ node (a + 1) 0 → ⊥)
             → (z k : ℕ) (p : Progress) → Shape w.round w.head w.born g.life z k p → Shape w.round head' w.born g.life z k p
@@ -111,13 +137,28 @@ module _ (s : Setup) (w : Words) (n : ℕ) (v : Views) (g : Ghost) (r : Rule s w
       is = r.claims.held 0 x m p mine
 
       -- the claim ends, and its words stay
-      pub unclaims : ((b : ℕ) → uses p ≡ b + 1 → p ≡ Living b) → ((b : ℕ) → p ≡ Living b → (v.ruling.phase ≡ 3 → ⊥) → ⊥) → Rule s (record w { claimed = update w.claimed x 0 }) n (record v { claims = update v.claims 0 (ended (v.claims 0) x) }) (record g { stage = update g.stage x Open })
-      unclaims lives dead = sweeps s w n v g r quiet (update w.claimed x 0) w.head w.hist w.born w.died _ (update v.claims 0 (ended (v.claims 0) x)) v.sure v.ruling.hand
+      pub unclaims : ((b : ℕ) → uses p ≡ b + 1 → p ≡ Living b) → ((b : ℕ) → p ≡ Living b → (v.ruling.phase ≡ 3 → ⊥) → ⊥) → Rule s (record w { claimed = update w.claimed x 0 }) n (record v { claims = update v.claims 0 (ended (v.claims 0) x); ruling = record v.ruling { placed = noted_at v.ruling.placed x m p } }) (record g { stage = update g.stage x Open })
+      unclaims lives dead = sweeps_to s w n v g r quiet w.cursor w.free w.row (update w.claimed x 0) w.head w.hist w.born w.died g.life _ (update v.claims 0 (ended (v.claims 0) x)) v.sure v.ruling.hand v.ruling.cursor v.ruling.free v.ruling.low v.ruling.high v.ruling.undone v.ruling.kept (noted_at v.ruling.placed x m p) v.ruling.seen v.ruling.quiet
           (held.ends s w.round w.cursor w.free v.ruling.phase w.row w.claimed w.head w.born g.life g.stage v.claims r.claims x 0 m p p is late w.head w.born g.life (λ z i k q h ne sh. sh)
           (λ b y k u e l. (u, e, λ q. dead b q l))
           (λ b y k u e. (u, e, λ q. let f = lives b q in let t = subst (Shape w.round w.head w.born g.life x m) f (r.claims.shape x 0 m p is) in let t1 = t.1 in omega arith)) (λ b u e. (u, e)))
           (r.chains, moves_same Can_ A_ s.elements w.round w.head w.hist w.born w.died g.life w.head w.hist w.born w.died (λ _ _. refl) (λ _ _ _ _. refl) (λ _ _ _ _ _ _ h. h) (λ _ _ _ _ _ _ h. h) (λ _ _ _ _ _ _ h. h))
-          (λ _ _ _ _. (refl, λ p. p)) (λ z j k q h. back_own z j k q (dite (ℕ_discrete z x) (λ e. absurd (not_open j k q (sym h ∙ update_at g.stage x z Open e))) (λ o. sym (update_other g.stage x z Open o) ∙ h))) own r.hand (inside_ends s w.free w.row g.life g.stage v.ruling.hand v.ruling.retired x r.inside) r.named (once_update v.claims (ended (v.claims 0) x) (once_ended (v.claims 0) x (r.once 0)) r.once)
+          (λ _ _ _ u. (u, refl, λ p. p)) (λ z j k q h. back_own z j k q (dite (ℕ_discrete z x) (λ e. absurd (not_open j k q (sym h ∙ update_at g.stage x z Open e))) (λ o. sym (update_other g.stage x z Open o) ∙ h))) own r.hand
+          (let k = r.stock in record { finished = k.finished; cursor_is = k.cursor_is; free_is = k.free_is; left = k.left })
+          record {
+            undone = r.note.undone;
+            all = r.note.all;
+            placed = λ c y k h. ⊎_elim (r.note.placed c y k) (λ t. inl (subst (λ (i : ℕ × ℕ × ℕ). g.life i.0 ≡ Placed i.1 i.2) (sym t.2) (in_chains t.0 t.1))) (noted_has v.ruling.placed x m p (c, y, k) h);
+            seen = r.note.seen;
+            quiet = r.note.quiet;
+          }
+          (inside_ends s w.free w.row g.life g.stage v.ruling.hand v.ruling.retired x r.inside) r.named (once_update v.claims (ended (v.claims 0) x) (once_ended (v.claims 0) x (r.once 0)) r.once) r.frees
+          (known_ends g.life g.life g.stage v.ruling.placed (noted_at v.ruling.placed x m p) x 0 m p is (noted_more v.ruling.placed x m p)
+          (λ b y k u. (u, λ e f h. subst (λ (i : ℕ × ℕ). HasEntry (noted_at v.ruling.placed x m p) (b, i.0, i.1)) (λ z. (sym f z, sym h z)) (noted_new v.ruling.placed x m p b (lives b (uses_block p b e)))))
+          (λ b y k u. inl u) (λ b u e. (e, λ f. loose_not u x m (sym e ∙ in_chains b (lives b (uses_block p b f))))) r.known) r.kept (λ _ _ _ u _. (u, refl))
+        where
+          in_chains : (b : ℕ) → p ≡ Living b → g.life b ≡ Placed x m
+          in_chains b e = (subst (Shape w.round w.head w.born g.life x m) e (r.claims.shape x 0 m p is)).0
 
       stage_own : (q : Progress) (z j k : ℕ) (t : Progress) → update g.stage x (Held 0 m q) z ≡ Held j k t → j ≡ 0
       stage_own q z j k t h = dite (ℕ_discrete z x) (λ e. sym (held_one 0 j m k q t (sym (update_at g.stage x z (Held 0 m q) e) ∙ h)).0) (λ o. back_own z j k t (sym (update_other g.stage x z (Held 0 m q) o) ∙ h))
@@ -139,7 +180,12 @@ module _ (s : Setup) (w : Words) (n : ℕ) (v : Views) (g : Ghost) (r : Rule s w
         (unbears Can_ A_ s.elements w.round w.head w.hist w.born w.died g.life r.chains b x m sh.0 sh.1 (low_can (λ l. absurd (omega arith)) x m (Living b) mine four))
         (λ c _ _ _. (refl, born_was c)) (stage_own (λ l. absurd (omega arith)) x m (Living b) mine (Whole b))
         record { heads = own.heads; hists = own.hists; dieds = own.dieds; names = own.names; borns = noted_after (v.sure 0).born w.born b 0 own.borns; rows = own.rows } r.hand (inside_goes s w.free w.row g.life g.stage v.ruling.hand v.ruling.retired x 0 m (Living b) 0 (Whole b) is r.inside) r.named (once_update v.claims (moved_on (v.claims 0) x (Whole b)) (once_moved (v.claims 0) x (Whole b) (r.once 0)) r.once)
+        (frees_on s.pool w.cursor w.free w.row w.born (update w.born b 0) g.life g.life v.ruling.hand v.ruling.low v.ruling.high (λ _ e. e) (λ c e. (e, λ z. dite (ℕ_discrete c b) (λ f. update_at w.born b c 0 f) (λ o. off c o ∙ z))) r.frees)
+        (known_goes g.life g.stage v.ruling.placed x 0 m 0 (Living b) (Whole b) is refl (λ c e. living_not c e) r.known)
       where
+        living_not : (c : ℕ) → Living b ≡ Drawn c → ⊥
+        living_not c e = cc
+
         born_was : (c : ℕ) → 0 < update w.born b 0 c → 0 < w.born c
         born_was c p = dite (ℕ_discrete c b) (λ e. let z : update w.born b 0 c ≡ 0 = update_at w.born b c 0 e in absurd (omega arith)) (λ o. subst (λ (i : ℕ). 0 < i) (update_other w.born b c 0 o) p)
 
@@ -165,11 +211,12 @@ module _ (s : Setup) (w : Words) (n : ℕ) (v : Views) (g : Ghost) (r : Rule s w
         (λ c z k u e. dite (ℕ_discrete c b) (λ f. let t = placed_one z k x (y + 1) (sym u ∙ ap g.life f ∙ sh.0) in inl (t.0, t.1, inl (ap Half (sym f)))) (λ o. inr (u, e, λ (h : b + 1 ≡ c + 1). o (omega arith))))
         (λ c u e. (u, e)))
         (subst (λ (i : Node). ChainsRule s.elements w.round (update w.head y i) w.hist w.born w.died g.life × Moves Can_ A_ s.elements w.round w.head w.hist (update w.head y i) w.hist w.born w.died w.born w.died g.life g.life) hh m)
-        (λ _ _ _ _. (refl, λ p. p)) (stage_own (λ t. absurd (omega arith)) x (y + 1) (Whole b) mine (Half b)) (add_head y l) r.hand (inside_goes s w.free w.row g.life g.stage v.ruling.hand v.ruling.retired x 0 (y + 1) (Whole b) 0 (Half b) is r.inside) (labels_skip s w.name w.head w.hist g.life y b true l (ap (λ (i : Node). i.block) (sh.3 y refl)) (ap (λ (i : Life). chained i true) sh.0) hh r.named) (once_update v.claims (moved_on (v.claims 0) x (Half b)) (once_moved (v.claims 0) x (Half b) (r.once 0)) r.once)
+        (λ _ _ _ _. (refl, λ p. p)) (stage_own (λ t. absurd (omega arith)) x (y + 1) (Whole b) mine (Half b)) (add_head y l) r.hand (inside_goes s w.free w.row g.life g.stage v.ruling.hand v.ruling.retired x 0 (y + 1) (Whole b) 0 (Half b) is r.inside) (labels_skip s w.name w.head w.hist g.life y b true l (ap (λ (i : Node). i.block) (sh.3 y refl)) (ap (λ (i : Life). chained i true) sh.0) hh r.named) (once_update v.claims (moved_on (v.claims 0) x (Half b)) (once_moved (v.claims 0) x (Half b) (r.once 0)) r.once) r.frees
+        (known_goes g.life g.stage v.ruling.placed x 0 (y + 1) 0 (Whole b) (Half b) is refl (λ c e. whole_not b c e) r.known)
 
     -- the first member's head gets back what it had, and the claim ends
     pub unlinks_first : v.ruling.phase ≡ 4 → (x m b : ℕ) (l : Node) (p : Progress) → HasEntry (v.claims 0) (claim x m p) → (p ≡ Half b) ⊎ ((p ≡ Whole b) × (m ≡ 0)) → Noted (v.sure 0).hist (member_of b false) l
-        → Rule s (record w { head = update w.head x l; claimed = update w.claimed x 0 }) n (record v { claims = update v.claims 0 (ended (v.claims 0) x); sure = update v.sure 0 (record (v.sure 0) { head = (x, l) ∷ (v.sure 0).head }); ruling = record v.ruling { undone = b ∷ v.ruling.undone; seen = 0; quiet = 0 } }) (record g { stage = update g.stage x Open; life = update g.life b (Undone x m) })
+        → Rule s (record w { head = update w.head x l; claimed = update w.claimed x 0 }) n (record v { claims = update v.claims 0 (ended (v.claims 0) x); sure = update v.sure 0 (record (v.sure 0) { head = (x, l) ∷ (v.sure 0).head }); ruling = record v.ruling { undone = b ∷ v.ruling.undone; placed = (b, x, m) ∷ v.ruling.placed; seen = 0; quiet = 0 } }) (record g { stage = update g.stage x Open; life = update g.life b (Undone x m) })
     unlinks_first four x m b l p mine how f = let is = r.claims.held 0 x m p mine in let up : uses p ≡ b + 1 = ⊎_elim (λ e. ap uses e) (λ e. ap uses e.0) how in
         let sh : (g.life b ≡ Placed x m) × (w.born b ≡ 0) × (w.head x ≡ node (b + 1) 0) × ((y : ℕ) → m ≡ y + 1 → (w.head y).block ≡ b + 1 → ⊥) =
         ⊎_elim (λ e. subst (Shape w.round w.head w.born g.life x m) e (r.claims.shape x 0 m p is)) (λ e. let t = subst (Shape w.round w.head w.born g.life x m) e.0 (r.claims.shape x 0 m p is) in let z = e.1 in (t.0, t.1, t.2, λ y h. absurd (omega arith))) how in
@@ -177,7 +224,7 @@ module _ (s : Setup) (w : Words) (n : ℕ) (v : Views) (g : Ghost) (r : Rule s w
         let left : (c y k : ℕ) → life' c ≡ Placed y k → (c ≢ b) × (g.life c ≡ Placed y k) = λ c y k u. dite (ℕ_discrete c b) (λ e. absurd (undone_not x m y k (sym (update_at g.life b c (Undone x m) e) ∙ u))) (λ o. (o, sym (off c o) ∙ u)) in
         let mv = undoes Can_ A_ s.elements w.round w.head w.hist w.born w.died g.life r.chains b x m sh.0 sh.1 (ap (λ (i : Node). i.block) sh.2)
         (λ z ne live e. let t = named Can_ A_ s.elements w.round w.head w.hist w.born w.died g.life r.chains z b (w.head z) (r.chains.heads z live) e in ⊎_elim (λ q. ne q) (λ q. sh.3 z q e) (chained_of (g.life b) t.0 x m z sh.0 t.1)) in
-        sweeps_to s w n v g r quiet w.cursor w.free w.row (update w.claimed x 0) (update w.head x l) w.hist w.born w.died life' _ (update v.claims 0 (ended (v.claims 0) x)) (update v.sure 0 (record (v.sure 0) { head = (x, l) ∷ (v.sure 0).head })) v.ruling.hand v.ruling.cursor v.ruling.free (b ∷ v.ruling.undone) v.ruling.placed 0 0
+        sweeps_to s w n v g r quiet w.cursor w.free w.row (update w.claimed x 0) (update w.head x l) w.hist w.born w.died life' _ (update v.claims 0 (ended (v.claims 0) x)) (update v.sure 0 (record (v.sure 0) { head = (x, l) ∷ (v.sure 0).head })) v.ruling.hand v.ruling.cursor v.ruling.free v.ruling.low v.ruling.high (b ∷ v.ruling.undone) v.ruling.kept ((b, x, m) ∷ v.ruling.placed) 0 0
         (held.ends s w.round w.cursor w.free v.ruling.phase w.row w.claimed w.head w.born g.life g.stage v.claims r.claims x 0 m p p is (λ t. absurd (omega arith)) (update w.head x l) w.born life'
         (λ z i k q h ne t. let a = apart_heads x z 0 i m k p q is h ne x (inl refl) in shape_on w.round w.head w.born g.life z k (update w.head x l) w.born life' q (λ c u. (off c (λ (e : c ≡ b). ne (one z x 0 m b i k q p h is (u ∙ ap (λ (y : ℕ). y + 1) e) up)), refl)) (update_other w.head x z l ne) (λ c e. update_other w.head x c l (a.1 c e)) t)
         (λ c y k u e i. let t = left c y k u in (t.1, e, λ h. t.0 (one_more c b (sym (ap uses h) ∙ up))))
@@ -185,11 +232,17 @@ module _ (s : Setup) (w : Words) (n : ℕ) (v : Views) (g : Ghost) (r : Rule s w
         (λ c u e. (off c (λ (q : c ≡ b). free_not x m (sym u ∙ ap g.life q ∙ sh.0)) ∙ u, e)))
         (subst (λ (i : Node). ChainsRule s.elements w.round (update w.head x i) w.hist w.born w.died life' × Moves Can_ A_ s.elements w.round w.head w.hist (update w.head x i) w.hist w.born w.died w.born w.died g.life life') hh mv)
         (λ c y k u. ((left c y k u).1, refl, λ p. p)) (λ z j k q h. back_own z j k q (dite (ℕ_discrete z x) (λ e. absurd (not_open j k q (sym h ∙ update_at g.stage x z Open e))) (λ o. sym (update_other g.stage x z Open o) ∙ h))) (add_head x l)
-        (λ c h. let t = r.hand c h in (t.0, off c (λ (e : c ≡ b). free_not x m (sym t.1 ∙ ap g.life e ∙ sh.0)) ∙ t.1))
-        (let k = r.stock in record { finished = k.finished; cursor_is = k.cursor_is; free_is = k.free_is; left = k.left; never = λ c i. ⊎_elim (λ e. inl (off c (λ (f : c ≡ b). free_not x m (sym e ∙ ap g.life f ∙ sh.0)) ∙ e)) inr (k.never c i) })
-        record { undone = λ c h. ⊎_elim (λ e. (x, m, update_at g.life b c (Undone x m) e)) (λ t. let q = r.note.undone c t in (q.0, q.1, off c (λ (f : c ≡ b). undone_not q.0 q.1 x m (sym q.2 ∙ ap g.life f ∙ sh.0)) ∙ q.2)) h; all = λ c y k h. dite (ℕ_discrete c b) (λ f. inl f) (λ o. inr (r.note.all c y k (sym (off c o) ∙ h))); placed = λ c y k h. dite (ℕ_discrete c b) (λ f. inr (update_at g.life b c (Undone x m) f ∙ same_places c y k f (r.note.placed c y k h))) (λ o. ⊎_elim (λ e. inl (off c o ∙ e)) (λ e. inr (off c o ∙ e)) (r.note.placed c y k h)); seen = λ i e. absurd (omega arith); quiet = λ e. absurd (omega arith) }
+        (λ c h. let t = r.hand c h in off c (λ (e : c ≡ b). free_not x m (sym t ∙ ap g.life e ∙ sh.0)) ∙ t)
+        (let k = r.stock in record { finished = k.finished; cursor_is = k.cursor_is; free_is = k.free_is; left = k.left })
+        record { undone = λ c h. ⊎_elim (λ e. (x, m, update_at g.life b c (Undone x m) e)) (λ t. let q = r.note.undone c t in (q.0, q.1, off c (λ (f : c ≡ b). undone_not q.0 q.1 x m (sym q.2 ∙ ap g.life f ∙ sh.0)) ∙ q.2)) h; all = λ c y k h. dite (ℕ_discrete c b) (λ f. inl f) (λ o. inr (r.note.all c y k (sym (off c o) ∙ h))); placed = λ c y k h. ⊎_elim (λ q. inr (subst (λ (i : ℕ × ℕ × ℕ). life' i.0 ≡ Undone i.1 i.2) (sym q) (update_same g.life b (Undone x m)))) (λ h. dite (ℕ_discrete c b) (λ f. inr (update_at g.life b c (Undone x m) f ∙ same_places c y k f (r.note.placed c y k h))) (λ o. ⊎_elim (λ e. inl (off c o ∙ e)) (λ e. inr (off c o ∙ e)) (r.note.placed c y k h))) h; seen = λ i e. absurd (omega arith); quiet = λ e. absurd (omega arith) }
         (inside_life s w.free w.row g.life life' (update g.stage x Open) v.ruling.hand v.ruling.retired (inside_block s g.life b (Undone x m) (below_pool s w.free w.row g.life g.stage v.ruling.hand v.ruling.retired r.inside b (λ e. free_not x m (sym e ∙ sh.0))) r.inside.blocks) (λ c t y st. r.inside.stand_in c t y (stayed c t y st)) (inside_ends s w.free w.row g.life g.stage v.ruling.hand v.ruling.retired x r.inside))
         (labels_on s w.name w.name (update w.head x l) (update w.head x l) w.hist w.hist g.life life' (λ c t y st. (stays c t y st, refl)) stayed (λ c t y ch. let p = placed (life' c) t y ch in let q = left c p.0 p.1 p.2 in ap (λ (i : Life). chained i t) (sym (off c q.0)) ∙ ch) (λ _ _. refl) (λ _ _ _ _. refl) (λ c y k u. dite (ℕ_discrete c b) (λ e. let t = undone_one x m y k (sym (update_at g.life b c (Undone x m) e) ∙ u) in subst (λ (i : ℕ × ℕ). IsPatch s w.name i.0 i.1) (λ z. (sym e z, t.1 z)) (r.names.patch b x m sh.0)) (λ o. r.named.patch c y k (sym (off c o) ∙ u))) (labels_skip s w.name w.head w.hist g.life x b false l (ap (λ (i : Node). i.block) sh.2) (ap (λ (i : Life). chained i false) sh.0) hh r.named)) (once_update v.claims (ended (v.claims 0) x) (once_ended (v.claims 0) x (r.once 0)) r.once)
+        (frees_on s.pool w.cursor w.free w.row w.born w.born g.life life' v.ruling.hand v.ruling.low v.ruling.high (λ c e. sym (off c (λ (f : c ≡ b). free_undone x m (sym e ∙ update_at g.life b c (Undone x m) f))) ∙ e) (λ c e. (off c (λ (f : c ≡ b). free_not x m (sym e ∙ ap g.life f ∙ sh.0)) ∙ e, λ z. z)) r.frees)
+        (known_ends g.life life' g.stage v.ruling.placed ((b, x, m) ∷ v.ruling.placed) x 0 m p is (λ _ h. inr h) (λ c y k u. let t = left c y k u in (t.1, λ e _ _. absurd (t.0 (one_more c b (sym (uses_block p c e) ∙ up)))))
+        (λ c y k u. dite (ℕ_discrete c b) (λ f. let t = undone_one x m y k (sym (update_at g.life b c (Undone x m) f) ∙ u) in inr (inl (λ i. (f i, sym t.0 i, sym t.1 i)))) (λ o. inl (sym (off c o) ∙ u)))
+        (λ c u e. let o : c ≢ b = λ (f : c ≡ b). undone_loose x m u (sym (update_at g.life b c (Undone x m) f) ∙ e) in (sym (off c o) ∙ e, λ q. o (one_more c b (sym (uses_block p c q) ∙ up)))) r.known)
+        (kept_on w.round w.died w.died g.life life' v.ruling.kept (λ c y k u _ _. ((left c y k u).1, refl)) (λ c y k u p l. (off c (λ (f : c ≡ b). let z = (r.chains.dieds c y k u p).0 in let e : w.born c ≡ w.born b = ap w.born f in let y = sh.1 in omega arith) ∙ u, refl)) r.kept)
+        (λ c y k u e. let l = r.names.calm c y k ((λ z. omega arith), λ z. omega arith) u in absurd (omega arith))
       where
         in_place : g.life b ≡ Placed x m
         in_place = ⊎_elim (λ e. shape_half (subst (Shape w.round w.head w.born g.life x m) e (r.claims.shape x 0 m p (r.claims.held 0 x m p mine)))) (λ e. shape_whole (subst (Shape w.round w.head w.born g.life x m) e.0 (r.claims.shape x 0 m p (r.claims.held 0 x m p mine)))) how
@@ -213,6 +266,9 @@ module _ (s : Setup) (w : Words) (n : ℕ) (v : Views) (g : Ghost) (r : Rule s w
 
         stayed : (c : ℕ) (t : Bool) (y : ℕ) → stands (update g.life b (Undone x m) c) t ≡ y + 1 → stands (g.life c) t ≡ y + 1
         stayed c t y st = sym (same_stand t c) ∙ st
+
+        undone_loose : (x m u : ℕ) → Undone x m ≡ Loose u → ⊥
+        undone_loose x m u e = cc
 
         undone_one : (x m y k : ℕ) → Undone x m ≡ Undone y k → (x ≡ y) × (m ≡ k)
         undone_one x m y k e = (cc, cc)
@@ -248,7 +304,7 @@ module _ (s : Setup) (w : Words) (n : ℕ) (v : Views) (g : Ghost) (r : Rule s w
         (resets Can_ A_ s.elements w.round w.head w.hist w.born w.died g.life r.chains b (λ t. ap (λ (l : Life). chained l t) u) w.hist w.born (update w.died b d) (λ c o. ((λ _. refl), refl, off c o)) (r.chains.borns b)
         (λ y k h. (r.chains.undone b y k h, (λ _. refl), inr here)) (subst (IsUnborn w.round (w.born b) (update w.died b d b)) (sym u) tt))
         (λ c y k h. (off c (λ (e : c ≡ b). undone_not x m y k (sym u ∙ ap g.life (sym e) ∙ h)), λ p. p)) back_own
-        record { heads = own.heads; hists = own.hists; dieds = noted_after (v.sure 0).died w.died b d own.dieds; names = own.names; borns = own.borns; rows = own.rows } r.hand r.inside r.named r.once
+        record { heads = own.heads; hists = own.hists; dieds = noted_after (v.sure 0).died w.died b d own.dieds; names = own.names; borns = own.borns; rows = own.rows } r.hand r.inside r.named r.once r.frees r.known
 
     -- DIED of a block that was taken back becomes the round
     pub buries : (b : ℕ) → HasEntry v.ruling.undone b → Rule s (record w { died = update w.died b (v.ruling.finished + 1) }) n (record v { sure = update v.sure 0 (record (v.sure 0) { died = (b, v.ruling.finished + 1) ∷ (v.sure 0).died }) }) g
@@ -259,7 +315,7 @@ module _ (s : Setup) (w : Words) (n : ℕ) (v : Views) (g : Ghost) (r : Rule s w
         → Rule s (record w { claimed = update w.claimed x 0 }) n (record v { claims = update v.claims 0 (ended (v.claims 0) x); ruling = record v.ruling { hand = b ∷ v.ruling.hand } }) (record g { stage = update g.stage x Open; life = update g.life b Free })
     undraws four x m b mine = let is = r.claims.held 0 x m (Drawn b) mine in let sh = r.claims.shape x 0 m (Drawn b) is in let life' : ℕ → Life = update g.life b Free in let off : (c : ℕ) → c ≢ b → life' c ≡ g.life c = λ c o. update_other g.life b c Free o in
         let back : (c y k : ℕ) → life' c ≡ Placed y k → (c ≢ b) × (g.life c ≡ Placed y k) = λ c y k u. dite (ℕ_discrete c b) (λ e. absurd (free_not y k (sym (update_at g.life b c Free e) ∙ u))) (λ o. (o, sym (off c o) ∙ u)) in
-        sweeps_to s w n v g r quiet w.cursor w.free w.row (update w.claimed x 0) w.head w.hist w.born w.died life' _ (update v.claims 0 (ended (v.claims 0) x)) v.sure (b ∷ v.ruling.hand) v.ruling.cursor v.ruling.free v.ruling.undone v.ruling.placed v.ruling.seen v.ruling.quiet
+        sweeps_to s w n v g r quiet w.cursor w.free w.row (update w.claimed x 0) w.head w.hist w.born w.died life' _ (update v.claims 0 (ended (v.claims 0) x)) v.sure (b ∷ v.ruling.hand) v.ruling.cursor v.ruling.free v.ruling.low v.ruling.high v.ruling.undone v.ruling.kept v.ruling.placed v.ruling.seen v.ruling.quiet
         (held.ends s w.round w.cursor w.free v.ruling.phase w.row w.claimed w.head w.born g.life g.stage v.claims r.claims x 0 m (Drawn b) (Drawn b) is (λ t. absurd (omega arith)) w.head w.born life'
         (λ z i k q h ne t. shape_on w.round w.head w.born g.life z k w.head w.born life' q (λ c u. (off c (λ (e : c ≡ b). ne (one z x 0 m b i k q (Drawn b) h is (u ∙ ap (λ (y : ℕ). y + 1) e) refl)), refl)) refl (λ _ _. refl) t)
         (λ c y k u e o. ((back c y k u).1, e, λ h. drawn_living c h)) (λ c y k u e. let t = back c y k u in (t.1, e, λ (h : b + 1 ≡ c + 1). t.0 (omega arith)))
@@ -270,8 +326,8 @@ module _ (s : Setup) (w : Words) (n : ℕ) (v : Views) (g : Ghost) (r : Rule s w
         (λ c t y a st _ h e. let k = older_named Can_ A_ s.elements w.round w.head w.hist w.born w.died g.life r.chains y a (w.born c) (w.hist (member_of c t)) (r.chains.hists c t y st) h in not_chained sh.0 (eqb-true a b e) k.0 y k.1)
         (λ c e. inl (ap w.born (eqb-true c b e) ∙ sh.1)))
         (λ c y k u. ((back c y k u).1, refl, λ p. p)) (λ z j k q h. back_own z j k q (dite (ℕ_discrete z x) (λ e. absurd (not_open j k q (sym h ∙ update_at g.stage x z Open e))) (λ o. sym (update_other g.stage x z Open o) ∙ h))) own
-        (λ c h. ⊎_elim (λ e. ((λ f. omega arith), update_at g.life b c Free e)) (λ u. let t = r.hand c u in (t.0, dite (ℕ_discrete c b) (λ f. update_at g.life b c Free f) (λ o. off c o ∙ t.1))) h)
-        (let k = r.stock in record { finished = k.finished; cursor_is = k.cursor_is; free_is = k.free_is; left = k.left; never = λ c i. ⊎_elim (λ e. inl (dite (ℕ_discrete c b) (λ f. update_at g.life b c Free f) (λ o. off c o ∙ e))) inr (k.never c i) })
+        (λ c h. ⊎_elim (λ e. update_at g.life b c Free e) (λ u. still_free c (r.hand c u)) h)
+        (let k = r.stock in record { finished = k.finished; cursor_is = k.cursor_is; free_is = k.free_is; left = k.left })
         record {
           undone = λ c h. let t = r.note.undone c h in (t.0, t.1, off c (λ (f : c ≡ b). loose_undone (x + 1) t.0 t.1 (sym sh.0 ∙ ap g.life (sym f) ∙ t.2)) ∙ t.2);
           all = λ c y k h. dite (ℕ_discrete c b) (λ f. absurd (free_undone y k (sym (update_at g.life b c Free f) ∙ h))) (λ o. r.note.all c y k (sym (off c o) ∙ h));
@@ -281,7 +337,25 @@ module _ (s : Setup) (w : Words) (n : ℕ) (v : Views) (g : Ghost) (r : Rule s w
         }
         (let i = inside_life s w.free w.row g.life life' (update g.stage x Open) v.ruling.hand v.ruling.retired (inside_block s g.life b Free in_pool r.inside.blocks) (λ c t y st. r.inside.stand_in c t y (ap (λ (l : Life). stands l t) (sym (off c (λ (e : c ≡ b). not_free (life' c) t y st (update_at g.life b c Free e)))) ∙ st)) (inside_ends s w.free w.row g.life g.stage v.ruling.hand v.ruling.retired x r.inside) in record { few = i.few; rows = i.rows; blocks = i.blocks; stand_in = i.stand_in; seconds = i.seconds; hand_in = λ c h. ⊎_elim (λ e. subst (λ (k : ℕ). k < s.pool) (sym e) in_pool) (r.inside.hand_in c) h; retired_in = i.retired_in })
         (labels_on s w.name w.name w.head w.head w.hist w.hist g.life life' (λ c t y st. (ap (λ (l : Life). stands l t) (off c (λ (e : c ≡ b). not_loose e t y st)) ∙ st, refl)) (λ c t y st. ap (λ (l : Life). stands l t) (sym (off c (λ (e : c ≡ b). not_free (life' c) t y st (update_at g.life b c Free e)))) ∙ st) (λ c t y ch. let p = placed (life' c) t y ch in ap (λ (l : Life). chained l t) (sym (off c (back c p.0 p.1 p.2).0)) ∙ ch) (λ _ _. refl) (λ _ _ _ _. refl) (λ c y k u. r.named.patch c y k (sym (off c (λ (e : c ≡ b). free_undone y k (sym (update_at g.life b c Free e) ∙ u))) ∙ u)) r.named) (once_update v.claims (ended (v.claims 0) x) (once_ended (v.claims 0) x (r.once 0)) r.once)
+        record {
+          all = λ c l e. dite (ℕ_discrete c b) (λ f. inl (inl f)) (λ o. ⊎_elim (λ h. inl (inr h)) inr (r.frees.all c l (sym (off c o) ∙ e)));
+          hand_rows = λ c h t. ⊎_elim (λ e. not_now e (ap g.life (sym t.3) ∙ (r.claims.rows t.0 t.1 t.2).0)) (λ u. r.frees.hand_rows c u t) h;
+          hand_stock = λ c h t. ⊎_elim (λ e. not_now e (ap g.life (sym t.3) ∙ (r.frees.stocked t.0 t.1 t.2).0)) (λ u. r.frees.hand_stock c u t) h;
+          stocked = λ i a l. let t = r.frees.stocked i a l in (still_free (w.row i) t.0, t.1, t.2);
+          once = r.frees.once;
+          shut = r.frees.shut;
+        }
+        (known_ends g.life life' g.stage v.ruling.placed v.ruling.placed x 0 m (Drawn b) is (λ _ h. h) (λ c y k u. let t = back c y k u in (t.1, λ e _ _. absurd (t.0 (one_more c b (sym e))))) (λ c y k u. inl (sym (off c (λ (f : c ≡ b). free_undone y k (sym (update_at g.life b c Free f) ∙ u))) ∙ u))
+        (λ c u e. let o : c ≢ b = λ (f : c ≡ b). free_loose u (sym (update_at g.life b c Free f) ∙ e) in (sym (off c o) ∙ e, λ q. o (one_more c b (sym q)))) r.known)
+        (kept_on w.round w.died w.died g.life life' v.ruling.kept (λ c y k u _ _. ((back c y k u).1, refl)) (λ c y k u _ _. (off c (λ (f : c ≡ b). loose_not (x + 1) y k (sym sh.0 ∙ ap g.life (sym f) ∙ u)) ∙ u, refl)) r.kept)
+        (λ c y k u e. let l = r.names.calm c y k ((λ z. omega arith), λ z. omega arith) u in absurd (omega arith))
       where
+        still_free : (c : ℕ) → g.life c ≡ Free → update g.life b Free c ≡ Free
+        still_free c e = dite (ℕ_discrete c b) (λ f. update_at g.life b c Free f) (λ o. update_other g.life b c Free o ∙ e)
+
+        not_now : {c : ℕ} → c ≡ b → g.life c ≡ Free → ⊥
+        not_now e f = free_loose (x + 1) (sym f ∙ ap g.life e ∙ (r.claims.shape x 0 m (Drawn b) (r.claims.held 0 x m (Drawn b) mine)).0)
+
         in_pool : b < s.pool
         in_pool = below_pool s w.free w.row g.life g.stage v.ruling.hand v.ruling.retired r.inside b (λ e. free_loose (x + 1) (sym e ∙ (r.claims.shape x 0 m (Drawn b) (r.claims.held 0 x m (Drawn b) mine)).0))
 

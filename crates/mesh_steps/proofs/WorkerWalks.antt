@@ -7,10 +7,10 @@ use Rattle.mesh_words.specs.Views.{Views, Work, Walk, Still, At, Past}
 use Rattle.mesh_words.specs.Places.{member_of, child_place}
 use Rattle.mesh_words.specs.Entries.{HasEntry}
 use Rattle.mesh_words.proofs.Functions.{update_cases}
-use Rattle.mesh_state.specs.Ghosts.{chained, stands, Ghost}
+use Rattle.mesh_state.specs.Ghosts.{chained, stands, Ghost, Placed, Life}
 use Rattle.mesh_state.specs.Chains.{Reaches, IsHead}
-use Rattle.mesh_state.specs.Bisections.{IsPlaceOf, MayRead}
-use Rattle.mesh_state.specs.Work.{WorkRule, IsWorkPlace, WorkWalks, WalkRule}
+use Rattle.mesh_state.specs.Bisections.{IsPlaceOf, MayRead, IsPatch}
+use Rattle.mesh_state.specs.Work.{WorkRule, IsWorkPlace, WorkWalks, WalkRule, GrownRule, IsGrown}
 use Rattle.mesh_state.specs.Rule.{Rule}
 use Rattle.mesh_state.specs.Inside.{IsLabel}
 use Rattle.mesh_state.proofs.Inside.{label_of, label_one, label_place}
@@ -20,15 +20,17 @@ use Rattle.mesh_state.proofs.Lists.{crew_update, plan_update, drawn_update}
 use Rattle.mesh_state.proofs.Lists.{draws_update}
 use Rattle.mesh_steps.proofs.SureWords.{retired_on}
 use Rattle.mesh_state.proofs.Across.{Went, half_of, zero_or_more, place_one, name_one}
+use Rattle.mesh_state.proofs.Known.{retireds_work, grows_same}
+use native.Mathlib.Decide.{dec_lt}
 
 module _ (s : Setup) (w : Words) (n : ℕ) (v : Views) (g : Ghost) (r : Rule s w n v g) where
   abbrev d : ℕ
   d = w.round + 1
 
   -- what a step of a worker's knowledge is to show
-  pub reworks : (j : ℕ) (u : Work) → WorkRule s w.round v.ruling.phase w.name w.born w.died g.life (g.who d) (v.kind j) j u → WalkRule s w.round v.ruling.phase w.name w.hist w.born w.died g.life g.who (v.kind j) j u → u.retired ≡ (v.work j).retired → u.plan ≡ (v.work j).plan → u.drawn ≡ (v.work j).drawn → u.number ≡ (v.work j).number
+  pub reworks : (j : ℕ) (u : Work) → WorkRule s w.round v.ruling.phase w.name w.born w.died g.life (g.who d) (v.kind j) j u → WalkRule s w.round v.ruling.phase w.name w.hist w.born w.died g.life g.who (v.kind j) j u → u.retired ≡ (v.work j).retired → u.plan ≡ (v.work j).plan → u.drawn ≡ (v.work j).drawn → u.number ≡ (v.work j).number → GrownRule s w.round v.ruling.phase w.name w.born (g.who d) (v.kind j) j u
       → Rule s w n (record v { work = update v.work j u }) g
-  reworks j u works walks same lists draws own = record {
+  reworks j u works walks same lists draws own grow = record {
     names_apart = r.names_apart;
     claims = r.claims;
     labels = r.labels;
@@ -53,6 +55,12 @@ module _ (s : Setup) (w : Words) (n : ℕ) (v : Views) (g : Ghost) (r : Rule s w
     once = r.once;
     holders = r.holders;
     hand = r.hand;
+    grows = update_cases (λ i x. GrownRule s w.round v.ruling.phase w.name w.born (g.who d) (v.kind i) i x) v.work j u grow (λ i _. r.grows i);
+    retireds = retireds_work w.round w.died g.life v.work v.ruling.retired j u same r.retireds;
+    frees = r.frees;
+    known = r.known;
+    kept = r.kept;
+    early = r.early;
   }
 
   now : MayRead w.round v.ruling.phase v.read w.round
@@ -137,6 +145,7 @@ module _ (s : Setup) (w : Words) (n : ℕ) (v : Views) (g : Ghost) (r : Rule s w
     relearns went walk found known absent stood had f k a t h wt wk sd = reworks j (learned went walk found known absent stood had)
         record { only = λ o. absurd (o kind); found = f; known = k; open_ = (r.works j).open_; given = (r.works j).given }
         record { still = λ o. absurd (o kind); only = λ o. absurd (o kind); half = (r.walks j).half; at_work = (r.walks j).at_work; retired_in = (r.walks j).retired_in; absent = a; stood = t; had = h; went = wt; walk = wk; sided = sd } refl refl refl refl
+        (grows_same s w.round v.ruling.phase w.name w.born (g.who d) (v.kind j) j (v.work j) (learned went walk found known absent stood had) refl (r.grows j))
 
     abbrev u : Work
     u = v.work j
@@ -205,8 +214,50 @@ module _ (s : Setup) (w : Words) (n : ℕ) (v : Views) (g : Ghost) (r : Rule s w
         (λ c i m. ⊎_elim (λ f. let cb : c ≡ b = ap (λ (z : ℕ × ℕ). z.0) f in let ik : i ≡ k = ap (λ (z : ℕ × ℕ). z.1) f in ap (g.who w.round) (ik ∙ sym e) ∙ q.0 ∙ ap (λ (z : ℕ). z + 1) (sym cb)) ((r.walks j).had c i) m)
         (r.walks j).went tt (λ y i b t z. absurd (still_not y i b t z))
 
+    -- the block's other member is bisected with the first
+    pub finds_both : (b k i : ℕ) (t : Bool) → HasEntry u.had (b, k) → w.name (member_of b t) ≡ i + 1 → Rule s w n (record v { work = update v.work j (learned u.went u.walk u.found u.known u.absent ((child_place s.elements b t false, s.child (i + 1) false) ∷ (child_place s.elements b t true, s.child (i + 1) true) ∷ u.stood) ((b, i + 1) ∷ u.had)) }) g
+    finds_both b k i t mine is = let who : g.who w.round (w.name (member_of b t)) ≡ b + 1 = both_members b k i t mine is in
+        relearns u.went u.walk u.found u.known u.absent ((child_place s.elements b t false, s.child (i + 1) false) ∷ (child_place s.elements b t true, s.child (i + 1) true) ∷ u.stood) ((b, i + 1) ∷ u.had)
+        (r.works j).found (r.works j).known (r.walks j).absent
+        (λ y a m. ⊎_elim (λ f. kid_at (g.who w.round) b (i + 1) t who is false y a f) (λ m2. ⊎_elim (λ f. kid_at (g.who w.round) b (i + 1) t who is true y a f) (λ m3. (r.walks j).stood y a m3) m2) m)
+        (λ c a m. ⊎_elim (λ f. let cb : c ≡ b = ap (λ (z : ℕ × ℕ). z.0) f in let ik : a ≡ i + 1 = ap (λ (z : ℕ × ℕ). z.1) f in ap (g.who w.round) (ik ∙ sym is) ∙ who ∙ ap (λ (z : ℕ). z + 1) (sym cb)) ((r.walks j).had c a) m)
+        (r.walks j).went (r.walks j).walk (r.walks j).sided
+      where
+        both_members : (b k i : ℕ) (t : Bool) → HasEntry u.had (b, k) → w.name (member_of b t) ≡ i + 1 → g.who w.round (w.name (member_of b t)) ≡ b + 1
+        both_members b k i t mine is = let h = (r.walks j).had b k mine in let f = (r.names.fits w.round now).found k b h in let p = placed (g.life b) f.0 f.1 f.3 in let a = r.names.patch b p.0 p.1 p.2 in side t is f.0 f.2 p.0 p.1 p.2 a h
+          where
+            side : (t : Bool) → w.name (member_of b t) ≡ i + 1 → (o : Bool) → w.name (member_of b o) ≡ k → (x m : ℕ) → g.life b ≡ Placed x m → IsPatch s w.name b m → g.who w.round k ≡ b + 1 → g.who w.round (w.name (member_of b t)) ≡ b + 1
+            side false is o e x m l a h = (r.names.fits w.round now).both b x o false (ap (g.who w.round) e ∙ h) (ap (λ (q : Life). chained q false) l)
+            side true is o e x m l a h = ⊎_elim (λ z. let q : 0 ≡ i + 1 = sym z.1 ∙ sym a.1 ∙ is in absurd (omega arith)) (λ z. (r.names.fits w.round now).both b z.0 o true (ap (g.who w.round) e ∙ h) (ap (λ (q : Life). chained q true) l ∙ z.2)) a.2
+
     -- or the block is passed by
-    pub passes : (x k b : ℕ) (t : Bool) → u.walk ≡ At x k b t → (w.born b ≡ 0) ⊎ (u.round ≤ w.born b) → Rule s w n (record v { work = update v.work j (learned u.went (Past x k b t) u.found u.known u.absent u.stood u.had) }) g
-    passes x k b t at not_yet = let same = in_round in let not : (w.born b ≡ 0) ⊎ (w.round < w.born b) = ⊎_elim inl (λ y. inr (omega arith)) not_yet in let h = subst (WorkWalks s w.round v.ruling.phase w.name w.hist w.born w.died g.life g.who u.went) at (r.walks j).walk in
-        relearns u.went (Past x k b t) u.found u.known u.absent u.stood u.had (r.works j).found (r.works j).known (r.walks j).absent (r.walks j).stood (r.walks j).had (r.walks j).went
-        (h.0, h.1, h.2, λ c e. ⊎_elim (λ y. let z : w.born b ≡ w.born c = ap w.born y.0 in let y0 = y.1.0 in let y1 = y.1.1 in absurd (omega arith)) (λ y. y) (h.3 c e)) (λ y i c u z. ⊎_elim (λ e. absurd (at_past y i c u x k b t (sym e))) (λ e. let p = past_one x k b t y i c u e in sym (ap (λ (q : ℕ × Bool). w.name (member_of q.0 q.1)) (λ q. (p.2 q, p.3 q))) ∙ (r.walks j).sided x k b t (inl at) ∙ p.1) z)
+    -- and where it was born in the round in work, its children's places are known
+    pub passes : (x k b : ℕ) (t : Bool) → u.walk ≡ At x k b t → (w.born b ≡ 0) ⊎ (u.round ≤ w.born b) → (grown : List (ℕ × ℕ)) → (grown ≡ u.grown) ⊎ ((u.half ≡ 2) × (u.round ≤ w.born b) × (grown ≡ (child_place s.elements b t false, s.child k false) ∷ (child_place s.elements b t true, s.child k true) ∷ u.grown))
+        → Rule s w n (record v { work = update v.work j (record (v.work j) { walk = Past x k b t; grown = grown }) }) g
+    passes x k b t at not_yet grown how = let same = in_round in let not : (w.born b ≡ 0) ⊎ (w.round < w.born b) = ⊎_elim inl (λ y. inr (omega arith)) not_yet in let h = subst (WorkWalks s w.round v.ruling.phase w.name w.hist w.born w.died g.life g.who u.went) at (r.walks j).walk in
+        reworks j (record (v.work j) { walk = Past x k b t; grown = grown })
+        record { only = λ o. absurd (o kind); found = (r.works j).found; known = (r.works j).known; open_ = (r.works j).open_; given = (r.works j).given }
+        record {
+          still = λ o. absurd (o kind);
+          only = λ o. absurd (o kind);
+          half = (r.walks j).half;
+          at_work = (r.walks j).at_work;
+          retired_in = (r.walks j).retired_in;
+          absent = (r.walks j).absent;
+          stood = (r.walks j).stood;
+          had = (r.walks j).had;
+          went = (r.walks j).went;
+          walk = (h.0, h.1, h.2, λ c e. ⊎_elim (λ y. let z : w.born b ≡ w.born c = ap w.born y.0 in let y0 = y.1.0 in let y1 = y.1.1 in absurd (omega arith)) (λ y. y) (h.3 c e));
+          sided = λ y i c u z. ⊎_elim (λ e. absurd (at_past y i c u x k b t (sym e))) (λ e. let p = past_one x k b t y i c u e in sym (ap (λ (q : ℕ × Bool). w.name (member_of q.0 q.1)) (λ q. (p.2 q, p.3 q))) ∙ (r.walks j).sided x k b t (inl at) ∙ p.1) z;
+        } refl refl refl refl
+        record {
+          only = λ o. absurd (o kind);
+          grown = λ y i m. ⊎_elim (λ e. (r.grows j).grown y i (subst (λ (l : List (ℕ × ℕ)). HasEntry l (y, i)) e m))
+              (λ e. let two : v.ruling.phase ≡ 2 = sym ((r.walks j).half kind) ∙ e.0 in ⊎_elim (λ f. (two, grown_at x k b t at e.1 false y i f)) (λ m2. ⊎_elim (λ f. (two, grown_at x k b t at e.1 true y i f)) (λ m3. (r.grows j).grown y i m3) m2) (subst (λ (l : List (ℕ × ℕ)). HasEntry l (y, i)) e.2 m)) how;
+        }
+      where
+        grown_at : (x k b : ℕ) (t : Bool) → u.walk ≡ At x k b t → u.round ≤ w.born b → (c : Bool) (y i : ℕ) → ◌≡◌ {A = ℕ × ℕ} (y, i) (child_place s.elements b t c, s.child k c) → IsGrown s w.round w.name w.born (g.who d) y i
+        grown_at x k b t at l c y i f = let same = in_round in let le = r.chains.borns b in let h = at_block x k b t at (omega arith) in let pl = placed (g.life b) t x h.1 in let is = (r.walks j).sided x k b t (inl at) in
+            let live : w.died b ≡ 0 = elim (dec_lt 0 (w.died b)) [ yes m ↦ absurd (let z = r.chains.dieds b pl.0 pl.1 pl.2 m in let z1 = z.1 in let z2 = z.2 in omega arith) | no m ↦ omega arith ] in
+            let q = r.names.sound d next b t x h.1 (omega arith, le, inl live) in
+            (b, t, c, ap (λ (z : ℕ × ℕ). z.0) f, omega arith, q.0, ap (λ (z : ℕ × ℕ). z.1) f ∙ ap (λ (z : ℕ). s.child z c) (sym is))

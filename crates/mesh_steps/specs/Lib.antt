@@ -10,3 +10,4 @@ pub mod Local
 pub mod Reuse
 pub mod Onward
 pub mod OnwardRounds
+pub mod OnwardSweeps

@@ -3,11 +3,12 @@ use Rattle.std.specs.Prelude.{◌≡◌, ℕ, ◌+◌, ◌<◌, ◌≤◌, Bool,
 use Rattle.mesh_words.specs.Claims.{Progress, Drawn, Half, Whole, Living, claim}
 use Rattle.mesh_words.specs.Entries.{HasEntry, EntryAt, Noted}
 use Rattle.mesh_words.specs.Places.{member_of, child_place}
-use Rattle.mesh_words.specs.Views.{resting, first_half, second_half, closing, taking_back, worker, Plan}
+use Rattle.mesh_words.specs.Views.{resting, first_half, second_half, closing, taking_back, worker, Plan, At, Past}
 use Rattle.mesh_words.specs.Words.{Node}
 use Rattle.mesh_state.specs.Laws.{Always}
 use Rattle.mesh_state.specs.Lists.{IsTarget, IsMember, IsListed}
-use Rattle.mesh_steps.specs.Onward.{Onward, IsEnded}
+use Rattle.mesh_steps.specs.Onward.{Onward, IsEnded, HasChildren}
+use Rattle.mesh_steps.specs.SweepSteps.{IsLaid}
 
 -- the law that each seat can note a word that it loads
 abbrev pub LoadsGoOn : Type 0
@@ -29,6 +30,12 @@ RetiringGoesOn = Always (λ s w n v g. (j c k : ℕ) → v.kind j ≡ worker →
     × (HasEntry (v.work j).given (c, k) → (0 < w.died c → Onward s w n v (λ b. (i : ℕ) → IsMember s k i → HasEntry (b.views.work j).open_ i))
     × (w.died c ≡ 0 → HasEntry v.ruling.plan.retire k → ((i : ℕ) (u : Bool) → IsMember s k i → HasEntry (v.work j).open_ (s.child i u)) → Onward s w n v (λ b. (b.words.died c ≡ w.round + 1) × HasEntry (b.views.work j).retired c × ((i : ℕ) → IsMember s k i → HasEntry (b.views.work j).open_ i)))))
 
+-- the law of blocks that were born in the round: where a walk of the second half has come to one, the places of the name's children are known; and from the place of such a child the name is known as not bisected, or where its children are
+abbrev pub GrownGoesOn : Type 0
+GrownGoesOn = Always (λ s w n v g. (j x k : ℕ) → v.kind j ≡ worker → v.ruling.phase ≡ second_half →
+    ((c : ℕ) (t : Bool) → (v.work j).walk ≡ At x k c t → w.born c ≡ w.round + 1 → Onward s w n v (λ b. ((b.views.work j).walk ≡ Past x k c t) × HasChildren s (b.views.work j).grown k c t))
+    × (HasEntry (v.work j).grown (x, k) → Onward s w n v (λ b. HasEntry (b.views.work j).open_ k) ⊎ ((c : ℕ) × (t : Bool) × ((w.head x).block ≡ c + 1) × Onward s w n v (λ b. HasChildren s (b.views.work j).grown k c t))))
+
 -- the law of the phases: a round begins with a target; while no worker's pass is out it is planned with any retire list, or refused, or closed, each where the owner knows what it asks for; while it is closed a claim with a living block ends; and one that was taken back begins anew
 abbrev pub RoundsGoOn : Type 0
 RoundsGoOn = Always (λ s w n v g. ((p : Plan) (names : List ℕ) → v.ruling.phase ≡ resting → v.ruling.cursor ≡ 1 → w.round < s.rounds → EntryAt v.ruling.history w.round names → IsTarget s (HasEntry names) p → Onward s w n v (λ b. (b.views.ruling.phase ≡ first_half) × (b.views.ruling.plan ≡ p)))
@@ -38,15 +45,17 @@ RoundsGoOn = Always (λ s w n v g. ((p : Plan) (names : List ℕ) → v.ruling.p
     × ((x m c : ℕ) → v.ruling.phase ≡ closing → HasEntry (v.claims 0) (claim x m (Living c)) → Onward s w n v (λ b. IsEnded b x))
     × (v.ruling.phase ≡ taking_back → v.claims 0 ≡ [] → Onward s w n v (λ b. b.views.ruling.phase ≡ resting)))
 
--- the law of what the owner can note: that a round is clear, that the last one is quiet, the places of a living block, and that a row names a free block
+-- the law of what the owner can note: that a round is clear, that the last one is quiet, the places of a living block, and that the last row of the stock names a free block
 abbrev pub NotesGoOn : Type 0
 NotesGoOn = Always (λ s w n v g. ((q k : ℕ) → HasEntry v.ruling.left (q, k) → w.released q ≡ k → Onward s w n v (λ b. HasEntry b.views.ruling.clear q))
     × Onward s w n v (λ b. b.views.ruling.seen ≡ w.released w.round + 1) × (v.ruling.seen ≡ w.taken + 1 → Onward s w n v (λ b. b.views.ruling.quiet ≡ 1))
     × ((c x m : ℕ) → HasEntry (v.claims 0) (claim x m (Living c)) → Onward s w n v (λ b. HasEntry b.views.ruling.placed (c, x, m)))
-    × ((i c k a : ℕ) → v.ruling.phase ≡ resting → v.ruling.cursor ≡ c + 1 → v.ruling.free ≡ k + 1 → c ≤ i → i < k → Noted (v.sure 0).row i a → Onward s w n v (λ b. HasEntry b.views.ruling.hand a)))
+    × ((i a : ℕ) → v.ruling.workers ≡ 0 → v.ruling.low ≤ i → v.ruling.high ≡ i + 1 → Noted (v.sure 0).row i a → Onward s w n v (λ b. HasEntry b.views.ruling.hand a)))
 
--- the law of the free rows: BORN of a block in the owner's hand becomes 0, and while FREE is 0 CURSOR becomes 0, each row can be written, and FREE becomes the number of rows that name different such blocks
+-- the law of the free rows: BORN of a block in the owner's hand becomes 0, and while FREE is 0 CURSOR becomes 0, each row that is not of the stock can be written, and FREE becomes the number of rows, of which each is of the stock or names another such block
 abbrev pub RowsGoOn : Type 0
 RowsGoOn = Always (λ s w n v g. v.ruling.phase ≡ resting → ((c : ℕ) → HasEntry v.ruling.hand c → Onward s w n v (λ b. (b.words.born c ≡ 0) × Noted (b.views.sure 0).born c 0))
-    × (v.ruling.free ≡ 1 → Onward s w n v (λ b. (b.words.cursor ≡ 0) × (b.views.ruling.cursor ≡ 1)) × ((i c : ℕ) → Onward s w n v (λ b. (b.words.row i ≡ c) × Noted (b.views.sure 0).row i c))
-    × ((k : ℕ) (at : ℕ → ℕ) → ((i : ℕ) → i < k → Noted (v.sure 0).row i (at i) × HasEntry v.ruling.hand (at i) × Noted (v.sure 0).born (at i) 0) → ((i j : ℕ) → i < k → j < k → at i ≡ at j → i ≡ j) → Onward s w n v (λ b. b.words.free ≡ k))))
+    × (v.ruling.free ≡ 1 → Onward s w n v (λ b. (b.words.cursor ≡ 0) × (b.views.ruling.cursor ≡ 1)) × ((i c : ℕ) → (i < v.ruling.low) ⊎ (v.ruling.high ≤ i) → Onward s w n v (λ b. (b.words.row i ≡ c) × Noted (b.views.sure 0).row i c))
+    × ((k : ℕ) (hand : List ℕ) → v.ruling.cursor ≡ 1 → (v.ruling.low < v.ruling.high → v.ruling.high ≤ k) → ((i : ℕ) → i < k → ((v.ruling.low ≤ i) × (i < v.ruling.high)) ⊎ ((c : ℕ) × IsLaid v k i c × HasEntry v.ruling.hand c × Noted (v.sure 0).born c 0))
+    → ((i j c : ℕ) → IsLaid v k i c → IsLaid v k j c → i ≡ j) → ((c : ℕ) → (HasEntry hand c → HasEntry v.ruling.hand c × ((i : ℕ) → IsLaid v k i c → ⊥)) × (HasEntry v.ruling.hand c → HasEntry hand c ⊎ ((i : ℕ) × IsLaid v k i c)))
+    → Onward s w n v (λ b. (b.words.free ≡ k) × (b.views.ruling.hand ≡ hand)))))

@@ -20,14 +20,10 @@ LoadCursor s w n v after = (v.ruling.phase ≡ first_half → ⊥) × (after ≡
 abbrev pub LoadFree : Kind
 LoadFree s w n v after = after ≡ state w n (record v { ruling = record v.ruling { free = w.free + 1 } })
 
--- a number from which on no block was drawn is noted, which may rise
-abbrev pub NoteEver : Kind
-NoteEver s w n v after = (e : ℕ) × (v.ruling.ever ≤ e) × (after ≡ state w n (record v { ruling = record v.ruling { ever = e } }))
-
--- a row from CURSOR on and below FREE names a free block
+-- the block of the last row of the stock is taken into the hand
 abbrev pub NoteFree : Kind
-NoteFree s w n v after = (i b c k : ℕ) × (v.ruling.phase ≡ first_half → ⊥) × (v.ruling.workers ≡ 0) × (v.ruling.cursor ≡ c + 1) × (v.ruling.free ≡ k + 1) × (c ≤ i) × (i < k) × Noted (v.sure 0).row i b
-    × (after ≡ state w n (record v { ruling = record v.ruling { hand = b ∷ v.ruling.hand } }))
+NoteFree s w n v after = (i b : ℕ) × (v.ruling.workers ≡ 0) × (v.ruling.low ≤ i) × (v.ruling.high ≡ i + 1) × Noted (v.sure 0).row i b
+    × (after ≡ state w n (record v { ruling = record v.ruling { hand = b ∷ v.ruling.hand; high = i } }))
 
 -- RELEASED of the last finished round, and ROUND after it: with as many pins the round is quiet
 abbrev pub LoadReleased : Kind
@@ -56,22 +52,22 @@ SplitStep s w n v after = (kind workers readers : ℕ) × (((kind ≡ worker) ×
 
 -- what the owner knows with what a worker's pass knew
 abbrev pub joined_work : Work → Work → Work
-joined_work a b = record { half = 0; round = 0; number = 0; plan = no_plan; drawn = a.drawn ++ b.drawn; found = a.found ++ b.found; known = a.known ++ b.known; open_ = a.open_ ++ b.open_; given = a.given ++ b.given; absent = a.absent ++ b.absent; stood = a.stood ++ b.stood; had = a.had ++ b.had; retired = a.retired ++ b.retired; went = []; walk = Still }
+joined_work a b = record { half = 0; round = 0; number = 0; plan = no_plan; drawn = a.drawn ++ b.drawn; found = a.found ++ b.found; known = a.known ++ b.known; open_ = a.open_ ++ b.open_; given = a.given ++ b.given; absent = a.absent ++ b.absent; stood = a.stood ++ b.stood; had = a.had ++ b.had; grown = a.grown ++ b.grown; retired = a.retired ++ b.retired; went = []; walk = Still }
 
 -- join of a worker's pass: the owner has its claims and what it knew, and is sure of no word; the seat has nothing left
 abbrev pub JoinWorker : Kind
 JoinWorker s w n v after = (j : ℕ) × (j ≡ 0 → ⊥) × (v.kind j ≡ worker) × (workers : ℕ) × (v.ruling.workers ≡ workers + 1)
     × (after ≡ state w n (record v { kind = update v.kind j 0; claims = update (update v.claims 0 (v.claims 0 ++ v.claims j)) j []; work = update (update v.work 0 (joined_work (v.work 0) (v.work j))) j idle; sure = update (update v.sure 0 unsure) j unsure; read = update v.read j unread; ruling = record v.ruling { workers = workers; lone = 0 } }))
 
--- join of a reader's pass without a pin: the owner has its notes, and the seat has nothing left
+-- join of a reader's pass without a pin: the owner has its notes, and the seat has nothing left; the owner sees whether the pass was made before the last finished round was
 abbrev pub JoinReader : Kind
-JoinReader s w n v after = (j : ℕ) × (j ≡ 0 → ⊥) × (v.kind j ≡ reader) × ((v.read j).pin ≡ 0) × (readers : ℕ) × (v.ruling.readers ≡ readers + 1)
-    × (after ≡ state w n (record v { kind = update v.kind j 0; sure = update v.sure j unsure; read = update (update v.read 0 (record (v.read 0) { notes = (v.read 0).notes ++ (v.read j).notes })) j unread; ruling = record v.ruling { readers = readers } }))
+JoinReader s w n v after = (j : ℕ) × (j ≡ 0 → ⊥) × (v.kind j ≡ reader) × ((v.read j).pin ≡ 0) × (readers early : ℕ) × (v.ruling.readers ≡ readers + 1) × ((((v.read j).made < v.ruling.finished) × (v.ruling.early ≡ early + 1)) ⊎ ((v.ruling.finished ≤ (v.read j).made) × (v.ruling.early ≡ early)))
+    × (after ≡ state w n (record v { kind = update v.kind j 0; claims = update v.claims j []; work = update v.work j idle; sure = update v.sure j unsure; read = update (update v.read 0 (record (v.read 0) { notes = (v.read 0).notes ++ (v.read j).notes })) j unread; ruling = record v.ruling { readers = readers; early = early } }))
 
 -- The first half begins, with lists over the last forest of the history
 abbrev pub BeginStep : Kind
 BeginStep s w n v after = (plan : Plan) × (names : List ℕ) × EntryAt v.ruling.history v.ruling.finished names × IsTarget s (HasEntry names) plan × (v.ruling.finished < s.rounds) × (v.ruling.phase ≡ resting) × (v.ruling.cursor ≡ 1)
-    × (after ≡ state w n (record v { work = update v.work 0 idle; ruling = record v.ruling { phase = first_half; hand = []; cursor = 0; plan = plan } }))
+    × (after ≡ state w n (record v { work = update v.work 0 idle; ruling = record v.ruling { phase = first_half; cursor = 0; plan = plan } }))
 
 -- the second half is planned: no pass is at work, each name that the round needs is known as bisected, and each claim has its living block
 abbrev pub PlanStep : Kind
@@ -99,4 +95,4 @@ IsStamped v x b = (l : Node) × Noted (v.sure 0).head x l × ((l.block ≡ b + 1
 abbrev pub AdvanceStep : Kind
 AdvanceStep s w n v after = (forest : List ℕ) × ((i : ℕ) → HasEntry forest i → HasEntry v.ruling.plan.target i × (IsListed s v.ruling.plan.retire i → ⊥)) × ((i : ℕ) → HasEntry v.ruling.plan.target i → (IsListed s v.ruling.plan.retire i → ⊥) → HasEntry forest i) × (v.ruling.phase ≡ closing) × (v.claims 0 ≡ [])
     × ((b : ℕ) → HasEntry ((v.work 0).retired ++ v.ruling.retired) b → (x : ℕ) × (m : ℕ) × HasEntry v.ruling.placed (b, x, m) × IsStamped v x b × ((y : ℕ) → m ≡ y + 1 → IsStamped v y b))
-    × (after ≡ state (record w { round = w.round + 1; taken = 0 }) n (record v { work = update v.work 0 idle; ruling = record v.ruling { phase = resting; finished = v.ruling.finished + 1; history = v.ruling.history ++ forest ∷ []; left = (w.round, w.taken) ∷ v.ruling.left; retired = []; seen = 0; quiet = 0 } }))
+    × (after ≡ state (record w { round = w.round + 1; taken = 0 }) n (record v { work = update v.work 0 idle; ruling = record v.ruling { phase = resting; finished = v.ruling.finished + 1; early = v.ruling.readers; history = v.ruling.history ++ forest ∷ []; left = (w.round, w.taken) ∷ v.ruling.left; retired = []; kept = ((v.work 0).retired ++ v.ruling.retired) ++ v.ruling.kept; seen = 0; quiet = 0 } }))

@@ -29,7 +29,7 @@ ReadEnds s w n v after = (j q : ℕ) × (v.kind j ≡ reader) × ((v.read j).pin
 -- or a block, to which the walk goes: the member with the element's name
 abbrev pub ReadGoes : Kind
 ReadGoes s w n v after = (j q : ℕ) × (v.kind j ≡ reader) × ((v.read j).pin ≡ q + 1) × (x k b : ℕ) × (l : Node) × ReadNext s w (v.read j) x k l × (l.block ≡ b + 1) × ((l.died ≡ 0) ⊎ (q < l.died)) × (t : Bool) × (w.name (member_of b t) ≡ k)
-    × (after ≡ state w n (record v { read = update v.read j (record (v.read j) { went = b ∷ (v.read j).went; walk = At x k b t }) }))
+    × (after ≡ state w n (record v { read = update v.read j (record (v.read j) { went = b ∷ (v.read j).went; walk = At x k b t; back = l.died }) }))
 
 -- BORN is above 0 and not above q: the name is bisected at q
 abbrev pub ReadFinds : Kind

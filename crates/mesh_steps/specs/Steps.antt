@@ -2,9 +2,9 @@
 use Rattle.std.specs.Prelude.{List, [], ◌∷◌}
 use Rattle.mesh_words.specs.Setup.{Setup}
 use Rattle.mesh_steps.specs.WorkSteps.{ClaimStep, DrawStep, FullStep, FillHistory, FillName, FillDied, FillChild, LinkFirst, LinkSecond, PublishStep, RetireStep, RetiredStep}
-use Rattle.mesh_steps.specs.WalkSteps.{WorkTop, WorkEnds, WorkGoes, WorkFinds, WorkHad, WorkPasses, WorkGives, WorkDead, WorkOpen, LoadHead, LoadHistory, LoadBorn, LoadDied, LoadName, LoadRow}
+use Rattle.mesh_steps.specs.WalkSteps.{WorkTop, WorkEnds, WorkGoes, WorkFinds, WorkHad, WorkBoth, WorkPasses, WorkGives, WorkDead, WorkOpen, LoadHead, LoadHistory, LoadBorn, LoadDied, LoadName, LoadRow}
 use Rattle.mesh_steps.specs.PinSteps.{LoadRound, PinStep, UnpinStep, ReadEnds, ReadGoes, ReadFinds, ReadPasses}
-use Rattle.mesh_steps.specs.OwnerSteps.{NoteClear, LoadCursor, LoadFree, NoteEver, NoteFree, LoadReleased, NoteQuiet, NotePlaces, SplitStep, JoinWorker, JoinReader, BeginStep, PlanStep, CloseStep, RefuseStep, RestoreStep, AdvanceStep}
+use Rattle.mesh_steps.specs.OwnerSteps.{NoteClear, LoadCursor, LoadFree, NoteFree, LoadReleased, NoteQuiet, NotePlaces, SplitStep, JoinWorker, JoinReader, BeginStep, PlanStep, CloseStep, RefuseStep, RestoreStep, AdvanceStep}
 use Rattle.mesh_steps.specs.SweepSteps.{StampStep, UnclaimStep, CutLink, CutHistory, FreeStep, ZeroStep, StopStep, RewindStep, RowStep, OpenStep, UnbearStep, UnlinkSecond, UnlinkFirst, BuryStep, UndrawStep}
 use Rattle.mesh_steps.specs.States.{State, IsLawful}
 
@@ -27,6 +27,7 @@ pub data Step (s : Setup) (a b : State) : Type 0 where
   ByWorkGoes : WorkGoes s a.words a.seats a.views b → Step s a b
   ByWorkFinds : WorkFinds s a.words a.seats a.views b → Step s a b
   ByWorkHad : WorkHad s a.words a.seats a.views b → Step s a b
+  ByWorkBoth : WorkBoth s a.words a.seats a.views b → Step s a b
   ByWorkPasses : WorkPasses s a.words a.seats a.views b → Step s a b
   ByWorkGives : WorkGives s a.words a.seats a.views b → Step s a b
   ByWorkDead : WorkDead s a.words a.seats a.views b → Step s a b
@@ -47,7 +48,6 @@ pub data Step (s : Setup) (a b : State) : Type 0 where
   ByNoteClear : NoteClear s a.words a.seats a.views b → Step s a b
   ByLoadCursor : LoadCursor s a.words a.seats a.views b → Step s a b
   ByLoadFree : LoadFree s a.words a.seats a.views b → Step s a b
-  ByNoteEver : NoteEver s a.words a.seats a.views b → Step s a b
   ByNoteFree : NoteFree s a.words a.seats a.views b → Step s a b
   ByLoadReleased : LoadReleased s a.words a.seats a.views b → Step s a b
   ByNoteQuiet : NoteQuiet s a.words a.seats a.views b → Step s a b

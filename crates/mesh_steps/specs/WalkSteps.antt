@@ -1,11 +1,11 @@
 -- The loads by which passes walk and learn: no word changes, and the view of one seat.
-use Rattle.std.specs.Prelude.{◌≡◌, ℕ, ◌+◌, ◌<◌, ◌≤◌, Bool, true, false, ◌∷◌, ◌⊎◌}
+use Rattle.std.specs.Prelude.{◌≡◌, ℕ, ◌+◌, ◌<◌, ◌≤◌, Bool, true, false, List, ◌∷◌, ◌⊎◌}
 use Rattle.mesh_words.specs.Entries.{HasEntry}
 use Rattle.mesh_words.specs.Functions.{update}
 use Rattle.mesh_words.specs.Places.{member_of, child_place}
 use Rattle.mesh_words.specs.Setup.{Setup}
 use Rattle.mesh_words.specs.Views.{first_half, second_half, worker, Work, Read, Still, At, Past}
-use Rattle.mesh_words.specs.Words.{Node, Words}
+use Rattle.mesh_words.specs.Words.{Node, node, Words}
 use Rattle.mesh_steps.specs.States.{Kind, state}
 
 -- the word l is the one that a worker's walk for the element k at the place x loads next: the LINK of a place that it found, or of a macro element, or the HISTORY word of the block that it passed by
@@ -40,10 +40,16 @@ abbrev pub WorkHad : Kind
 WorkHad s w n v after = (j : ℕ) × (v.kind j ≡ worker) × (x k b : ℕ) × (t : Bool) × ((v.work j).walk ≡ At x k b t) × ((v.work j).half ≡ second_half) × (0 < w.born b) × (w.born b < (v.work j).round)
     × (after ≡ state w n (record v { work = update v.work j (record (v.work j) { walk = Still; stood = (child_place s.elements b t false, s.child k false) ∷ (child_place s.elements b t true, s.child k true) ∷ (v.work j).stood; had = (b, k) ∷ (v.work j).had }) }))
 
--- BORN is 0, or the round in work: the block is passed by
+-- and the NAME words of the block name its other member, which it bisects too
+abbrev pub WorkBoth : Kind
+WorkBoth s w n v after = (j : ℕ) × (v.kind j ≡ worker) × ((v.work j).half ≡ second_half) × (b k i : ℕ) × (t : Bool) × HasEntry (v.work j).had (b, k) × (w.name (member_of b t) ≡ i + 1)
+    × (after ≡ state w n (record v { work = update v.work j (record (v.work j) { stood = (child_place s.elements b t false, s.child (i + 1) false) ∷ (child_place s.elements b t true, s.child (i + 1) true) ∷ (v.work j).stood; had = (b, i + 1) ∷ (v.work j).had }) }))
+
+-- BORN is 0, or the round in work: the block is passed by; and in the second half the children of one that was born in the round in work stand at the block
 abbrev pub WorkPasses : Kind
 WorkPasses s w n v after = (j : ℕ) × (v.kind j ≡ worker) × (x k b : ℕ) × (t : Bool) × ((v.work j).walk ≡ At x k b t) × ((w.born b ≡ 0) ⊎ ((v.work j).round ≤ w.born b))
-    × (after ≡ state w n (record v { work = update v.work j (record (v.work j) { walk = Past x k b t }) }))
+    × (grown : List (ℕ × ℕ)) × ((grown ≡ (v.work j).grown) ⊎ (((v.work j).half ≡ second_half) × ((v.work j).round ≤ w.born b) × (grown ≡ (child_place s.elements b t false, s.child k false) ∷ (child_place s.elements b t true, s.child k true) ∷ (v.work j).grown)))
+    × (after ≡ state w n (record v { work = update v.work j (record (v.work j) { walk = Past x k b t; grown = grown }) }))
 
 -- in the second half: the block that the last finished round has for a first member is its patch's
 abbrev pub WorkGives : Kind
@@ -55,9 +61,12 @@ abbrev pub WorkDead : Kind
 WorkDead s w n v after = (j : ℕ) × (v.kind j ≡ worker) × ((v.work j).half ≡ second_half) × (b k : ℕ) × HasEntry (v.work j).had (b, k) × (0 < w.died b)
     × (after ≡ state w n (record v { work = update v.work j (record (v.work j) { open_ = k ∷ (v.work j).open_ }) }))
 
+-- so it is at the place of a child of a block that was born in the round in work, where the LINK may also name a block with no retired round: that was born in the round too
 abbrev pub WorkOpen : Kind
-WorkOpen s w n v after = (j : ℕ) × (v.kind j ≡ worker) × ((v.work j).half ≡ second_half) × (x k : ℕ) × HasEntry (v.work j).stood (x, k) × (((w.head x).block ≡ 0) ⊎ (0 < (w.head x).died))
-    × (after ≡ state w n (record v { work = update v.work j (record (v.work j) { open_ = k ∷ (v.work j).open_ }) }))
+WorkOpen s w n v after = (j : ℕ) × (v.kind j ≡ worker) × ((v.work j).half ≡ second_half) × (x k : ℕ) × (HasEntry (v.work j).stood (x, k) ⊎ HasEntry (v.work j).grown (x, k)) × (open_ : List ℕ) × (grown : List (ℕ × ℕ))
+    × (((((w.head x).block ≡ 0) ⊎ (0 < (w.head x).died)) × (open_ ≡ k ∷ (v.work j).open_) × (grown ≡ (v.work j).grown))
+    ⊎ ((b : ℕ) × (t : Bool) × HasEntry (v.work j).grown (x, k) × (w.head x ≡ node (b + 1) 0) × (w.name (member_of b t) ≡ k) × (open_ ≡ (v.work j).open_) × (grown ≡ (child_place s.elements b t false, s.child k false) ∷ (child_place s.elements b t true, s.child k true) ∷ (v.work j).grown)))
+    × (after ≡ state w n (record v { work = update v.work j (record (v.work j) { open_ = open_; grown = grown }) }))
 
 -- any seat notes a word that it loads: the node of a LINK word, a HISTORY word, BORN, DIED, NAME or a row
 abbrev pub LoadHead : Kind

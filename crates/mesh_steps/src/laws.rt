@@ -4,7 +4,8 @@ ghost use Rattle.mesh_steps.specs.Steps.{StepsKeep};
 ghost use Rattle.mesh_steps.specs.Local.{StepsLocal};
 ghost use Rattle.mesh_steps.specs.Reuse.{StepsSpare};
 ghost use Rattle.mesh_steps.specs.Onward.{ClaimsGoBack, ClaimsGoOn, PassesJoined, PassesMade, PinsFit, PinsGoOn, ReadersGoOn, ReadyBelow, SinglesGoOn, WorkersGoOn};
-ghost use Rattle.mesh_steps.specs.OnwardRounds.{FillsGoOn, LoadsGoOn, NotesGoOn, RetiringGoesOn, RoundsGoOn, RowsGoOn};
+ghost use Rattle.mesh_steps.specs.OnwardSweeps.{SweepsGoOn};
+ghost use Rattle.mesh_steps.specs.OnwardRounds.{FillsGoOn, GrownGoesOn, LoadsGoOn, NotesGoOn, RetiringGoesOn, RoundsGoOn, RowsGoOn};
 
 /// Each step of any seat leads from a lawful state to a lawful one; what it changes; that it leaves
 /// alone the blocks to which walks go; and which steps there are, by which seats go on.
@@ -26,7 +27,9 @@ pub fn laws()
     ensures loads { LoadsGoOn }
     ensures fills { FillsGoOn }
     ensures retiring { RetiringGoesOn }
+    ensures grown { GrownGoesOn }
     ensures rounds { RoundsGoOn }
+    ensures sweeps { SweepsGoOn }
     ensures notes { NotesGoOn }
     ensures rows { RowsGoOn }
 {}

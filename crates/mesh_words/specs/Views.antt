@@ -68,6 +68,8 @@ pub record Work : Type 0 where
   pub stood : List (ℕ × ℕ)
   -- blocks that bisect a name at the last finished round, each with the name
   pub had : List (ℕ × ℕ)
+  -- in the second half, places of children of blocks that were born in the round in work, each with the element's name
+  pub grown : List (ℕ × ℕ)
   -- the blocks that it retired
   pub retired : List ℕ
   -- the blocks to which it has gone, and where its walk is
@@ -110,10 +112,12 @@ pub record Read : Type 0 where
   -- the last round that it saw finished, and the last finished round when it was made
   pub seen : ℕ
   pub made : ℕ
+  -- the retired round with which the word of the walk named its block, or 0
+  pub back : ℕ
 
 -- a pass that has read nothing
 abbrev pub unread : Read
-unread = record { pin = 0; ready = 0; went = []; walk = Still; notes = []; places = []; told = []; seen = 0; made = 0 }
+unread = record { pin = 0; ready = 0; went = []; walk = Still; notes = []; places = []; told = []; seen = 0; made = 0; back = 0 }
 
 -- what the owner knows
 pub record Ruling : Type 0 where
@@ -128,20 +132,25 @@ pub record Ruling : Type 0 where
   -- how many workers' and readers' passes are out
   pub workers : ℕ
   pub readers : ℕ
+  -- how many of the readers' passes were made before the last finished round was
+  pub early : ℕ
   -- 0 where no pass of worker 0 is out in the first half
   pub lone : ℕ
   -- left rounds with the pins that were taken in them, and left rounds of which no pin is out
   pub left : List (ℕ × ℕ)
   pub clear : List ℕ
-  -- free blocks
+  -- free blocks that are in no row from CURSOR on and below FREE, and not in the stock
   pub hand : List ℕ
   -- one more than CURSOR and than FREE, or 0 where they are not known
   pub cursor : ℕ
   pub free : ℕ
-  -- blocks from this number on were not drawn in earlier rounds
-  pub ever : ℕ
+  -- its stock: the rows from `low` on and below `high`, which name free blocks while FREE is 0
+  pub low : ℕ
+  pub high : ℕ
   -- the blocks that were retired in the round, once the second half has ended
   pub retired : List ℕ
+  -- blocks of finished rounds that are retired and not free yet
+  pub kept : List ℕ
   -- blocks with their places: that of the first member, and one more than that of the second (or 0)
   pub placed : List (ℕ × ℕ × ℕ)
   -- blocks that were taken back and are not free yet

@@ -159,7 +159,7 @@ pub s61 : Step pair_setup (state published 3 u60) (state published 3 u61)
 s61 = ByNotePlaces (1, at_child, 0, inl refl, refl)
 
 abbrev pub u62 : Views
-u62 = unclaims at_child u61
+u62 = unclaims at_child 0 (Living 1) u61
 
 pub s62 : Step pair_setup (state published 3 u61) (state unclaimed 3 u62)
 s62 = ByUnclaimStep (three, not_less, at_child, 0, Living 1, inl refl, only_one, again_not, refl)

@@ -88,7 +88,7 @@ abbrev pub u66 : Views
 u66 = claims_at 4 0 2 u65
 
 s66 : Step square_setup (state finished2 5 u65) (state claimed_full 5 u66)
-s66 = ByClaimStep (4, 0, 2, name0, refl, refl, refl, inr (inl refl), inl refl, inr (inl refl), inr (1, 536870912, refl, refl, inl refl, inl refl), refl)
+s66 = ByClaimStep (4, 0, 2, name0, refl, refl, refl, inr (inl refl), inl refl, inr (inl refl), inr (1, 536870912, refl, refl, inl refl), refl)
 
 abbrev pub u67 : Views
 u67 = draws_none 4 0 0 u66
@@ -112,7 +112,7 @@ s69 : Step square_setup (state drawn_none 5 u68) (state drawn_none 5 u69)
 s69 = ByRefuseStep (refl, refl, refl)
 
 abbrev pub u70 : Views
-u70 = unclaims 0 u69
+u70 = unclaims 0 2 Failed u69
 
 s70 : Step square_setup (state drawn_none 5 u69) (state unclaimed_full 5 u70)
 s70 = ByUnclaimStep (far, late, 0, 2, Failed, inl refl, (λ b e. absurd (no_block b e)), (λ b e f. absurd (not_failed b e)), refl)

@@ -12,7 +12,7 @@ use Rattle.mesh_words.specs.Setup.{Setup}
 use Rattle.mesh_state.specs.Fresh.{fresh_words, fresh_ghost}
 use Rattle.mesh_state.proofs.Fresh.{fresh_is_lawful}
 use Rattle.mesh_steps.specs.States.{State, state, IsLawful}
-use Rattle.mesh_steps.specs.Steps.{Run, ByClaimStep, ByDrawStep, ByFullStep, ByFillHistory, ByFillName, ByFillDied, ByFillChild, ByLinkFirst, ByLinkSecond, ByPublishStep, ByRetireStep, ByRetiredStep, ByWorkTop, ByWorkEnds, ByWorkGoes, ByWorkFinds, ByWorkHad, ByWorkPasses, ByWorkGives, ByWorkDead, ByWorkOpen, ByLoadHead, ByLoadHistory, ByLoadBorn, ByLoadDied, ByLoadName, ByLoadRow, ByLoadRound, ByPinStep, ByUnpinStep, ByReadEnds, ByReadGoes, ByReadFinds, ByReadPasses, ByNoteClear, ByLoadCursor, ByLoadFree, ByNoteEver, ByNoteFree, ByLoadReleased, ByNoteQuiet, ByNotePlaces, BySplitStep, ByJoinWorker, ByJoinReader, ByBeginStep, ByPlanStep, ByCloseStep, ByRefuseStep, ByRestoreStep, ByAdvanceStep, ByStampStep, ByUnclaimStep, ByCutLink, ByCutHistory, ByFreeStep, ByZeroStep, ByStopStep, ByRewindStep, ByRowStep, ByOpenStep, ByUnbearStep, ByUnlinkSecond, ByUnlinkFirst, ByBuryStep, ByUndrawStep}
+use Rattle.mesh_steps.specs.Steps.{Run, ByClaimStep, ByDrawStep, ByFullStep, ByFillHistory, ByFillName, ByFillDied, ByFillChild, ByLinkFirst, ByLinkSecond, ByPublishStep, ByRetireStep, ByRetiredStep, ByWorkTop, ByWorkEnds, ByWorkGoes, ByWorkFinds, ByWorkHad, ByWorkBoth, ByWorkPasses, ByWorkGives, ByWorkDead, ByWorkOpen, ByLoadHead, ByLoadHistory, ByLoadBorn, ByLoadDied, ByLoadName, ByLoadRow, ByLoadRound, ByPinStep, ByUnpinStep, ByReadEnds, ByReadGoes, ByReadFinds, ByReadPasses, ByNoteClear, ByLoadCursor, ByLoadFree, ByNoteFree, ByLoadReleased, ByNoteQuiet, ByNotePlaces, BySplitStep, ByJoinWorker, ByJoinReader, ByBeginStep, ByPlanStep, ByCloseStep, ByRefuseStep, ByRestoreStep, ByAdvanceStep, ByStampStep, ByUnclaimStep, ByCutLink, ByCutHistory, ByFreeStep, ByZeroStep, ByStopStep, ByRewindStep, ByRowStep, ByOpenStep, ByUnbearStep, ByUnlinkSecond, ByUnlinkFirst, ByBuryStep, ByUndrawStep}
 use Rattle.mesh_steps.proofs.StepsKeep.{steps_keep}
 use Rattle.square_runs.specs.SquareKinds.{square_with, fresh_state, last_of, RunsTo, RunsLawful, TwoWords, WorkersClaim, KindsOccur}
 use Rattle.square_runs.specs.SquareRun as one
@@ -118,13 +118,14 @@ kinds_occur = record {
   work_goes = (state one.pinned 4 round2.v40, state one.pinned 4 round2.v41, reach 1 main.run_states main.run 40, steps2.k41, ByWorkGoes steps2.k41);
   work_finds = (state pair.published_again 7 twice3.u98, state pair.published_again 7 twice3.u99, reach 2 whole.twice_states whole.twice_run 98, twice3.k99, ByWorkFinds twice3.k99);
   work_had = (state one.pinned 4 round2.v41, state one.pinned 4 round2.v42, reach 1 main.run_states main.run 41, steps2.k42, ByWorkHad steps2.k42);
+  work_both = (state one.pinned 4 round2.v43, state one.pinned 4 round2.v44, reach 1 main.run_states main.run 43, steps2.k44, ByWorkBoth steps2.k44);
   work_passes = (state pair.linked3 7 twice3.u94, state pair.linked3 7 twice3.u95, reach 2 whole.twice_states whole.twice_run 94, twice3.k95, ByWorkPasses twice3.k95);
   work_gives = (state one.pinned 4 round2.v44, state one.pinned 4 round2.v45, reach 1 main.run_states main.run 44, steps2.k45, ByWorkGives steps2.k45);
   work_dead = (state pair.retired 4 twice2.u54, state pair.retired 4 twice2.u55, reach 2 whole.twice_states whole.twice_run 54, twice2.k55, ByWorkDead twice2.k55);
   work_open = (state one.pinned 4 round2.v45, state one.pinned 4 round2.v46, reach 1 main.run_states main.run 45, steps2.k46, ByWorkOpen steps2.k46);
   load_head = (state one.drawn 2 round1.v8, state one.drawn 2 round1.v9, reach 1 main.run_states main.run 8, steps1.k9, ByLoadHead steps1.k9);
   load_history = (state one.unpinned 4 round3.v61, state one.unpinned 4 round3.v62, reach 1 main.run_states main.run 61, steps3.k62, ByLoadHistory steps3.k62);
-  load_born = (state pair.rewound 2 twice1.u35, state pair.rewound 2 twice1.u36, reach 2 whole.twice_states whole.twice_run 35, twice1.k36, ByLoadBorn twice1.k36);
+  load_born = (state pair.finished1 2 twice1.u30, state pair.finished1 2 twice1.u31, reach 2 whole.twice_states whole.twice_run 30, twice1.k31, ByLoadBorn twice1.k31);
   load_died = (state one.retired 4 round2.v54, state one.retired 4 round2.v55, reach 1 main.run_states main.run 54, steps2.k55, ByLoadDied steps2.k55);
   load_name = (state pair.linked3 7 twice3.u92, state pair.linked3 7 twice3.u93, reach 2 whole.twice_states whole.twice_run 92, twice3.k93, ByLoadName twice3.k93);
   load_row = (state one.finished1 2 round2.v30, state one.finished1 2 round2.v31, reach 1 main.run_states main.run 30, steps2.k31, ByLoadRow steps2.k31);
@@ -138,8 +139,7 @@ kinds_occur = record {
   note_clear = (state one.unpinned 4 round3.v59, state one.unpinned 4 round3.v60, reach 1 main.run_states main.run 59, steps3.k60, ByNoteClear steps3.k60);
   load_cursor = (state one.finished1 2 round1.v28, state one.finished1 2 round2.v29, reach 1 main.run_states main.run 28, steps2.k29, ByLoadCursor steps2.k29);
   load_free = (state one.finished1 2 round2.v29, state one.finished1 2 round2.v30, reach 1 main.run_states main.run 29, steps2.k30, ByLoadFree steps2.k30);
-  note_ever = (state one.finished1 2 round2.v31, state one.finished1 2 round2.v32, reach 1 main.run_states main.run 31, steps2.k32, ByNoteEver steps2.k32);
-  note_free = (state pair.finished1 2 twice1.u30, state pair.finished1 2 twice1.u31, reach 2 whole.twice_states whole.twice_run 30, twice1.k31, ByNoteFree twice1.k31);
+  note_free = (state pair.rewound 2 twice1.u35, state pair.rewound 2 twice1.u36, reach 2 whole.twice_states whole.twice_run 35, twice1.k36, ByNoteFree twice1.k36);
   load_released = (state one.buried 2 refused.u31, state one.buried 2 refused.u32, reach 1 refused.run_states refused.run 31, refused.k32, ByLoadReleased refused.k32);
   note_quiet = (state one.buried 2 refused.u32, state one.buried 2 refused.u33, reach 1 refused.run_states refused.run 32, refused.k33, ByNoteQuiet refused.k33);
   note_places = (state one.published 2 round1.v25, state one.published 2 round1.v26, reach 1 main.run_states main.run 25, steps1.k26, ByNotePlaces steps1.k26);

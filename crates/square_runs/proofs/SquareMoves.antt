@@ -8,10 +8,11 @@ use Rattle.mesh_words.specs.Views.{Views, Plan, Still, At, Past, unread, unsure}
 use Rattle.mesh_words.specs.Words.{Node}
 use Rattle.mesh_state.specs.Fresh.{idle, blank}
 use Rattle.mesh_steps.specs.OwnerSteps.{joined_work}
+use Rattle.mesh_steps.specs.SweepSteps.{noted_at}
 
 -- the owner's: a round begins, is planned, closed, advanced, refused and restored
 abbrev pub begun : Plan → Views → Views
-begun plan v = record v { work = update v.work 0 idle; ruling = record v.ruling { phase = 1; hand = []; cursor = 0; plan = plan } }
+begun plan v = record v { work = update v.work 0 idle; ruling = record v.ruling { phase = 1; cursor = 0; plan = plan } }
 
 abbrev pub planned : List ℕ → Views → Views
 planned retire v = record v { work = update v.work 0 idle; ruling = record v.ruling { phase = 2; plan = record v.ruling.plan { retire = retire } } }
@@ -20,7 +21,7 @@ abbrev pub closed : Views → Views
 closed v = record v { work = update v.work 0 idle; ruling = record v.ruling { phase = 3; retired = (v.work 0).retired ++ v.ruling.retired } }
 
 abbrev pub advanced : List ℕ → ℕ → ℕ → Views → Views
-advanced forest q taken v = record v { work = update v.work 0 idle; ruling = record v.ruling { phase = 0; finished = v.ruling.finished + 1; history = v.ruling.history ++ forest ∷ []; left = (q, taken) ∷ v.ruling.left; retired = []; seen = 0; quiet = 0 } }
+advanced forest q taken v = record v { work = update v.work 0 idle; ruling = record v.ruling { phase = 0; finished = v.ruling.finished + 1; early = v.ruling.readers; history = v.ruling.history ++ forest ∷ []; left = (q, taken) ∷ v.ruling.left; retired = []; kept = ((v.work 0).retired ++ v.ruling.retired) ++ v.ruling.kept; seen = 0; quiet = 0 } }
 
 abbrev pub refused : Views → Views
 refused v = record v { work = update v.work 0 idle; ruling = record v.ruling { phase = 4 } }
@@ -45,11 +46,15 @@ cursor_seen c v = record v { ruling = record v.ruling { cursor = c + 1 } }
 abbrev pub free_seen : ℕ → Views → Views
 free_seen k v = record v { ruling = record v.ruling { free = k + 1 } }
 
-abbrev pub ever_drawn : ℕ → Views → Views
-ever_drawn e v = record v { ruling = record v.ruling { ever = e } }
+-- FREE becomes 0, where CURSOR and FREE were c and k, the block of the last row of the stock is taken into the hand, and FREE becomes k, with nothing left in the hand
+abbrev pub stopped_at : ℕ → ℕ → Views → Views
+stopped_at c k v = record v { ruling = record v.ruling { free = 1; low = c; high = k } }
 
-abbrev pub in_hand : ℕ → Views → Views
-in_hand b v = record v { ruling = record v.ruling { hand = b ∷ v.ruling.hand } }
+abbrev pub takes_row : ℕ → ℕ → Views → Views
+takes_row i b v = record v { ruling = record v.ruling { hand = b ∷ v.ruling.hand; high = i } }
+
+abbrev pub opened_at : ℕ → Views → Views
+opened_at k v = record v { ruling = record v.ruling { hand = []; free = k + 1; low = 0; high = 0 } }
 
 abbrev pub placed_at : ℕ → ℕ → ℕ → Views → Views
 placed_at b x m v = record v { ruling = record v.ruling { placed = (b, x, m) ∷ v.ruling.placed } }
@@ -70,8 +75,8 @@ draws_none j x c v = record v { claims = update v.claims j (moved_on (v.claims j
 abbrev pub comes_to : ℕ → ℕ → Progress → Views → Views
 comes_to j x p v = record v { claims = update v.claims j (moved_on (v.claims j) x p) }
 
-abbrev pub unclaims : ℕ → Views → Views
-unclaims x v = record v { claims = update v.claims 0 (ended (v.claims 0) x) }
+abbrev pub unclaims : ℕ → ℕ → Progress → Views → Views
+unclaims x m p v = record v { claims = update v.claims 0 (ended (v.claims 0) x); ruling = record v.ruling { placed = noted_at v.ruling.placed x m p } }
 
 abbrev pub undraws : ℕ → ℕ → Views → Views
 undraws x b v = record v { claims = update v.claims 0 (ended (v.claims 0) x); ruling = record v.ruling { hand = b ∷ v.ruling.hand } }

@@ -1,5 +1,5 @@
 -- What the seats of the square's run know, and numbers.
-use Rattle.std.proofs.Common.{◌≡◌, ℕ, ◌+◌, ◌<◌, ◌≤◌, ◌==◌, Bool, true, false, List, [], ◌∷◌, ◌⊎◌, refl, sym, ap, subst, inl, inr, ⊎_elim, arith}
+use Rattle.std.proofs.Common.{◌≡◌, ℕ, ◌+◌, ◌<◌, ◌≤◌, ◌==◌, Bool, true, false, List, [], ◌∷◌, ◌⊎◌, refl, sym, ap, subst, inl, inr, ⊎_elim, arith, eqb-true}
 use native.Mathlib.Decide.{ℕ_discrete}
 use mathlib.Core.Logic.{dite}
 use Rattle.mesh_words.specs.Claims.{Progress, Living, Claim, claim}
@@ -30,6 +30,9 @@ lt34 = omega arith
 
 pub lt06 : 0 < 6
 lt06 = omega arith
+
+pub le00 : 0 ≤ 0
+le00 = omega arith
 
 pub le01 : 0 ≤ 1
 le01 = omega arith
@@ -91,9 +94,6 @@ three = ((λ e. omega arith), λ e. omega arith)
 pub only_zero : (b : ℕ) → 1 ≡ b + 1 → Living 0 ≡ Living b
 only_zero b e = ap Living (zero_of b e)
 
-pub row_is : (i : ℕ) → i < 1 → i < 1 → (b : ℕ) × Noted ((0, 0) ∷ []) i b × (b < 1)
-row_is i l m = (0, inl (below_one i l, refl), lt01)
-
 pub no_claim : (x m : ℕ) (p : Progress) → HasEntry [] (claim x m p) → (b : ℕ) × (p ≡ Living b)
 no_claim x m p h = absurd h
 
@@ -140,7 +140,7 @@ abbrev pub Stamped : ℕ → ℕ → Type 0
 Stamped x b = (l : Node) × Noted stamped_heads x l × ((l.block ≡ b + 1 → ⊥) ⊎ (0 < l.died))
 
 abbrev pub BothStamped : ℕ → Type 0
-BothStamped b = (x : ℕ) × (m : ℕ) × HasEntry {A = ℕ × ℕ × ℕ} ((0, 0, 2) ∷ []) (b, x, m) × Stamped x b × ((y : ℕ) → m ≡ y + 1 → Stamped y b)
+BothStamped b = (x : ℕ) × (m : ℕ) × HasEntry {A = ℕ × ℕ × ℕ} ((0, 0, 2) ∷ (0, 0, 2) ∷ []) (b, x, m) × Stamped x b × ((y : ℕ) → m ≡ y + 1 → Stamped y b)
 
 pub both_stamped : (b : ℕ) → HasEntry (0 ∷ []) b → BothStamped b
 both_stamped b (inr h) = absurd h
@@ -149,33 +149,67 @@ both_stamped b (inl e) = subst BothStamped (sym e) (0, 2, inl refl, (node 1 2, i
 pub zero_or_one : (q : ℕ) → q < 2 → (q ≡ 0) ⊎ (q ≡ 1)
 zero_or_one q l = dite (ℕ_discrete q 0) inl (λ o. inr (omega arith))
 
-pub both_clear : (q : ℕ) → q < 2 → HasEntry (0 ∷ 1 ∷ []) q
-both_clear q l = ⊎_elim (λ e. inl e) (λ e. inr (inl e)) (zero_or_one q l)
+cleared : (q : ℕ) → q < 2 → HasEntry (0 ∷ 1 ∷ []) q
+cleared q l = ⊎_elim (λ e. inl e) (λ e. inr (inl e)) (zero_or_one q l)
+
+-- a pass is out that was made before, and both rounds are clear
+pub both_clear : {early : ℕ} → (early ≡ 0) ⊎ ((q : ℕ) → q < 2 → HasEntry (0 ∷ 1 ∷ []) q)
+both_clear = inr cleared
 
 abbrev pub swept_heads : List (ℕ × Node)
 swept_heads = (1, node 0 0) ∷ (0, node 0 0) ∷ stamped_heads
 
+-- and of three more, of children
+abbrev pub swept_more : List (ℕ × Node)
+swept_more = (4, node 0 0) ∷ (3, node 0 0) ∷ (2, node 0 0) ∷ swept_heads
+
 abbrev pub Clean : ℕ → Type 0
-Clean x = (l : Node) × Noted (four swept_heads) x l × ((c : ℕ) → l.block ≡ c + 1 → (c == 0) ≡ false)
+Clean x = (l : Node) × Noted swept_more x l × ((c : ℕ) → l.block ≡ c + 1 → (c == 0) ≡ false)
 
 pub no_block : (c : ℕ) → 0 ≡ c + 1 → (c == 0) ≡ false
 no_block c e = absurd (omega arith)
 
-pub clean_tops : (x : ℕ) → x < 2 → Clean x
+past_three : (i : ℕ) (l : Node) → i < 2 → Noted swept_heads i l → Noted swept_more i l
+past_three i l low h = inr (en 4 i (omega arith), inr (en 3 i (omega arith), inr (en 2 i (omega arith), h)))
+
+clean_tops : (x : ℕ) → x < 2 → Clean x
 clean_tops x l = ⊎_elim
-    (λ e. subst Clean (sym e) (node 0 0, past_four swept_heads 0 (node 0 0) lt02 (inr (en 1 0 lt01, inl (refl, refl))), no_block))
-    (λ e. subst Clean (sym e) (node 0 0, past_four swept_heads 1 (node 0 0) lt12 (inl (refl, refl)), no_block))
+    (λ e. subst Clean (sym e) (node 0 0, past_three 0 (node 0 0) lt02 (inr (en 1 0 lt01, inl (refl, refl))), no_block))
+    (λ e. subst Clean (sym e) (node 0 0, past_three 1 (node 0 0) lt12 (inl (refl, refl)), no_block))
     (zero_or_one x l)
 
-abbrev pub CleanBlock : ℕ → Type 0
-CleanBlock b = HasEntry {A = ℕ} [] b ⊎ (((t c : Bool) → Clean (child_place 2 b t c)) × (((b == 0) ≡ true) ⊎ ((t : Bool) → (l : Node) × Noted ((1, node 0 0) ∷ (0, node 0 0) ∷ []) (member_of b t) l × ((c : ℕ) → l.block ≡ c + 1 → (c == 0) ≡ false))))
+-- the block's places, of which no word names it; no other block stands there
+abbrev pub both_placed : List (ℕ × ℕ × ℕ)
+both_placed = (0, 0, 2) ∷ (0, 0, 2) ∷ []
 
-pub clean_blocks : (b : ℕ) → b < 1 → CleanBlock b
-clean_blocks b l = subst CleanBlock (below_one b l) (inr ((λ t c. (node 0 0, kids_noted swept_heads t c, no_block)), inl refl))
+pub is_zero : (c : ℕ) → c ≡ 0 → (c == 0) ≡ true
+is_zero c e = ap (λ (z : ℕ). z == 0) e
 
-pub more_hand : (c : ℕ) → HasEntry (0 ∷ []) c → HasEntry {A = ℕ} [] c ⊎ (((c == 0) ≡ true) × (c < 1))
-more_hand c (inr h) = absurd h
-more_hand c (inl e) = inr (ap (λ (z : ℕ). z == 0) e, omega arith)
+pub placed_zero : (a : ℕ × ℕ × ℕ) → HasEntry both_placed a → (a.0 == 0) ≡ true
+placed_zero a h = is_zero a.0 (⊎_elim (λ e. ap (λ (z : ℕ × ℕ × ℕ). z.0) e) (λ t. ⊎_elim (λ e. ap (λ (z : ℕ × ℕ × ℕ). z.0) e) (λ f. absurd f) t) h)
 
-pub one_row : (i : ℕ) → i < 1 → Noted {A = ℕ} ((0, 0) ∷ []) i 0 × HasEntry {A = ℕ} (0 ∷ []) 0 × Noted {A = ℕ} ((0, 0) ∷ []) 0 0
-one_row i l = (inl (below_one i l, refl), inl refl, inl (refl, refl))
+pub clean_places : (t : Bool) (x : ℕ) → stands (Placed 0 2) t ≡ x + 1 → Clean x × ((b y m : ℕ) (u : Bool) → HasEntry both_placed (b, y, m) → stands (Placed y m) u ≡ x + 1 → ((b == 0) ≡ true) ⊎ ((l : Node) × Noted ((1, node 0 0) ∷ (0, node 0 0) ∷ []) (member_of b u) l × ((c : ℕ) → l.block ≡ c + 1 → (c == 0) ≡ false)))
+clean_places t x e = (clean_tops x (low t x e), λ b y m u h _. inl (placed_zero (b, y, m) h))
+  where
+    low : (t : Bool) (x : ℕ) → stands (Placed 0 2) t ≡ x + 1 → x < 2
+    low true x e = let y : 2 ≡ x + 1 = e in omega arith
+    low false x e = let y : 1 ≡ x + 1 = e in omega arith
+
+pub hand_zero : (c : ℕ) → (HasEntry (0 ∷ []) c → HasEntry {A = ℕ} [] c ⊎ ((c == 0) ≡ true)) × (HasEntry {A = ℕ} [] c ⊎ ((c == 0) ≡ true) → HasEntry (0 ∷ []) c)
+hand_zero c = ((λ h. ⊎_elim (λ e. inr (is_zero c e)) (λ f. absurd f) h), λ h. ⊎_elim (λ f. absurd f) (λ e. inl (eqb-true c 0 e)) h)
+
+pub kept_zero : (c : ℕ) → (HasEntry {A = ℕ} [] c → HasEntry (0 ∷ []) c × ((c == 0) ≡ false)) × (HasEntry (0 ∷ []) c → HasEntry {A = ℕ} [] c ⊎ ((c == 0) ≡ true))
+kept_zero c = ((λ h. absurd h), λ h. ⊎_elim (λ e. inr (is_zero c e)) (λ f. absurd f) h)
+
+pub none_left : (a : ℕ × ℕ × ℕ) → (HasEntry {A = ℕ × ℕ × ℕ} [] a → HasEntry both_placed a × ((a.0 == 0) ≡ false)) × (HasEntry both_placed a → HasEntry {A = ℕ × ℕ × ℕ} [] a ⊎ ((a.0 == 0) ≡ true))
+none_left a = ((λ h. absurd h), λ h. inr (placed_zero a h))
+
+-- the one row below FREE, which is not of the stock
+abbrev pub IsRow : ℕ → List (ℕ × ℕ) → ℕ → ℕ → Type 0
+IsRow high rows i b = (i < 1) × ((i < 1) ⊎ (high ≤ i)) × Noted rows i b
+
+pub one_row : (high b : ℕ) (rows : List (ℕ × ℕ)) (i : ℕ) → i < 1 → ((1 ≤ i) × (i < high)) ⊎ ((c : ℕ) × IsRow high ((0, b) ∷ rows) i c × HasEntry {A = ℕ} (b ∷ []) c × Noted {A = ℕ} ((b, 0) ∷ []) c 0)
+one_row high b rows i l = inr (b, (l, inl l, inl (below_one i l, refl)), inl refl, inl (refl, refl))
+
+pub one_laid : (high b : ℕ) (rows : List (ℕ × ℕ)) (c : ℕ) → (HasEntry {A = ℕ} [] c → HasEntry {A = ℕ} (b ∷ []) c × ((i : ℕ) → IsRow high ((0, b) ∷ rows) i c → ⊥)) × (HasEntry {A = ℕ} (b ∷ []) c → HasEntry {A = ℕ} [] c ⊎ ((i : ℕ) × IsRow high ((0, b) ∷ rows) i c))
+one_laid high b rows c = ((λ h. absurd h), λ h. ⊎_elim (λ e. inr (0, (lt01, inl lt01, inl (refl, sym e)))) (λ f. absurd f) h)

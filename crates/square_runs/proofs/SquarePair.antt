@@ -9,7 +9,7 @@ use Rattle.mesh_state.specs.Lists.{Holds, IsClosed, IsTarget, IsListed, IsMember
 use Rattle.square_runs.specs.SquareRun.{square_setup, name0, name1}
 use Rattle.square_runs.specs.SquareTwice.{pair_setup}
 use Rattle.square_runs.proofs.SquareLists.{both, both_closed, first_plan, second_plan, first_aim, second_aim}
-use Rattle.square_runs.proofs.SquareNotes.{below_one, en, lt01, one_of, zero_of}
+use Rattle.square_runs.proofs.SquareNotes.{en, one_of, zero_of}
 
 pub lt23 : 2 < 3
 lt23 = omega arith
@@ -26,13 +26,6 @@ pair_first = record { closed = pair_closed; olds = first_aim.olds; needs = first
 
 pub pair_second : IsTarget pair_setup (HasEntry both) second_plan
 pair_second = record { closed = pair_closed; olds = second_aim.olds; needs = second_aim.needs; least = λ other c o k n h. second_aim.least other (square_closed other c) o k n h }
-
--- the one row that was drawn, and the one that is laid
-pub row_drawn : (i : ℕ) → i < 2 → i < 1 → (b : ℕ) × Noted ((0, 0) ∷ (1, 1) ∷ []) i b × (b < 1)
-row_drawn i l m = (0, inl (below_one i m, refl), lt01)
-
-pub row_laid : (i : ℕ) → i < 1 → Noted {A = ℕ} ((0, 1) ∷ (0, 0) ∷ (1, 1) ∷ []) i 1 × HasEntry {A = ℕ} (1 ∷ []) 1 × Noted {A = ℕ} ((1, 0) ∷ []) 1 0
-row_laid i l = (inl (below_one i l, refl), inl refl, inl (refl, refl))
 
 pub bisects_first : (k : ℕ) → HasEntry (name0 ∷ []) k → HasEntry [] k ⊎ ((y : ℕ) × ((y ≡ 0) ⊎ (2 ≡ y + 1)) × HasEntry {A = ℕ × ℕ} ((1, name1) ∷ (0, name0) ∷ []) (y, k))
 bisects_first k h = ⊎_elim (λ e. inr (0, inl refl, inr (inl (ap (λ (i : ℕ). (0, i)) e)))) (λ f. absurd f) h

@@ -19,7 +19,7 @@ abbrev pub u0 : Views
 u0 = fresh_views 1
 
 abbrev pub u1 : Views
-u1 = record u0 { work = update u0.work 0 idle; ruling = record u0.ruling { phase = 1; hand = []; cursor = 0; plan = first_plan } }
+u1 = record u0 { work = update u0.work 0 idle; ruling = record u0.ruling { phase = 1; cursor = 0; plan = first_plan } }
 
 s1 : Step square_setup (state (fresh_words 1) 1 u0) (state (fresh_words 1) 1 u1)
 s1 = ByBeginStep (first_plan, [], refl, first_aim, lt04, refl, refl, refl)
@@ -58,7 +58,7 @@ abbrev pub u7 : Views
 u7 = record u6 { claims = update u6.claims 1 (claim 0 2 Claimed ∷ u6.claims 1); sure = update u6.sure 1 unsure }
 
 s7 : Step square_setup (state (fresh_words 1) 2 u6) (state claimed 2 u7)
-s7 = ByClaimStep (1, 0, 2, name0, refl, refl, refl, (inr (inl refl)), (inl refl), (inr (inl refl)), (inr (1, 536870912, refl, refl, inl refl, inl refl)), refl)
+s7 = ByClaimStep (1, 0, 2, name0, refl, refl, refl, (inr (inl refl)), (inl refl), (inr (inl refl)), (inr (1, 536870912, refl, refl, inl refl)), refl)
 
 abbrev pub u8 : Views
 u8 = record u7 { claims = update u7.claims 1 (moved_on (u7.claims 1) 0 (Drawn (claimed.row claimed.cursor))); work = update u7.work 1 (record (u7.work 1) { drawn = (claimed.cursor, claimed.row claimed.cursor + 1) ∷ (u7.work 1).drawn }); sure = update u7.sure 1 unsure }
@@ -151,7 +151,7 @@ s22 : Step square_setup (state linked1 2 u21) (state published 2 u22)
 s22 = ByPublishStep (1, 0, 2, 0, (inl refl), refl, (name0 ∷ []), (λ k h. ⊎_elim (λ e. inr (0, inl refl, inr (inl (ap (λ (i : ℕ). (0, i)) e)))) (λ f. absurd f) h), refl)
 
 abbrev pub u23 : Views
-u23 = record u22 { kind = update u22.kind 1 0; claims = update (update u22.claims 0 (u22.claims 0 ++ u22.claims 1)) 1 []; work = update (update u22.work 0 record { half = 0; round = 0; number = 0; plan = no_plan; drawn = (u22.work 0).drawn ++ (u22.work 1).drawn; found = (u22.work 0).found ++ (u22.work 1).found; known = (u22.work 0).known ++ (u22.work 1).known; open_ = (u22.work 0).open_ ++ (u22.work 1).open_; given = (u22.work 0).given ++ (u22.work 1).given; absent = (u22.work 0).absent ++ (u22.work 1).absent; stood = (u22.work 0).stood ++ (u22.work 1).stood; had = (u22.work 0).had ++ (u22.work 1).had; retired = (u22.work 0).retired ++ (u22.work 1).retired; went = []; walk = Still }) 1 idle; sure = update (update u22.sure 0 unsure) 1 unsure; read = update u22.read 1 unread; ruling = record u22.ruling { workers = 0; lone = 0 } }
+u23 = record u22 { kind = update u22.kind 1 0; claims = update (update u22.claims 0 (u22.claims 0 ++ u22.claims 1)) 1 []; work = update (update u22.work 0 record { half = 0; round = 0; number = 0; plan = no_plan; drawn = (u22.work 0).drawn ++ (u22.work 1).drawn; found = (u22.work 0).found ++ (u22.work 1).found; known = (u22.work 0).known ++ (u22.work 1).known; open_ = (u22.work 0).open_ ++ (u22.work 1).open_; given = (u22.work 0).given ++ (u22.work 1).given; absent = (u22.work 0).absent ++ (u22.work 1).absent; stood = (u22.work 0).stood ++ (u22.work 1).stood; had = (u22.work 0).had ++ (u22.work 1).had; grown = (u22.work 0).grown ++ (u22.work 1).grown; retired = (u22.work 0).retired ++ (u22.work 1).retired; went = []; walk = Still }) 1 idle; sure = update (update u22.sure 0 unsure) 1 unsure; read = update u22.read 1 unread; ruling = record u22.ruling { workers = 0; lone = 0 } }
 
 s23 : Step square_setup (state published 2 u22) (state published 2 u23)
 s23 = ByJoinWorker (1, (en 1 0 lt01), refl, 0, refl, refl)
@@ -196,7 +196,7 @@ s28 : Step square_setup (state unpublished 2 u27) (state unlinked1 2 u28)
 s28 = ByUnlinkSecond k28
 
 abbrev pub u29 : Views
-u29 = record u28 { claims = update u28.claims 0 (ended (u28.claims 0) 0); sure = update u28.sure 0 (record (u28.sure 0) { head = (0, node 0 0) ∷ (u28.sure 0).head }); ruling = record u28.ruling { undone = 0 ∷ u28.ruling.undone; seen = 0; quiet = 0 } }
+u29 = record u28 { claims = update u28.claims 0 (ended (u28.claims 0) 0); sure = update u28.sure 0 (record (u28.sure 0) { head = (0, node 0 0) ∷ (u28.sure 0).head }); ruling = record u28.ruling { undone = 0 ∷ u28.ruling.undone; placed = (0, 0, 2) ∷ u28.ruling.placed; seen = 0; quiet = 0 } }
 
 pub k29 : UnlinkFirst square_setup unlinked1 2 u28 (state unlinked0 2 u29)
 k29 = (refl, 0, 2, 0, node 0 0, Half 0, inl refl, inl refl, inr (en 1 0 lt01, inl (refl, refl)), refl)

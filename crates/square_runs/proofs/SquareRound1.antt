@@ -40,7 +40,7 @@ pub r0 : Rule square_setup (fresh_words 1) 1 v0 g0
 r0 = fresh_is_lawful square (across_of square) (squares_fit.0).2 record { rounds = 4; elements = 2; pool = 1 } 1
 
 abbrev pub v1 : Views
-v1 = record v0 { work = update v0.work 0 idle; ruling = record v0.ruling { phase = 1; hand = []; cursor = 0; plan = first_plan } }
+v1 = record v0 { work = update v0.work 0 idle; ruling = record v0.ruling { phase = 1; cursor = 0; plan = first_plan } }
 
 abbrev pub g1 : Ghost
 g1 = record g0 { who = g0.who }
@@ -85,7 +85,7 @@ abbrev pub g7 : Ghost
 g7 = record g1 { stage = update g1.stage 0 (Held 1 2 Claimed) }
 
 pub r7 : Rule square_setup claimed 2 v7 g7
-r7 = claims square_setup (fresh_words 1) 2 v6 g1 r6 1 0 2 name0 refl refl refl lt06 (inr (inl refl)) (inl refl) (inr (inl refl)) (inr (1, 536870912, refl, refl, inl refl, inl refl))
+r7 = claims square_setup (fresh_words 1) 2 v6 g1 r6 1 0 2 name0 refl refl refl lt06 (inr (inl refl)) (inl refl) (inr (inl refl)) (inr (1, 536870912, refl, refl, inl refl))
 
 abbrev pub v8 : Views
 v8 = record v7 { claims = update v7.claims 1 (moved_on (v7.claims 1) 0 (Drawn (claimed.row claimed.cursor))); work = update v7.work 1 (record (v7.work 1) { drawn = (claimed.cursor, claimed.row claimed.cursor + 1) ∷ (v7.work 1).drawn }); sure = update v7.sure 1 unsure }
@@ -190,7 +190,7 @@ pub r22 : Rule square_setup published 2 v22 g22
 r22 = publishes square_setup linked1 2 v21 g21 r21 1 0 2 0 (inl refl) refl (name0 ∷ []) (λ k h. ⊎_elim (λ e. inr (0, inl refl, inr (inl (ap (λ (i : ℕ). (0, i)) e)))) (λ f. absurd f) h)
 
 abbrev pub v23 : Views
-v23 = record v22 { kind = update v22.kind 1 0; claims = update (update v22.claims 0 (v22.claims 0 ++ v22.claims 1)) 1 []; work = update (update v22.work 0 record { half = 0; round = 0; number = 0; plan = no_plan; drawn = (v22.work 0).drawn ++ (v22.work 1).drawn; found = (v22.work 0).found ++ (v22.work 1).found; known = (v22.work 0).known ++ (v22.work 1).known; open_ = (v22.work 0).open_ ++ (v22.work 1).open_; given = (v22.work 0).given ++ (v22.work 1).given; absent = (v22.work 0).absent ++ (v22.work 1).absent; stood = (v22.work 0).stood ++ (v22.work 1).stood; had = (v22.work 0).had ++ (v22.work 1).had; retired = (v22.work 0).retired ++ (v22.work 1).retired; went = []; walk = Still }) 1 idle; sure = update (update v22.sure 0 unsure) 1 unsure; read = update v22.read 1 unread; ruling = record v22.ruling { workers = 0; lone = 0 } }
+v23 = record v22 { kind = update v22.kind 1 0; claims = update (update v22.claims 0 (v22.claims 0 ++ v22.claims 1)) 1 []; work = update (update v22.work 0 record { half = 0; round = 0; number = 0; plan = no_plan; drawn = (v22.work 0).drawn ++ (v22.work 1).drawn; found = (v22.work 0).found ++ (v22.work 1).found; known = (v22.work 0).known ++ (v22.work 1).known; open_ = (v22.work 0).open_ ++ (v22.work 1).open_; given = (v22.work 0).given ++ (v22.work 1).given; absent = (v22.work 0).absent ++ (v22.work 1).absent; stood = (v22.work 0).stood ++ (v22.work 1).stood; had = (v22.work 0).had ++ (v22.work 1).had; grown = (v22.work 0).grown ++ (v22.work 1).grown; retired = (v22.work 0).retired ++ (v22.work 1).retired; went = []; walk = Still }) 1 idle; sure = update (update v22.sure 0 unsure) 1 unsure; read = update v22.read 1 unread; ruling = record v22.ruling { workers = 0; lone = 0 } }
 
 abbrev pub g23 : Ghost
 g23 = record g22 { stage = λ x. moved 1 (g22.stage x) }
@@ -223,7 +223,7 @@ pub r26 : Rule square_setup published 2 v26 g25
 r26 = notes_placed square_setup published 2 v25 g25 r25 0 0 2 (inl refl)
 
 abbrev pub v27 : Views
-v27 = record v26 { claims = update v26.claims 0 (ended (v26.claims 0) 0) }
+v27 = record v26 { claims = update v26.claims 0 (ended (v26.claims 0) 0); ruling = record v26.ruling { placed = (0, 0, 2) ∷ v26.ruling.placed } }
 
 abbrev pub g27 : Ghost
 g27 = record g25 { stage = update g25.stage 0 Open }
@@ -232,7 +232,7 @@ pub r27 : Rule square_setup unclaimed 2 v27 g27
 r27 = unclaims square_setup published 2 v26 g25 r26 three not_less 0 2 (Living 0) (inl refl) only_zero not_living
 
 abbrev pub v28 : Views
-v28 = record v27 { work = update v27.work 0 idle; ruling = record v27.ruling { phase = 0; finished = v27.ruling.finished + 1; history = v27.ruling.history ++ both ∷ []; left = (unclaimed.round, unclaimed.taken) ∷ v27.ruling.left; retired = []; seen = 0; quiet = 0 } }
+v28 = record v27 { work = update v27.work 0 idle; ruling = record v27.ruling { phase = 0; finished = v27.ruling.finished + 1; early = v27.ruling.readers; history = v27.ruling.history ++ both ∷ []; left = (unclaimed.round, unclaimed.taken) ∷ v27.ruling.left; retired = []; kept = ((v27.work 0).retired ++ v27.ruling.retired) ++ v27.ruling.kept; seen = 0; quiet = 0 } }
 
 abbrev pub g28 : Ghost
 g28 = record g27 { who = update g27.who (unclaimed.round + 1 + 1) (g27.who (unclaimed.round + 1)) }

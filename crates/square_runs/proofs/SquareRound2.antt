@@ -11,16 +11,17 @@ use Rattle.square_runs.specs.SquareRun.{square_setup, name0, name1, finished1, s
 use Rattle.mesh_steps.proofs.Phases.{begins, plans, closes, advances}
 use Rattle.mesh_steps.proofs.Splitting.{splits}
 use Rattle.mesh_steps.proofs.JoiningWorkers.{joins, moved}
-use Rattle.mesh_steps.proofs.Loads.{loads_head, loads_died, loads_row, loads_cursor, loads_free, notes_ever}
-use Rattle.mesh_steps.proofs.WorkerWalks.{goes_to, finds_last}
-use Rattle.mesh_steps.proofs.SecondHalf.{gives, opens_head}
+use Rattle.mesh_steps.proofs.Loads.{loads_head, loads_died, loads_row, loads_cursor, loads_free}
+use Rattle.mesh_steps.proofs.WorkerWalks.{goes_to, finds_last, finds_both}
+use Rattle.mesh_steps.proofs.SecondHalf.{gives, opens_stood}
 use Rattle.mesh_steps.proofs.Retiring.{retires}
 use Rattle.mesh_steps.proofs.Pinning.{shows_round, pins}
 use Rattle.mesh_steps.proofs.Sweeping.{stops, rewinds}
 use Rattle.mesh_steps.proofs.TakingBack.{stamps_head}
 use Rattle.square_runs.proofs.SquareLists.{both, second_plan, second_aim, both_open, none_stays}
-use Rattle.square_runs.proofs.SquareNotes.{lt14, both_stamped, children0, children1, en, le01, lt01, lt02, lt03, lt12, many, ne, newly, no_claim, no_head, row_is, three}
+use Rattle.square_runs.proofs.SquareNotes.{lt14, both_stamped, children0, children1, en, le00, le01, lt01, lt02, lt03, lt12, many, ne, newly, no_claim, no_head, three}
 use Rattle.square_runs.proofs.SquareRound1.{g28, r28, v28}
+use Rattle.mesh_state.proofs.TableLaws.{walk_sides}
 
 abbrev pub v29 : Views
 v29 = record v28 { ruling = record v28.ruling { cursor = finished1.cursor + 1 } }
@@ -41,16 +42,16 @@ pub r31 : Rule square_setup finished1 2 v31 g28
 r31 = loads_row square_setup finished1 2 v30 g28 r30 0 0
 
 abbrev pub v32 : Views
-v32 = record v31 { ruling = record v31.ruling { ever = 1 } }
+v32 = record v31 { ruling = record v31.ruling { free = finished1.free + 1 } }
 
 pub r32 : Rule square_setup finished1 2 v32 g28
-r32 = notes_ever square_setup finished1 2 v31 g28 r31 1 le01
+r32 = loads_free square_setup finished1 2 v31 g28 r31
 
 abbrev pub v33 : Views
-v33 = record v32 { ruling = record v32.ruling { free = 1 } }
+v33 = record v32 { ruling = record v32.ruling { free = 1; low = 1; high = 1 } }
 
 pub r33 : Rule square_setup stopped 2 v33 g28
-r33 = stops square_setup finished1 2 v32 g28 r32 refl 1 1 refl refl row_is
+r33 = stops square_setup finished1 2 v32 g28 r32 refl 1 1 refl refl le00
 
 abbrev pub v34 : Views
 v34 = record v33 { ruling = record v33.ruling { cursor = 1 } }
@@ -80,7 +81,7 @@ pub r37 : Rule square_setup pinned 3 v37 g37
 r37 = pins square_setup rewound 3 v36 g28 r36 2 refl refl refl
 
 abbrev pub v38 : Views
-v38 = record v37 { work = update v37.work 0 idle; ruling = record v37.ruling { phase = 1; hand = []; cursor = 0; plan = second_plan } }
+v38 = record v37 { work = update v37.work 0 idle; ruling = record v37.ruling { phase = 1; cursor = 0; plan = second_plan } }
 
 abbrev pub g38 : Ghost
 g38 = record g37 { who = g37.who }
@@ -130,10 +131,10 @@ unfolding t43
 r43 = (goes_to square_setup pinned 4 v42 g39 r42 3 refl 1 name1 0 (node 1 0) (inl ((inr (inr (lt12, refl))), refl)) refl (inl refl)).1
 
 abbrev pub v44 : Views
-v44 = record v43 { work = update v43.work 3 (record (v43.work 3) { went = (v43.work 3).went; walk = Still; found = (v43.work 3).found; known = (v43.work 3).known; absent = (v43.work 3).absent; stood = (child_place 2 0 t43 false, square_setup.child name1 false) ∷ (child_place 2 0 t43 true, square_setup.child name1 true) ∷ (v43.work 3).stood; had = (0, name1) ∷ (v43.work 3).had }) }
+v44 = record v43 { work = update v43.work 3 (record (v43.work 3) { went = (v43.work 3).went; walk = (v43.work 3).walk; found = (v43.work 3).found; known = (v43.work 3).known; absent = (v43.work 3).absent; stood = (child_place 2 0 t43 false, square_setup.child name1 false) ∷ (child_place 2 0 t43 true, square_setup.child name1 true) ∷ (v43.work 3).stood; had = (0, name1) ∷ (v43.work 3).had }) }
 
 pub r44 : Rule square_setup pinned 4 v44 g39
-r44 = finds_last square_setup pinned 4 v43 g39 r43 3 refl 1 name1 0 t43 refl refl lt01 lt12
+r44 = finds_both square_setup pinned 4 v43 g39 r43 3 refl 0 name0 536870912 t43 (inl refl) (((walk_sides square_setup pinned 4 v43 (g39, r43) 3 1 name1 0 t43).0 refl t43).1 refl)
 
 abbrev pub v45 : Views
 v45 = record v44 { work = update v44.work 3 (record (v44.work 3) { given = (0, name0) ∷ (v44.work 3).given }) }
@@ -145,25 +146,25 @@ abbrev pub v46 : Views
 v46 = record v45 { work = update v45.work 3 (record (v45.work 3) { open_ = square_setup.child name1 true ∷ (v45.work 3).open_ }) }
 
 pub r46 : Rule square_setup pinned 4 v46 g39
-r46 = opens_head square_setup pinned 4 v45 g39 r45 3 refl refl (child_place 2 0 t43 true) (square_setup.child name1 true) (inr (inl refl)) (inl (no_head t43 true))
+r46 = opens_stood square_setup pinned 4 v45 g39 r45 3 refl refl (child_place 2 0 t43 true) (square_setup.child name1 true) (inr (inl refl)) (inl (no_head t43 true))
 
 abbrev pub v47 : Views
 v47 = record v46 { work = update v46.work 3 (record (v46.work 3) { open_ = square_setup.child name1 false ∷ (v46.work 3).open_ }) }
 
 pub r47 : Rule square_setup pinned 4 v47 g39
-r47 = opens_head square_setup pinned 4 v46 g39 r46 3 refl refl (child_place 2 0 t43 false) (square_setup.child name1 false) (inl refl) (inl (no_head t43 false))
+r47 = opens_stood square_setup pinned 4 v46 g39 r46 3 refl refl (child_place 2 0 t43 false) (square_setup.child name1 false) (inl refl) (inl (no_head t43 false))
 
 abbrev pub v48 : Views
 v48 = record v47 { work = update v47.work 3 (record (v47.work 3) { open_ = square_setup.child name0 true ∷ (v47.work 3).open_ }) }
 
 pub r48 : Rule square_setup pinned 4 v48 g39
-r48 = opens_head square_setup pinned 4 v47 g39 r47 3 refl refl (child_place 2 0 t41 true) (square_setup.child name0 true) (inr (inr (inr (inl refl)))) (inl (no_head t41 true))
+r48 = opens_stood square_setup pinned 4 v47 g39 r47 3 refl refl (child_place 2 0 t41 true) (square_setup.child name0 true) (inr (inr (inr (inl refl)))) (inl (no_head t41 true))
 
 abbrev pub v49 : Views
 v49 = record v48 { work = update v48.work 3 (record (v48.work 3) { open_ = square_setup.child name0 false ∷ (v48.work 3).open_ }) }
 
 pub r49 : Rule square_setup pinned 4 v49 g39
-r49 = opens_head square_setup pinned 4 v48 g39 r48 3 refl refl (child_place 2 0 t41 false) (square_setup.child name0 false) (inr (inr (inl refl))) (inl (no_head t41 false))
+r49 = opens_stood square_setup pinned 4 v48 g39 r48 3 refl refl (child_place 2 0 t41 false) (square_setup.child name0 false) (inr (inr (inl refl))) (inl (no_head t41 false))
 
 pub who_left : ℕ → ℕ → ℕ
 who_left = (retires square_setup pinned 4 v49 g39 r49 3 0 name0 (inl refl) refl (inl refl) refl children0 children1 (name0 ∷ name1 ∷ (v49.work 3).open_) newly).0
@@ -191,7 +192,7 @@ pub held1 : who_left 1 name1 ≡ 1
 held1 = (r50.walks 3).had 0 name1 (inl refl)
 
 abbrev pub v51 : Views
-v51 = record v50 { kind = update v50.kind 3 0; claims = update (update v50.claims 0 (v50.claims 0 ++ v50.claims 3)) 3 []; work = update (update v50.work 0 record { half = 0; round = 0; number = 0; plan = no_plan; drawn = (v50.work 0).drawn ++ (v50.work 3).drawn; found = (v50.work 0).found ++ (v50.work 3).found; known = (v50.work 0).known ++ (v50.work 3).known; open_ = (v50.work 0).open_ ++ (v50.work 3).open_; given = (v50.work 0).given ++ (v50.work 3).given; absent = (v50.work 0).absent ++ (v50.work 3).absent; stood = (v50.work 0).stood ++ (v50.work 3).stood; had = (v50.work 0).had ++ (v50.work 3).had; retired = (v50.work 0).retired ++ (v50.work 3).retired; went = []; walk = Still }) 3 idle; sure = update (update v50.sure 0 unsure) 3 unsure; read = update v50.read 3 unread; ruling = record v50.ruling { workers = 0; lone = 0 } }
+v51 = record v50 { kind = update v50.kind 3 0; claims = update (update v50.claims 0 (v50.claims 0 ++ v50.claims 3)) 3 []; work = update (update v50.work 0 record { half = 0; round = 0; number = 0; plan = no_plan; drawn = (v50.work 0).drawn ++ (v50.work 3).drawn; found = (v50.work 0).found ++ (v50.work 3).found; known = (v50.work 0).known ++ (v50.work 3).known; open_ = (v50.work 0).open_ ++ (v50.work 3).open_; given = (v50.work 0).given ++ (v50.work 3).given; absent = (v50.work 0).absent ++ (v50.work 3).absent; stood = (v50.work 0).stood ++ (v50.work 3).stood; had = (v50.work 0).had ++ (v50.work 3).had; grown = (v50.work 0).grown ++ (v50.work 3).grown; retired = (v50.work 0).retired ++ (v50.work 3).retired; went = []; walk = Still }) 3 idle; sure = update (update v50.sure 0 unsure) 3 unsure; read = update v50.read 3 unread; ruling = record v50.ruling { workers = 0; lone = 0 } }
 
 abbrev pub g51 : Ghost
 g51 = record g50 { stage = λ x. moved 3 (g50.stage x) }
@@ -239,7 +240,7 @@ pub r57 : Rule square_setup stamped1 4 v57 g52
 r57 = stamps_head square_setup stamped0 4 v56 g52 r56 three refl 1 0 0 2 true (inl refl) (λ h. h) refl (inr (ne 0 1 lt01, inl (refl, refl))) (inl (refl, refl))
 
 abbrev pub v58 : Views
-v58 = record v57 { work = update v57.work 0 idle; ruling = record v57.ruling { phase = 0; finished = v57.ruling.finished + 1; history = v57.ruling.history ++ [] ∷ []; left = (stamped1.round, stamped1.taken) ∷ v57.ruling.left; retired = []; seen = 0; quiet = 0 } }
+v58 = record v57 { work = update v57.work 0 idle; ruling = record v57.ruling { phase = 0; finished = v57.ruling.finished + 1; early = v57.ruling.readers; history = v57.ruling.history ++ [] ∷ []; left = (stamped1.round, stamped1.taken) ∷ v57.ruling.left; retired = []; kept = ((v57.work 0).retired ++ v57.ruling.retired) ++ v57.ruling.kept; seen = 0; quiet = 0 } }
 
 abbrev pub g58 : Ghost
 g58 = record g52 { who = update g52.who (stamped1.round + 1 + 1) (g52.who (stamped1.round + 1)) }

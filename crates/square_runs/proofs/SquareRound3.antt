@@ -18,7 +18,7 @@ use Rattle.mesh_steps.proofs.Draws.{draws_one}
 use Rattle.mesh_steps.proofs.Pinning.{unpins}
 use Rattle.mesh_steps.proofs.Sweeping.{cuts_head, frees_all, zeroes, lays, opens_rows}
 use Rattle.square_runs.proofs.SquareLists.{first_plan, first_aim}
-use Rattle.square_runs.proofs.SquareNotes.{both_clear, clean_blocks, clean_tops, en, le22, lt01, lt02, lt04, lt06, lt12, lt14, lt24, lt34, more_hand, ne, one_row, same_below_one}
+use Rattle.square_runs.proofs.SquareNotes.{both_clear, clean_places, en, hand_zero, kept_zero, le11, le22, lt01, lt02, lt04, lt06, lt12, lt14, lt24, lt34, ne, none_left, one_laid, one_row, same_below_one}
 use Rattle.square_runs.proofs.SquareRound1.{g0, g7, g8, g20, g21, g22, g27, g28, r0, r7, r8, r11, r12, r13, r14, r15, r16, r17, r18, r19, r20, r21, r22, r27, r28, v0, v7, v8, v11, v12, v13, v14, v15, v16, v17, v18, v19, v20, v21, v22, v27, v28}
 use Rattle.square_runs.proofs.SquareRound2.{g37, g50, g52, g58, gone0, gone1, held0, held1, r33, r34, r37, r50, r56, r57, r58, v33, v34, v37, v50, v56, v57, v58}
 
@@ -86,19 +86,19 @@ pub r68 : Rule square_setup cut1 4 v68 g59
 r68 = loads_head square_setup cut1 4 v67 g59 r67 0 4
 
 abbrev pub v69 : Views
-v69 = record v68 { sure = update v68.sure 0 (record (v68.sure 0) { head = (5, cut1.head 5) ∷ (v68.sure 0).head }) }
+v69 = record v68 { ruling = record v68.ruling { cursor = cut1.cursor + 1 } }
 
 pub r69 : Rule square_setup cut1 4 v69 g59
-r69 = loads_head square_setup cut1 4 v68 g59 r68 0 5
+r69 = loads_cursor square_setup cut1 4 v68 g59 r68 (ne 0 1 lt01)
 
 abbrev pub v70 : Views
-v70 = record v69 { ruling = record v69.ruling { hand = 0 ∷ []; undone = []; placed = [] } }
+v70 = record v69 { ruling = record v69.ruling { hand = 0 ∷ []; undone = []; kept = []; placed = [] } }
 
 abbrev pub g70 : Ghost
 g70 = record g59 { life = λ c. cond (c == 0) Free (g59.life c) }
 
 pub r70 : Rule square_setup cut1 4 v70 g70
-r70 = frees_all square_setup cut1 4 v69 g59 r69 refl (λ c. c == 0) (0 ∷ []) [] [] refl (λ c h. inl (2, inl (sym (eqb-true c 0 h), refl), lt02, le22, both_clear)) clean_tops clean_blocks more_hand (λ c h. absurd h) (λ c h. absurd h) (λ c x m h. absurd h)
+r70 = frees_all square_setup cut1 4 v69 g59 r69 refl (λ c. c == 0) (0 ∷ []) [] [] [] (λ c h. inr (2, 0, 2, inl (sym (eqb-true c 0 h), refl), lt02, le22, both_clear, inl (λ i. (eqb-true c 0 h i, 0, 2)), clean_places)) hand_zero (λ c. ((λ h. absurd h), λ h. absurd h)) kept_zero none_left
 
 abbrev pub v71 : Views
 v71 = record v70 { sure = update v70.sure 0 (record (v70.sure 0) { born = (0, 0) ∷ (v70.sure 0).born }) }
@@ -110,13 +110,13 @@ abbrev pub v72 : Views
 v72 = record v71 { sure = update v71.sure 0 (record (v71.sure 0) { row = (0, 0) ∷ (v71.sure 0).row }) }
 
 pub r72 : Rule square_setup laid 4 v72 g70
-r72 = lays square_setup unborn 4 v71 g70 r71 refl 0 0 refl
+r72 = lays square_setup unborn 4 v71 g70 r71 refl 0 0 refl (inl lt01)
 
 abbrev pub v73 : Views
-v73 = record v72 { ruling = record v72.ruling { free = 1 + 1 } }
+v73 = record v72 { ruling = record v72.ruling { hand = []; free = 1 + 1; low = 0; high = 0 } }
 
 pub r73 : Rule square_setup opened 4 v73 g70
-r73 = opens_rows square_setup laid 4 v72 g70 r72 refl 1 (λ _. 0) refl one_row (λ i j l m e. same_below_one i j l m)
+r73 = opens_rows square_setup laid 4 v72 g70 r72 refl 1 [] refl refl (λ _. le11) (one_row 1 0 []) (λ i j b l m. same_below_one i j l.0 m.0) (one_laid 1 0 [])
 
 abbrev pub v74 : Views
 v74 = record v73 { ruling = record v73.ruling { cursor = opened.cursor + 1 } }
@@ -125,7 +125,7 @@ pub r74 : Rule square_setup opened 4 v74 g70
 r74 = loads_cursor square_setup opened 4 v73 g70 r73 (ne 0 1 lt01)
 
 abbrev pub v75 : Views
-v75 = record v74 { work = update v74.work 0 idle; ruling = record v74.ruling { phase = 1; hand = []; cursor = 0; plan = first_plan } }
+v75 = record v74 { work = update v74.work 0 idle; ruling = record v74.ruling { phase = 1; cursor = 0; plan = first_plan } }
 
 abbrev pub g75 : Ghost
 g75 = record g70 { who = g70.who }
@@ -170,7 +170,7 @@ abbrev pub g81 : Ghost
 g81 = record g75 { stage = update g75.stage 0 (Held 4 2 Claimed) }
 
 pub r81 : Rule square_setup claimed_again 5 v81 g81
-r81 = claims square_setup opened 5 v80 g75 r80 4 0 2 name0 refl refl refl lt06 (inr (inl refl)) (inl refl) (inr (inl refl)) (inr (1, 536870912, refl, refl, inl refl, inl refl))
+r81 = claims square_setup opened 5 v80 g75 r80 4 0 2 name0 refl refl refl lt06 (inr (inl refl)) (inl refl) (inr (inl refl)) (inr (1, 536870912, refl, refl, inl refl))
 
 abbrev pub v82 : Views
 v82 = record v81 { claims = update v81.claims 4 (moved_on (v81.claims 4) 0 (Drawn (claimed_again.row claimed_again.cursor))); work = update v81.work 4 (record (v81.work 4) { drawn = (claimed_again.cursor, claimed_again.row claimed_again.cursor + 1) ∷ (v81.work 4).drawn }); sure = update v81.sure 4 unsure }

@@ -4,14 +4,14 @@ use Rattle.mesh_words.specs.Places.{child_place}
 use Rattle.mesh_words.specs.Words.{node}
 use Rattle.square_runs.specs.SquareRun.{square_setup, name0, name1, finished1, stopped, rewound, pinned, retired, stamped0, stamped1, finished2}
 use Rattle.square_runs.proofs.SquareLists.{both, second_plan, second_aim, both_open, none_stays}
-use Rattle.square_runs.proofs.SquareNotes.{lt14, both_stamped, children0, children1, en, le01, lt01, lt02, lt03, lt12, many, ne, newly, no_claim, no_head, row_is}
+use Rattle.square_runs.proofs.SquareNotes.{lt14, both_stamped, children0, children1, en, le00, le01, lt01, lt02, lt03, lt12, many, ne, newly, no_claim, no_head}
 use Rattle.mesh_steps.specs.WorkSteps.{RetireStep}
-use Rattle.mesh_steps.specs.WalkSteps.{WorkGoes, WorkHad, WorkGives, WorkOpen, LoadDied, LoadRow}
+use Rattle.mesh_steps.specs.WalkSteps.{WorkGoes, WorkHad, WorkBoth, WorkGives, WorkOpen, LoadDied, LoadRow}
 use Rattle.mesh_steps.specs.PinSteps.{LoadRound, PinStep}
-use Rattle.mesh_steps.specs.OwnerSteps.{LoadCursor, LoadFree, NoteEver}
+use Rattle.mesh_steps.specs.OwnerSteps.{LoadCursor, LoadFree}
 use Rattle.mesh_steps.specs.SweepSteps.{StampStep, StopStep, RewindStep}
 use Rattle.mesh_steps.specs.States.{state}
-use Rattle.mesh_steps.specs.Steps.{Step, ByAdvanceStep, ByBeginStep, ByCloseStep, ByJoinWorker, ByLoadCursor, ByLoadDied, ByLoadFree, ByLoadHead, ByLoadRound, ByLoadRow, ByNoteEver, ByPinStep, ByPlanStep, ByRetireStep, ByRewindStep, BySplitStep, ByStampStep, ByStopStep, ByWorkGives, ByWorkGoes, ByWorkHad, ByWorkOpen}
+use Rattle.mesh_steps.specs.Steps.{Step, ByAdvanceStep, ByBeginStep, ByCloseStep, ByJoinWorker, ByLoadCursor, ByLoadDied, ByLoadFree, ByLoadHead, ByLoadRound, ByLoadRow, ByPinStep, ByPlanStep, ByRetireStep, ByRewindStep, BySplitStep, ByStampStep, ByStopStep, ByWorkGives, ByWorkGoes, ByWorkHad, ByWorkBoth, ByWorkOpen}
 use Rattle.mesh_state.proofs.TableLaws.{walk_sides}
 use Rattle.square_runs.proofs.SquareRound1.{v28}
 use Rattle.square_runs.proofs.SquareRound2.{v29, v30, v31, v32, v33, v34, v35, v36, v37, v38, v39, v40, v41, v42, v43, v44, v45, v46, v47, v48, v49, v50, v51, v52, v53, v54, v55, v56, v57, v58, t41, t43, g39, r41, r43}
@@ -34,14 +34,14 @@ k31 = (0, 0, refl)
 pub s31 : Step square_setup (state finished1 2 v30) (state finished1 2 v31)
 s31 = ByLoadRow k31
 
-pub k32 : NoteEver square_setup finished1 2 v31 (state finished1 2 v32)
-k32 = (1, le01, refl)
+pub k32 : LoadFree square_setup finished1 2 v31 (state finished1 2 v32)
+k32 = refl
 
 pub s32 : Step square_setup (state finished1 2 v31) (state finished1 2 v32)
-s32 = ByNoteEver k32
+s32 = ByLoadFree k32
 
 pub k33 : StopStep square_setup finished1 2 v32 (state stopped 2 v33)
-k33 = (refl, 1, 1, refl, refl, row_is, refl)
+k33 = (refl, 1, 1, refl, refl, le00, refl)
 
 pub s33 : Step square_setup (state finished1 2 v32) (state stopped 2 v33)
 s33 = ByStopStep k33
@@ -91,8 +91,11 @@ s42 = ByWorkHad k42
 pub s43 : Step square_setup (state pinned 4 v42) (state pinned 4 v43)
 s43 = ByWorkGoes (3, refl, 1, name1, 0, (node 1 0), (inl ((inr (inr (lt12, refl))), refl)), refl, (inl refl), t43, ((walk_sides square_setup pinned 4 v43 (g39, r43) 3 1 name1 0 t43).0 refl t43).1 refl, refl)
 
+pub k44 : WorkBoth square_setup pinned 4 v43 (state pinned 4 v44)
+k44 = (3, refl, refl, 0, name0, 536870912, t43, (inl refl), ((walk_sides square_setup pinned 4 v43 (g39, r43) 3 1 name1 0 t43).0 refl t43).1 refl, refl)
+
 pub s44 : Step square_setup (state pinned 4 v43) (state pinned 4 v44)
-s44 = ByWorkHad (3, refl, 1, name1, 0, t43, refl, refl, lt01, lt12, refl)
+s44 = ByWorkBoth k44
 
 pub k45 : WorkGives square_setup pinned 4 v44 (state pinned 4 v45)
 k45 = (3, refl, refl, 0, name0, refl, (inr (inl refl)), refl)
@@ -101,19 +104,19 @@ pub s45 : Step square_setup (state pinned 4 v44) (state pinned 4 v45)
 s45 = ByWorkGives k45
 
 pub k46 : WorkOpen square_setup pinned 4 v45 (state pinned 4 v46)
-k46 = (3, refl, refl, (child_place 2 0 t43 true), (square_setup.child name1 true), (inr (inl refl)), (inl (no_head t43 true)), refl)
+k46 = (3, refl, refl, (child_place 2 0 t43 true), (square_setup.child name1 true), inl ((inr (inl refl))), _, _, inl ((inl (no_head t43 true)), refl, refl), refl)
 
 pub s46 : Step square_setup (state pinned 4 v45) (state pinned 4 v46)
 s46 = ByWorkOpen k46
 
 pub s47 : Step square_setup (state pinned 4 v46) (state pinned 4 v47)
-s47 = ByWorkOpen (3, refl, refl, (child_place 2 0 t43 false), (square_setup.child name1 false), (inl refl), (inl (no_head t43 false)), refl)
+s47 = ByWorkOpen (3, refl, refl, (child_place 2 0 t43 false), (square_setup.child name1 false), inl ((inl refl)), _, _, inl ((inl (no_head t43 false)), refl, refl), refl)
 
 pub s48 : Step square_setup (state pinned 4 v47) (state pinned 4 v48)
-s48 = ByWorkOpen (3, refl, refl, (child_place 2 0 t41 true), (square_setup.child name0 true), (inr (inr (inr (inl refl)))), (inl (no_head t41 true)), refl)
+s48 = ByWorkOpen (3, refl, refl, (child_place 2 0 t41 true), (square_setup.child name0 true), inl ((inr (inr (inr (inl refl))))), _, _, inl ((inl (no_head t41 true)), refl, refl), refl)
 
 pub s49 : Step square_setup (state pinned 4 v48) (state pinned 4 v49)
-s49 = ByWorkOpen (3, refl, refl, (child_place 2 0 t41 false), (square_setup.child name0 false), (inr (inr (inl refl))), (inl (no_head t41 false)), refl)
+s49 = ByWorkOpen (3, refl, refl, (child_place 2 0 t41 false), (square_setup.child name0 false), inl ((inr (inr (inl refl)))), _, _, inl ((inl (no_head t41 false)), refl, refl), refl)
 
 pub k50 : RetireStep square_setup pinned 4 v49 (state retired 4 v50)
 k50 = (3, 0, name0, (inl refl), refl, (inl refl), refl, children0, children1, (name0 ∷ name1 ∷ (v49.work 3).open_), newly, refl)

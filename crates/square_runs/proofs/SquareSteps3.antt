@@ -3,7 +3,7 @@ use Rattle.std.proofs.Common.{◌==◌, true, false, [], ◌∷◌, refl, sym, i
 use Rattle.mesh_words.specs.Words.{node}
 use Rattle.square_runs.specs.SquareRun.{square_setup, name0, name1, finished2, unpinned, cut0, cut1, unborn, laid, opened, claimed_again, drawn_again}
 use Rattle.square_runs.proofs.SquareLists.{first_plan, first_aim}
-use Rattle.square_runs.proofs.SquareNotes.{both_clear, clean_blocks, clean_tops, en, le22, lt01, lt02, lt12, lt24, more_hand, ne, one_row, same_below_one}
+use Rattle.square_runs.proofs.SquareNotes.{both_clear, clean_places, en, hand_zero, kept_zero, le11, le22, lt01, lt02, lt12, lt24, ne, none_left, one_laid, one_row, same_below_one}
 use Rattle.mesh_steps.specs.WalkSteps.{LoadHistory}
 use Rattle.mesh_steps.specs.PinSteps.{UnpinStep}
 use Rattle.mesh_steps.specs.OwnerSteps.{NoteClear}
@@ -56,10 +56,10 @@ pub s68 : Step square_setup (state cut1 4 v67) (state cut1 4 v68)
 s68 = ByLoadHead (0, 4, refl)
 
 pub s69 : Step square_setup (state cut1 4 v68) (state cut1 4 v69)
-s69 = ByLoadHead (0, 5, refl)
+s69 = ByLoadCursor (ne 0 1 lt01, refl)
 
 pub k70 : FreeStep square_setup cut1 4 v69 (state cut1 4 v70)
-k70 = (refl, (λ c. c == 0), (0 ∷ []), [], [], refl, (λ c h. inl (2, inl (sym (eqb-true c 0 h), refl), lt02, le22, both_clear)), clean_tops, clean_blocks, more_hand, (λ c h. absurd h), (λ c h. absurd h), (λ c x m h. absurd h), refl)
+k70 = (refl, (λ c. c == 0), (0 ∷ []), [], [], [], (λ c h. inr (2, 0, 2, inl (sym (eqb-true c 0 h), refl), lt02, le22, both_clear, inl (λ i. (eqb-true c 0 h i, 0, 2)), clean_places)), hand_zero, (λ c. ((λ h. absurd h), λ h. absurd h)), kept_zero, none_left, refl)
 
 pub s70 : Step square_setup (state cut1 4 v69) (state cut1 4 v70)
 s70 = ByFreeStep k70
@@ -71,13 +71,13 @@ pub s71 : Step square_setup (state cut1 4 v70) (state unborn 4 v71)
 s71 = ByZeroStep k71
 
 pub k72 : RowStep square_setup unborn 4 v71 (state laid 4 v72)
-k72 = (refl, 0, 0, refl, refl)
+k72 = (refl, 0, 0, refl, (inl lt01), refl)
 
 pub s72 : Step square_setup (state unborn 4 v71) (state laid 4 v72)
 s72 = ByRowStep k72
 
 pub k73 : OpenStep square_setup laid 4 v72 (state opened 4 v73)
-k73 = (refl, 1, (λ _. 0), refl, one_row, (λ i j l m e. same_below_one i j l m), refl)
+k73 = (refl, 1, [], refl, refl, (λ _. le11), (one_row 1 0 []), (λ i j b l m. same_below_one i j l.0 m.0), (one_laid 1 0 []), refl)
 
 pub s73 : Step square_setup (state laid 4 v72) (state opened 4 v73)
 s73 = ByOpenStep k73
@@ -104,7 +104,7 @@ pub s80 : Step square_setup (state opened 5 v79) (state opened 5 v80)
 s80 = ByWorkEnds (4, refl, 1, name1, (node 0 0), (inl ((inl (inl refl)), refl)), (inl refl), refl)
 
 pub s81 : Step square_setup (state opened 5 v80) (state claimed_again 5 v81)
-s81 = ByClaimStep (4, 0, 2, name0, refl, refl, refl, (inr (inl refl)), (inl refl), (inr (inl refl)), (inr (1, 536870912, refl, refl, inl refl, inl refl)), refl)
+s81 = ByClaimStep (4, 0, 2, name0, refl, refl, refl, (inr (inl refl)), (inl refl), (inr (inl refl)), (inr (1, 536870912, refl, refl, inl refl)), refl)
 
 pub s82 : Step square_setup (state claimed_again 5 v81) (state drawn_again 5 v82)
 s82 = ByDrawStep (4, 0, 2, (inl refl), refl, lt01, refl)

@@ -8,13 +8,13 @@ use Rattle.mesh_state.specs.Fresh.{fresh_words, fresh_views}
 use Rattle.mesh_steps.specs.WalkSteps.{LoadBorn}
 use Rattle.mesh_steps.specs.OwnerSteps.{NoteFree}
 use Rattle.mesh_steps.specs.States.{state}
-use Rattle.mesh_steps.specs.Steps.{Step, ByClaimStep, ByDrawStep, ByFillHistory, ByFillName, ByFillDied, ByFillChild, ByLinkFirst, ByLinkSecond, ByPublishStep, ByWorkTop, ByWorkEnds, ByLoadHead, ByLoadBorn, ByLoadRow, ByLoadCursor, ByNoteEver, ByNoteFree, ByNotePlaces, BySplitStep, ByJoinWorker, ByBeginStep, ByPlanStep, ByCloseStep, ByAdvanceStep, ByUnclaimStep, ByStopStep, ByRewindStep, ByRowStep, ByOpenStep}
+use Rattle.mesh_steps.specs.Steps.{Step, ByClaimStep, ByDrawStep, ByFillHistory, ByFillName, ByFillDied, ByFillChild, ByLinkFirst, ByLinkSecond, ByPublishStep, ByWorkTop, ByWorkEnds, ByLoadHead, ByLoadBorn, ByLoadRow, ByLoadCursor, ByLoadFree, ByNoteFree, ByNotePlaces, BySplitStep, ByJoinWorker, ByBeginStep, ByPlanStep, ByCloseStep, ByAdvanceStep, ByUnclaimStep, ByStopStep, ByRewindStep, ByRowStep, ByOpenStep}
 use Rattle.square_runs.specs.SquareRun.{name0, name1}
 use Rattle.square_runs.specs.SquareTwice.{pair_setup, claimed, drawn, history0, history1, undead, named0, named1, child0, child1, child2, child3, linked0, linked1, published, unclaimed, finished1, stopped, rewound, laid, opened}
 use Rattle.square_runs.proofs.SquareLists.{both, first_plan, none_listed, both_stay}
-use Rattle.square_runs.proofs.SquareMoves.{begun, planned, closed, advanced, worker_made, joined, cursor_seen, free_seen, ever_drawn, in_hand, placed_at, claims_at, draws_for, comes_to, unclaims, sure_head, sure_hist, sure_born, sure_died, sure_name, sure_row, found_at, finds_absent, knows}
-use Rattle.square_runs.proofs.SquareNotes.{lt01, lt02, lt12, le01, le11, ne, en, not_less, same_below_one, kids_noted, past_four, old_words, living_claim, three, only_zero, not_living, lt04}
-use Rattle.square_runs.proofs.SquarePair.{pair_first, row_drawn, row_laid, bisects_first}
+use Rattle.square_runs.proofs.SquareMoves.{begun, planned, closed, advanced, worker_made, joined, cursor_seen, free_seen, stopped_at, takes_row, opened_at, placed_at, claims_at, draws_for, comes_to, unclaims, sure_head, sure_hist, sure_born, sure_died, sure_name, sure_row, found_at, finds_absent, knows}
+use Rattle.square_runs.proofs.SquareNotes.{lt01, lt02, lt12, le00, le11, one_row, one_laid, ne, en, not_less, same_below_one, kids_noted, past_four, old_words, living_claim, three, only_zero, not_living, lt04}
+use Rattle.square_runs.proofs.SquarePair.{pair_first, bisects_first}
 
 abbrev pub u0 : Views
 u0 = fresh_views 2
@@ -60,7 +60,7 @@ abbrev pub u7 : Views
 u7 = claims_at 1 0 2 u6
 
 pub s7 : Step pair_setup (state (fresh_words 2) 2 u6) (state claimed 2 u7)
-s7 = ByClaimStep (1, 0, 2, name0, refl, refl, refl, inr (inl refl), inl refl, inr (inl refl), inr (1, 536870912, refl, refl, inl refl, inl refl), refl)
+s7 = ByClaimStep (1, 0, 2, name0, refl, refl, refl, inr (inl refl), inl refl, inr (inl refl), inr (1, 536870912, refl, refl, inl refl), refl)
 
 abbrev pub u8 : Views
 u8 = draws_for 1 0 0 0 u7
@@ -177,7 +177,7 @@ pub s26 : Step pair_setup (state published 2 u25) (state published 2 u26)
 s26 = ByNotePlaces (0, 0, 2, inl refl, refl)
 
 abbrev pub u27 : Views
-u27 = unclaims 0 u26
+u27 = unclaims 0 2 (Living 0) u26
 
 pub s27 : Step pair_setup (state published 2 u26) (state unclaimed 2 u27)
 s27 = ByUnclaimStep (three, not_less, 0, 2, Living 0, inl refl, only_zero, not_living, refl)
@@ -202,13 +202,13 @@ pub s30 : Step pair_setup (state finished1 2 u29) (state finished1 2 u30)
 s30 = ByLoadRow (0, 1, refl)
 
 abbrev pub u31 : Views
-u31 = in_hand 1 u30
+u31 = sure_born 0 1 0 u30
 
-pub k31 : NoteFree pair_setup finished1 2 u30 (state finished1 2 u31)
-k31 = (1, 1, 1, 2, ne 0 1 lt01, refl, refl, refl, le11, lt12, inl (refl, refl), refl)
+pub k31 : LoadBorn pair_setup finished1 2 u30 (state finished1 2 u31)
+k31 = (0, 1, refl)
 
 pub s31 : Step pair_setup (state finished1 2 u30) (state finished1 2 u31)
-s31 = ByNoteFree k31
+s31 = ByLoadBorn k31
 
 abbrev pub u32 : Views
 u32 = sure_row 0 0 0 u31
@@ -217,16 +217,16 @@ pub s32 : Step pair_setup (state finished1 2 u31) (state finished1 2 u32)
 s32 = ByLoadRow (0, 0, refl)
 
 abbrev pub u33 : Views
-u33 = ever_drawn 1 u32
+u33 = free_seen 2 u32
 
 pub s33 : Step pair_setup (state finished1 2 u32) (state finished1 2 u33)
-s33 = ByNoteEver (1, le01, refl)
+s33 = ByLoadFree refl
 
 abbrev pub u34 : Views
-u34 = free_seen 0 u33
+u34 = stopped_at 1 2 u33
 
 pub s34 : Step pair_setup (state finished1 2 u33) (state stopped 2 u34)
-s34 = ByStopStep (refl, 2, 1, refl, refl, row_drawn, refl)
+s34 = ByStopStep (refl, 2, 1, refl, refl, le00, refl)
 
 abbrev pub u35 : Views
 u35 = cursor_seen 0 u34
@@ -235,22 +235,22 @@ pub s35 : Step pair_setup (state stopped 2 u34) (state rewound 2 u35)
 s35 = ByRewindStep (refl, refl, refl)
 
 abbrev pub u36 : Views
-u36 = sure_born 0 1 0 u35
+u36 = takes_row 1 1 u35
 
-pub k36 : LoadBorn pair_setup rewound 2 u35 (state rewound 2 u36)
-k36 = (0, 1, refl)
+pub k36 : NoteFree pair_setup rewound 2 u35 (state rewound 2 u36)
+k36 = (1, 1, refl, le11, refl, inr (ne 0 1 lt01, inl (refl, refl)), refl)
 
 pub s36 : Step pair_setup (state rewound 2 u35) (state rewound 2 u36)
-s36 = ByLoadBorn k36
+s36 = ByNoteFree k36
 
 abbrev pub u37 : Views
 u37 = sure_row 0 0 1 u36
 
 pub s37 : Step pair_setup (state rewound 2 u36) (state laid 2 u37)
-s37 = ByRowStep (refl, 0, 1, refl, refl)
+s37 = ByRowStep (refl, 0, 1, refl, inl lt01, refl)
 
 abbrev pub u38 : Views
-u38 = free_seen 1 u37
+u38 = opened_at 1 u37
 
 pub s38 : Step pair_setup (state laid 2 u37) (state opened 2 u38)
-s38 = ByOpenStep (refl, 1, (λ _. 1), refl, row_laid, (λ i k l m e. same_below_one i k l m), refl)
+s38 = ByOpenStep (refl, 1, [], refl, refl, (λ _. le11), one_row 1 1 ((0, 0) ∷ (1, 1) ∷ []), (λ i k b l m. same_below_one i k l.0 m.0), one_laid 1 1 ((0, 0) ∷ (1, 1) ∷ []), refl)

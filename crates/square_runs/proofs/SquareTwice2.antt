@@ -68,25 +68,25 @@ abbrev pub u47 : Views
 u47 = opens 2 (pair_setup.child name1 true) u46
 
 pub s47 : Step pair_setup (state opened 3 u46) (state opened 3 u47)
-s47 = ByWorkOpen (2, refl, refl, child_place 2 0 true true, pair_setup.child name1 true, inr (inl refl), inl refl, refl)
+s47 = ByWorkOpen (2, refl, refl, child_place 2 0 true true, pair_setup.child name1 true, inl (inr (inl refl)), _, _, inl (inl refl, refl, refl), refl)
 
 abbrev pub u48 : Views
 u48 = opens 2 (pair_setup.child name1 false) u47
 
 pub s48 : Step pair_setup (state opened 3 u47) (state opened 3 u48)
-s48 = ByWorkOpen (2, refl, refl, child_place 2 0 true false, pair_setup.child name1 false, inl refl, inl refl, refl)
+s48 = ByWorkOpen (2, refl, refl, child_place 2 0 true false, pair_setup.child name1 false, inl (inl refl), _, _, inl (inl refl, refl, refl), refl)
 
 abbrev pub u49 : Views
 u49 = opens 2 (pair_setup.child name0 true) u48
 
 pub s49 : Step pair_setup (state opened 3 u48) (state opened 3 u49)
-s49 = ByWorkOpen (2, refl, refl, child_place 2 0 false true, pair_setup.child name0 true, inr (inr (inr (inl refl))), inl refl, refl)
+s49 = ByWorkOpen (2, refl, refl, child_place 2 0 false true, pair_setup.child name0 true, inl (inr (inr (inr (inl refl)))), _, _, inl (inl refl, refl, refl), refl)
 
 abbrev pub u50 : Views
 u50 = opens 2 (pair_setup.child name0 false) u49
 
 pub s50 : Step pair_setup (state opened 3 u49) (state opened 3 u50)
-s50 = ByWorkOpen (2, refl, refl, child_place 2 0 false false, pair_setup.child name0 false, inr (inr (inl refl)), inl refl, refl)
+s50 = ByWorkOpen (2, refl, refl, child_place 2 0 false false, pair_setup.child name0 false, inl (inr (inr (inl refl))), _, _, inl (inl refl, refl, refl), refl)
 
 abbrev pub u51 : Views
 u51 = retires 2 0 (name0 ∷ name1 ∷ open4) u50

@@ -70,7 +70,7 @@ abbrev pub u78 : Views
 u78 = claims_at 5 0 2 u77
 
 pub s78 : Step pair_setup (state pinned 7 u77) (state claimed_again 7 u78)
-s78 = ByClaimStep (5, 0, 2, name0, refl, refl, refl, inr (inl refl), inl refl, inr (inl refl), inr (1, 536870912, refl, refl, inl refl, inl refl), refl)
+s78 = ByClaimStep (5, 0, 2, name0, refl, refl, refl, inr (inl refl), inl refl, inr (inl refl), inr (1, 536870912, refl, refl, inl refl), refl)
 
 abbrev pub u79 : Views
 u79 = draws_for 5 0 0 1 u78
@@ -175,7 +175,7 @@ abbrev pub u95 : Views
 u95 = passes_by 6 0 name0 1 false u94
 
 pub k95 : WorkPasses pair_setup linked3 7 u94 (state linked3 7 u95)
-k95 = (6, refl, 0, name0, 1, false, refl, inl refl, refl)
+k95 = (6, refl, 0, name0, 1, false, refl, inl refl, _, inl refl, refl)
 
 pub s95 : Step pair_setup (state linked3 7 u94) (state linked3 7 u95)
 s95 = ByWorkPasses k95
@@ -259,7 +259,7 @@ pub s107 : Step pair_setup (state published_again 7 u106) (state published_again
 s107 = ByNotePlaces (1, 0, 2, inl refl, refl)
 
 abbrev pub u108 : Views
-u108 = unclaims 0 u107
+u108 = unclaims 0 2 (Living 1) u107
 
 pub s108 : Step pair_setup (state published_again 7 u107) (state unclaimed_again 7 u108)
 s108 = ByUnclaimStep (three, not_less, 0, 2, Living 1, inl refl, only_one, again_not, refl)
@@ -317,7 +317,7 @@ abbrev pub u117 : Views
 u117 = sure_hist 0 (member_of 1 false) (node 0 0) u116
 
 pub k117 : CutHistory pair_setup finished3 7 u116 (state cut0 7 u117)
-k117 = (refl, 1, 0, 2, 0, 0, 2, 0, 2, false, false, node 0 0, inr (en 3 2 (omega arith), inl (refl, refl)), inl (refl, refl), inr (en 3 0 (omega arith), inr (en 2 0 (omega arith), inr (en 1 0 (omega arith), inl (refl, refl)))), lt02, both_clear, inl refl, refl, inr (inl refl), (λ h. h), refl, refl)
+k117 = (refl, 1, 0, 2, 0, 0, 2, 0, 2, false, false, node 0 0, inr (en 3 2 (omega arith), inl (refl, refl)), inl (refl, refl), inr (en 3 0 (omega arith), inr (en 2 0 (omega arith), inr (en 1 0 (omega arith), inl (refl, refl)))), lt02, both_clear, inl refl, refl, inr (inr (inl refl)), (λ h. h), refl, refl)
 
 pub s117 : Step pair_setup (state finished3 7 u116) (state cut0 7 u117)
 s117 = ByCutHistory k117
@@ -326,4 +326,4 @@ abbrev pub u118 : Views
 u118 = sure_hist 0 (member_of 1 true) (node 0 0) u117
 
 pub s118 : Step pair_setup (state cut0 7 u117) (state cut1 7 u118)
-s118 = ByCutHistory (refl, 1, 0, 2, 1, 0, 2, 0, 2, true, true, node 0 0, inr (ne 2 3 (omega arith), inl (refl, refl)), inl (refl, refl), inr (en 2 1 (omega arith), inr (en 3 1 (omega arith), inr (en 2 1 (omega arith), inl (refl, refl)))), lt02, both_clear, inl refl, refl, inr (inl refl), (λ h. h), refl, refl)
+s118 = ByCutHistory (refl, 1, 0, 2, 1, 0, 2, 0, 2, true, true, node 0 0, inr (ne 2 3 (omega arith), inl (refl, refl)), inl (refl, refl), inr (en 2 1 (omega arith), inr (en 3 1 (omega arith), inr (en 2 1 (omega arith), inl (refl, refl)))), lt02, both_clear, inl refl, refl, inr (inr (inl refl)), (λ h. h), refl, refl)

@@ -4,13 +4,13 @@ use Rattle.mesh_words.specs.Functions.{update}
 use Rattle.mesh_words.specs.Places.{child_place}
 use Rattle.mesh_words.specs.Views.{Views, Still, At, unread, unsure}
 use Rattle.mesh_words.specs.Words.{node}
-use Rattle.mesh_state.specs.Fresh.{fresh_words, fresh_views}
+use Rattle.mesh_state.specs.Fresh.{fresh_words, fresh_views, idle}
 use Rattle.mesh_steps.specs.PinSteps.{ReadEnds, ReadGoes, ReadFinds}
 use Rattle.mesh_steps.specs.OwnerSteps.{JoinReader}
 use Rattle.mesh_steps.specs.States.{State, state}
 use Rattle.mesh_steps.specs.Steps.{Run, Step, ByReadGoes, ByReadFinds, ByReadEnds, ByUnpinStep, ByJoinReader}
 use Rattle.square_runs.specs.SquareRun.{square_setup, name0, SquareVisits, claimed, drawn, history0, history1, undead, named0, named1, child0, child1, child2, child3, linked0, linked1, published, unclaimed, finished1, stopped, rewound, pinned, given_back}
-use Rattle.square_runs.proofs.SquareNotes.{en, le11, lt01, lt02}
+use Rattle.square_runs.proofs.SquareNotes.{le11, en, le11, lt01, lt02}
 use Rattle.square_runs.proofs.SquareRound1.{v1, v2, v3, v4, v5, v6, v7, v8, v9, v10, v11, v12, v13, v14, v15, v16, v17, v18, v19, v20, v21, v22, v23, v24, v25, v26, v27, v28}
 use Rattle.square_runs.proofs.SquareSteps1.{s1, s2, s3, s4, s5, s6, s7, s8, s9, s10, s11, s12, s13, s14, s15, s16, s17, s18, s19, s20, s21, s22, s23, s24, s25, s26, s27, s28}
 use Rattle.square_runs.proofs.SquareRound2.{v29, v30, v31, v32, v33, v34, v35, v36, v37}
@@ -50,10 +50,10 @@ s41 : Step square_setup (state pinned 3 u40) (state given_back 3 u41)
 s41 = ByUnpinStep (2, 1, refl, refl, refl)
 
 abbrev pub u42 : Views
-u42 = record u41 { kind = update u41.kind 2 0; sure = update u41.sure 2 unsure; read = update (update u41.read 0 (record (u41.read 0) { notes = (u41.read 0).notes ++ (u41.read 2).notes })) 2 unread; ruling = record u41.ruling { readers = 0 } }
+u42 = record u41 { kind = update u41.kind 2 0; claims = update u41.claims 2 []; work = update u41.work 2 idle; sure = update u41.sure 2 unsure; read = update (update u41.read 0 (record (u41.read 0) { notes = (u41.read 0).notes ++ (u41.read 2).notes })) 2 unread; ruling = record u41.ruling { readers = 0; early = 0 } }
 
 pub k42 : JoinReader square_setup given_back 3 u41 (state given_back 3 u42)
-k42 = (2, en 2 0 lt02, refl, refl, 0, refl, refl)
+k42 = (2, en 2 0 lt02, refl, refl, 0, 0, refl, inr (le11, refl), refl)
 
 s42 : Step square_setup (state given_back 3 u41) (state given_back 3 u42)
 s42 = ByJoinReader k42

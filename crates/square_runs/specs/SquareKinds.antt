@@ -6,9 +6,9 @@ use Rattle.mesh_words.specs.Setup.{Setup, setup_of}
 use Rattle.mesh_words.specs.Views.{worker, Views}
 use Rattle.mesh_state.specs.Fresh.{fresh_words, fresh_views}
 use Rattle.mesh_steps.specs.WorkSteps.{ClaimStep, DrawStep, FullStep, FillHistory, FillName, FillDied, FillChild, LinkFirst, LinkSecond, PublishStep, RetireStep, RetiredStep}
-use Rattle.mesh_steps.specs.WalkSteps.{WorkTop, WorkEnds, WorkGoes, WorkFinds, WorkHad, WorkPasses, WorkGives, WorkDead, WorkOpen, LoadHead, LoadHistory, LoadBorn, LoadDied, LoadName, LoadRow}
+use Rattle.mesh_steps.specs.WalkSteps.{WorkTop, WorkEnds, WorkGoes, WorkFinds, WorkHad, WorkBoth, WorkPasses, WorkGives, WorkDead, WorkOpen, LoadHead, LoadHistory, LoadBorn, LoadDied, LoadName, LoadRow}
 use Rattle.mesh_steps.specs.PinSteps.{LoadRound, PinStep, UnpinStep, ReadEnds, ReadGoes, ReadFinds, ReadPasses}
-use Rattle.mesh_steps.specs.OwnerSteps.{NoteClear, LoadCursor, LoadFree, NoteEver, NoteFree, LoadReleased, NoteQuiet, NotePlaces, SplitStep, JoinWorker, JoinReader, BeginStep, PlanStep, CloseStep, RefuseStep, RestoreStep, AdvanceStep}
+use Rattle.mesh_steps.specs.OwnerSteps.{NoteClear, LoadCursor, LoadFree, NoteFree, LoadReleased, NoteQuiet, NotePlaces, SplitStep, JoinWorker, JoinReader, BeginStep, PlanStep, CloseStep, RefuseStep, RestoreStep, AdvanceStep}
 use Rattle.mesh_steps.specs.SweepSteps.{StampStep, UnclaimStep, CutLink, CutHistory, FreeStep, ZeroStep, StopStep, RewindStep, RowStep, OpenStep, UnbearStep, UnlinkSecond, UnlinkFirst, BuryStep, UndrawStep}
 use Rattle.mesh_steps.specs.States.{Kind, State, state, IsLawful}
 use Rattle.mesh_steps.specs.Steps.{Run, Step}
@@ -66,6 +66,7 @@ pub record KindsOccur : Type 0 where
   pub work_goes : Occurs 1 WorkGoes
   pub work_finds : Occurs 2 WorkFinds
   pub work_had : Occurs 1 WorkHad
+  pub work_both : Occurs 1 WorkBoth
   pub work_passes : Occurs 2 WorkPasses
   pub work_gives : Occurs 1 WorkGives
   pub work_dead : Occurs 2 WorkDead
@@ -86,7 +87,6 @@ pub record KindsOccur : Type 0 where
   pub note_clear : Occurs 1 NoteClear
   pub load_cursor : Occurs 1 LoadCursor
   pub load_free : Occurs 1 LoadFree
-  pub note_ever : Occurs 1 NoteEver
   pub note_free : Occurs 2 NoteFree
   pub load_released : Occurs 1 LoadReleased
   pub note_quiet : Occurs 1 NoteQuiet

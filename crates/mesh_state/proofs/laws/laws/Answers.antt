@@ -3,6 +3,7 @@ use Rattle.mesh_state.proofs.ClaimLaws.{bits_claimed, second_places, stages_view
 use Rattle.mesh_state.proofs.RoundLaws.{living_aimed, between, differs, closed, aimed, lists_known, history_right, told_prefix, notes_told, draws_apart, claims_drawn, quiet_round, walks_begin, chains_stand, standing_kept, rounds_left, worker_alone}
 use Rattle.mesh_state.proofs.SeatLaws.{begins_equal, living_claimed, living_blocks, findings_right, finished_findings, workers_went, one_half, filled_stays, loaded_stays, owner_sure, pins_counted, link_words, history_words, retired_noted, pins_out, numbers_known, blocks_known, others_empty, passes_counted}
 use Rattle.mesh_state.proofs.TableLaws.{blocks_in_pool, blocks_viewed, places_in_table, chains_named, elements_named, walk_sides, claims_listed_once}
+use Rattle.mesh_state.proofs.OwnerLaws.{dead_noted, free_found, stock_rows, blocks_noted, kept_exact, noted_kinds, walked_noted, early_pins, blocks_counted, patches_counted}
 use Rattle.mesh_state.proofs.FreshList.{fresh_from_list}
 use Rattle.mesh_state.proofs.Fresh.{fresh_is_lawful}
 use Rattle.mesh_state.proofs.laws.laws.Goals as goal
@@ -216,3 +217,33 @@ returns-clause-others c = others_empty
 
 pub returns-clause-passes : goal.returns-clause-passes
 returns-clause-passes c = passes_counted
+
+pub returns-clause-frees : goal.returns-clause-frees
+returns-clause-frees c = free_found
+
+pub returns-clause-stock : goal.returns-clause-stock
+returns-clause-stock c = stock_rows
+
+pub returns-clause-blocks_noted : goal.returns-clause-blocks_noted
+returns-clause-blocks_noted c = blocks_noted
+
+pub returns-clause-kept : goal.returns-clause-kept
+returns-clause-kept c = kept_exact
+
+pub returns-clause-kinds : goal.returns-clause-kinds
+returns-clause-kinds c = noted_kinds
+
+pub returns-clause-walked : goal.returns-clause-walked
+returns-clause-walked c = walked_noted
+
+pub returns-clause-early : goal.returns-clause-early
+returns-clause-early c = early_pins
+
+pub returns-clause-count : goal.returns-clause-count
+returns-clause-count c = blocks_counted
+
+pub returns-clause-patches : goal.returns-clause-patches
+returns-clause-patches c = patches_counted
+
+pub returns-clause-dead : goal.returns-clause-dead
+returns-clause-dead c = dead_noted

@@ -2,7 +2,8 @@ use Rattle.mesh_steps.proofs.StepsKeep.{next_named, steps_keep}
 use Rattle.mesh_steps.proofs.Local.{steps_local}
 use Rattle.mesh_steps.proofs.Reuse.{steps_spare}
 use Rattle.mesh_steps.proofs.Onward.{workers_go_on, readers_go_on, pins_go_on, ready_below, pins_fit, passes_made, passes_joined, claims_go_on, singles_go_on, claims_go_back}
-use Rattle.mesh_steps.proofs.OnwardRounds.{loads_go_on, fills_go_on, retiring_goes_on, rounds_go_on, notes_go_on, rows_go_on}
+use Rattle.mesh_steps.proofs.OnwardRounds.{loads_go_on, fills_go_on, retiring_goes_on, rounds_go_on, notes_go_on, rows_go_on, grown_goes_on}
+use Rattle.mesh_steps.proofs.OnwardSweeps.{sweeps_go_on}
 use Rattle.mesh_steps.proofs.laws.laws.Goals as goal
 
 pub returns-clause-next : goal.returns-clause-next
@@ -64,3 +65,9 @@ returns-clause-ready c = ready_below
 
 pub returns-clause-fit : goal.returns-clause-fit
 returns-clause-fit c = pins_fit
+
+pub returns-clause-grown : goal.returns-clause-grown
+returns-clause-grown c = grown_goes_on
+
+pub returns-clause-sweeps : goal.returns-clause-sweeps
+returns-clause-sweeps c = sweeps_go_on
