@@ -11,7 +11,7 @@ use Rattle.mesh_words.specs.Entries.{HasEntry}
 use Rattle.mesh_words.specs.NameWords.{name_code}
 use Rattle.mesh_words.specs.Setup.{setup_of}
 use Rattle.mesh_words.specs.Words.{Node, Words}
-use Rattle.mesh_words.specs.Views.{Views}
+use Rattle.mesh_words.specs.Views.{Views, Resting, Closing, RollingBack, Precedes, order}
 use Rattle.mesh_state.specs.Owner.{InRows}
 use Rattle.mesh_state.specs.Rule.{Lawful}
 use Rattle.mesh_words.proofs.CodedNames.{code_one}
@@ -27,6 +27,7 @@ use Rattle.mesh_state.proofs.HeldClaims.{free_not, loose_not}
 use Rattle.mesh_state.proofs.RoundLaws.{differs}
 use Rattle.mesh_reading.proofs.Reading.{walk_chain, chain_of_place, stands_place, words_read}
 use Rattle.mesh_reading.proofs.RoundForests.{bisected_coded, coded_set, kept_forests, least_when_needed, reads_forests}
+use Rattle.mesh_words.proofs.SeatKinds.{phase_discrete, past_resting}
 
 -- the entries of a list at which a function is not 0
 bisected_of : (list : List ℕ) (who : ℕ → ℕ) → (out : List ℕ) × ((k : ℕ) → (HasEntry out k → HasEntry list k × Holds who k) × (HasEntry list k → Holds who k → HasEntry out k))
@@ -41,8 +42,8 @@ bisected_of (a ∷ list) who = let rest = bisected_of list who in dite (ℕ_disc
 pub readable_forests : ReadableForests
 readable_forests mesh across l passes tells w n v (g, r) q may = ⊎_elim (λ k. kept_forests mesh across l passes tells w n v (g, r) q k) (λ e. subst (λ (i : ℕ). (members : Names) × AreCodes members (Holds (g.who i)) × IsForest mesh members × Conforms mesh members) (sym e.0) (work e.1)) may
   where
-    work : v.ruling.phase < 4 → (members : Names) × AreCodes members (Holds (g.who (w.round + 1))) × IsForest mesh members × Conforms mesh members
-    work low = dite (ℕ_discrete v.ruling.phase 0) fresh begun
+    work : Precedes v.ruling.phase RollingBack → (members : Names) × AreCodes members (Holds (g.who (w.round + 1))) × IsForest mesh members × Conforms mesh members
+    work low = dite (phase_discrete v.ruling.phase Resting) fresh begun
       where
         at : MayRead w.round v.ruling.phase v.read (w.round + 1)
         at = inr (refl, low)
@@ -51,7 +52,7 @@ readable_forests mesh across l passes tells w n v (g, r) q may = ⊎_elim (λ k.
         with_codes members codes = let f = reads_forests mesh across l passes tells w n v (g, r) (w.round + 1) at members codes in (members, codes, f.0, f.1)
 
         -- before the round its names are the last finished round's
-        fresh : v.ruling.phase ≡ 0 → (members : Names) × AreCodes members (Holds (g.who (w.round + 1))) × IsForest mesh members × Conforms mesh members
+        fresh : v.ruling.phase ≡ Resting → (members : Names) × AreCodes members (Holds (g.who (w.round + 1))) × IsForest mesh members × Conforms mesh members
         fresh z = let k = kept_forests mesh across l passes tells w n v (g, r) w.round (inl refl) in with_codes k.0 record {
           low = k.1.low;
           codes = λ m h. let t = k.1.codes m h in (t.0, r.names.fresh (name_code m) z ∙ t.1);
@@ -59,11 +60,11 @@ readable_forests mesh across l passes tells w n v (g, r) q may = ⊎_elim (λ k.
         }
 
         -- from the first half on they are of the target
-        begun : (v.ruling.phase ≡ 0 → ⊥) → (members : Names) × AreCodes members (Holds (g.who (w.round + 1))) × IsForest mesh members × Conforms mesh members
+        begun : (v.ruling.phase ≡ Resting → ⊥) → (members : Names) × AreCodes members (Holds (g.who (w.round + 1))) × IsForest mesh members × Conforms mesh members
         begun o = with_codes set.0 record {
           low = set.1.low;
           codes = λ m h. ((part.1 (name_code m)).0 (set.1.codes m h)).1;
-          names_of = λ i h. set.1.names_of i ((part.1 i).1 (r.plan.within i (omega arith) low h) h);
+          names_of = λ i h. set.1.names_of i ((part.1 i).1 (r.plan.within i (past_resting v.ruling.phase o) low h) h);
         }
           where
             part : (out : List ℕ) × ((k : ℕ) → (HasEntry out k → HasEntry v.ruling.plan.target k × Holds (g.who (w.round + 1)) k) × (HasEntry v.ruling.plan.target k → Holds (g.who (w.round + 1)) k → HasEntry out k))
@@ -99,7 +100,7 @@ read_codes mesh across l passes tells w n v k q may members same = record {
 
 pub least_read : LeastRead
 least_read mesh across l passes tells w n v (g, r) one asked old needs new so cn sn =
-    let may : MayRead w.round v.ruling.phase v.read (w.round + 1) = inr (refl, omega arith) in
+    let may : MayRead w.round v.ruling.phase v.read (w.round + 1) = inr (refl, omega (arith, ap order one)) in
     least_when_needed mesh across l passes tells w n v (g, r) one
     (λ k h. let t = cn.names_of k h in let u = asked t.0 (cn.low t.0 t.1) (subst (HasEntry v.ruling.plan.needs) t.2 h) in (u.1, ap (g.who (w.round + 1)) t.2 ∙ ((words_read mesh across l passes tells w n v (g, r) (w.round + 1) may t.0 u.1).1 (u.0, u.2, u.3)).1))
     old needs new (read_codes mesh across l passes tells w n v (g, r) w.round (inl (inl refl)) old so) cn (read_codes mesh across l passes tells w n v (g, r) (w.round + 1) may new sn)
@@ -128,8 +129,8 @@ reads_closing mesh across l passes tells w n v lawful closed m = (
 )
   where
     words : (b : ℕ) → ((depth m ≤ 24) × (lawful.0.who (w.round + 1) (name_code m) ≡ b + 1)) ↔ ((x : ℕ) × StandsAt w l.elements (w.round + 1) m.0 m.1 x × Bisects w (w.round + 1) x (name_code m) b)
-    words b = words_read mesh across l passes tells w n v lawful (w.round + 1) (inr (refl, omega (arith, closed))) m b
+    words b = words_read mesh across l passes tells w n v lawful (w.round + 1) (inr (refl, omega (arith, ap order closed))) m b
 
     target : (Holds (lawful.0.who (w.round + 1)) (name_code m) → HasEntry v.ruling.plan.target (name_code m)) × (HasEntry v.ruling.plan.target (name_code m) → Holds (lawful.0.who (w.round + 1)) (name_code m) ⊎ IsListed (setup_of mesh across l passes) v.ruling.plan.retire (name_code m))
-        × (v.ruling.phase ≡ 3 → IsListed (setup_of mesh across l passes) v.ruling.plan.retire (name_code m) → Holds (lawful.0.who (w.round + 1)) (name_code m) → ⊥)
+        × (v.ruling.phase ≡ Closing → IsListed (setup_of mesh across l passes) v.ruling.plan.retire (name_code m) → Holds (lawful.0.who (w.round + 1)) (name_code m) → ⊥)
     target = differs (setup_of mesh across l passes) w n v lawful (inr closed) (name_code m)

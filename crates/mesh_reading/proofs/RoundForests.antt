@@ -21,7 +21,7 @@ use Rattle.mesh_words.specs.Entries.{HasEntry, EntryAt}
 use Rattle.mesh_words.specs.NameWords.{name_code, name_word, name_in}
 use Rattle.mesh_words.specs.Places.{member_of}
 use Rattle.mesh_words.specs.Setup.{Setup, is_code, child_code, owner_code, partner_code, setup_of}
-use Rattle.mesh_words.specs.Views.{Plan, Views}
+use Rattle.mesh_words.specs.Views.{Plan, Views, FirstHalf, order}
 use Rattle.mesh_words.specs.Words.{Words}
 use Rattle.mesh_words.proofs.CodedNames.{both, both_true, code_one, of_code, child_is, far_not, child_low, mate_is, partner_low}
 use Rattle.mesh_words.proofs.NameCodes.{code_back}
@@ -204,18 +204,18 @@ module _ (mesh : Shape) (across : Across) (l : Layout) (passes : ℕ) (tells : T
     pub reads : (q : ℕ) → MayRead w.round v.ruling.phase v.read q → (members : Names) → AreCodes members (Holds (g.who q)) → IsForest mesh members × Conforms mesh members
     reads q may members codes = let valid = bisected_code q may in let closed = bisected_closed s w n v g r q may in (closed_forest members (Holds (g.who q)) codes valid closed, closed_conforms members (Holds (g.who q)) codes valid closed)
 
-    pub needed : v.ruling.phase ≡ 1 → ((k : ℕ) → HasEntry v.ruling.plan.needs k → Holds (g.who (w.round + 1)) k)
+    pub needed : v.ruling.phase ≡ FirstHalf → ((k : ℕ) → HasEntry v.ruling.plan.needs k → Holds (g.who (w.round + 1)) k)
         → (old needs new : Names) → AreCodes old (Holds (g.who w.round)) → AreCodes needs (HasEntry v.ruling.plan.needs) → AreCodes new (Holds (g.who (w.round + 1))) → IsLeast mesh old needs new
-    needed one all old needs new co cn cw = let f = reads (w.round + 1) (inr (refl, omega arith)) new cw in record {
+    needed one all old needs new co cn cw = let f = reads (w.round + 1) (inr (refl, omega (arith, ap order one))) new cw in record {
       forest = f.0;
       conforms = f.1;
-      holds_old = λ m h. let k = co.codes m h in back_to new (Holds (g.who (w.round + 1))) cw m (co.low m h) (k.0, r.names.grows (name_code m) k.0 (omega arith) k.1);
+      holds_old = λ m h. let k = co.codes m h in back_to new (Holds (g.who (w.round + 1))) cw m (co.low m h) (k.0, r.names.grows (name_code m) k.0 (omega (arith, ap order one)) k.1);
       holds_needs = λ m h. back_to new (Holds (g.who (w.round + 1))) cw m (cn.low m h) (all (name_code m) (cn.codes m h));
       least = λ other forest conforms olds asked m h.
-          let t = (r.plan.aim (omega arith) (omega arith)).least (held other forest conforms) (held_closed other forest conforms)
+          let t = (r.plan.aim (omega (arith, ap order one)) (omega (arith, ap order one))).least (held other forest conforms) (held_closed other forest conforms)
           (λ k o. let c = co.names_of k o in subst (Holds (held other forest conforms)) (sym c.2) ((held_codes other forest conforms).codes c.0 (olds c.0 c.1)))
           (λ k o. let c = cn.names_of k o in subst (Holds (held other forest conforms)) (sym c.2) ((held_codes other forest conforms).codes c.0 (asked c.0 c.1)))
-          (name_code m) (r.plan.within (name_code m) (omega arith) (omega arith) (cw.codes m h)) in
+          (name_code m) (r.plan.within (name_code m) (omega (arith, ap order one)) (omega (arith, ap order one)) (cw.codes m h)) in
           subst (Has other) (code_back m (cw.low m h)) (of_held other forest conforms (name_code m) t).0;
     }
 

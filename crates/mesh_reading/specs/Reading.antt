@@ -10,7 +10,7 @@ use Rattle.mesh_words.specs.Entries.{HasEntry, EntryAt}
 use Rattle.mesh_words.specs.NameWords.{name_code}
 use Rattle.mesh_words.specs.Places.{member_of, child_place}
 use Rattle.mesh_words.specs.Setup.{setup_of}
-use Rattle.mesh_words.specs.Views.{first_half, closing, Views}
+use Rattle.mesh_words.specs.Views.{FirstHalf, Closing, Views}
 use Rattle.mesh_words.specs.Words.{Node, Words}
 use Rattle.mesh_state.specs.Owner.{InRows}
 use Rattle.mesh_state.specs.Bisections.{IsKept, MayRead}
@@ -68,12 +68,12 @@ ReadsForest = OverTables (λ mesh e w v. (q : ℕ) → MayRead w.round v.ruling.
 
 -- the law that in the first half, once the names that the round needs are read, the names read at the round in work are the least forest that holds these and the last finished round's
 abbrev pub LeastRead : Type 0
-LeastRead = OverTables (λ mesh e w v. v.ruling.phase ≡ first_half → ((n : Name) → depth n ≤ 24 → HasEntry v.ruling.plan.needs (name_code n) → IsRead w e (w.round + 1) n)
+LeastRead = OverTables (λ mesh e w v. v.ruling.phase ≡ FirstHalf → ((n : Name) → depth n ≤ 24 → HasEntry v.ruling.plan.needs (name_code n) → IsRead w e (w.round + 1) n)
     → (old needs new : Names) → ((n : Name) → Has old n ↔ IsRead w e w.round n) → AreCodes needs (HasEntry v.ruling.plan.needs) → ((n : Name) → Has new n ↔ IsRead w e (w.round + 1) n) → IsLeast mesh old needs new)
 
 -- the law that while the round is closed the names read at the round in work are the target's, but for the patches of the retire list
 abbrev pub ReadsClosing : Type 0
-ReadsClosing = (mesh : Shape) (across : Across) (l : Layout) (passes : ℕ) → Tells mesh across → (w : Words) (n : ℕ) (v : Views) → Lawful (setup_of mesh across l passes) w n v → v.ruling.phase ≡ closing
+ReadsClosing = (mesh : Shape) (across : Across) (l : Layout) (passes : ℕ) → Tells mesh across → (w : Words) (n : ℕ) (v : Views) → Lawful (setup_of mesh across l passes) w n v → v.ruling.phase ≡ Closing
     → (name : Name) → IsRead w l.elements (w.round + 1) name ↔ ((depth name ≤ 24) × HasEntry v.ruling.plan.target (name_code name) × (IsListed (setup_of mesh across l passes) v.ruling.plan.retire (name_code name) → ⊥))
 
 -- the law that a block to which a walk goes at a round that may be read is in no free row, not free in the owner's hand or stock, and of no claim that may fill its words; and its last round is above the round, where this is a finished one

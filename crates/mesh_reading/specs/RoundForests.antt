@@ -11,7 +11,7 @@ use Rattle.mesh_words.specs.declared.layout.Layout.{Layout}
 use Rattle.mesh_words.specs.Entries.{HasEntry}
 use Rattle.mesh_words.specs.NameWords.{name_code}
 use Rattle.mesh_words.specs.Setup.{setup_of}
-use Rattle.mesh_words.specs.Views.{first_half, Plan, Views}
+use Rattle.mesh_words.specs.Views.{FirstHalf, Plan, Views}
 use Rattle.mesh_words.specs.Words.{Words}
 use Rattle.mesh_state.specs.Bisections.{IsKept, MayRead}
 use Rattle.mesh_state.specs.Lists.{Holds, IsTarget, IsListed}
@@ -50,7 +50,7 @@ KeptForests = (mesh : Shape) (across : Across) (l : Layout) (passes : ℕ) → T
 
 -- the law that in the first half, once the names that the round needs are bisected, the bisected names are the least forest that holds these and the last finished round's
 abbrev pub LeastWhenNeeded : Type 0
-LeastWhenNeeded = (mesh : Shape) (across : Across) (l : Layout) (passes : ℕ) → Tells mesh across → (w : Words) (n : ℕ) (v : Views) (lawful : Lawful (setup_of mesh across l passes) w n v) → v.ruling.phase ≡ first_half
+LeastWhenNeeded = (mesh : Shape) (across : Across) (l : Layout) (passes : ℕ) → Tells mesh across → (w : Words) (n : ℕ) (v : Views) (lawful : Lawful (setup_of mesh across l passes) w n v) → v.ruling.phase ≡ FirstHalf
     → ((k : ℕ) → HasEntry v.ruling.plan.needs k → Holds (lawful.0.who (w.round + 1)) k)
     → (old needs new : Names) → AreCodes old (Holds (lawful.0.who w.round)) → AreCodes needs (HasEntry v.ruling.plan.needs) → AreCodes new (Holds (lawful.0.who (w.round + 1))) → IsLeast mesh old needs new
 

@@ -6,7 +6,7 @@ use Rattle.mesh_words.specs.Setup.{Setup, NamesApart}
 use Rattle.mesh_words.specs.Functions.{update}
 use Rattle.mesh_words.specs.Words.{Node}
 use Rattle.mesh_words.specs.Places.{member_of, child_place}
-use Rattle.mesh_words.specs.Views.{Read}
+use Rattle.mesh_words.specs.Views.{Read, Phase, FirstHalf, SecondHalf, order}
 use Rattle.mesh_words.proofs.Functions.{update_same, update_at, update_other}
 use Rattle.mesh_state.specs.Ghosts.{Life, Placed, chained}
 use Rattle.mesh_state.specs.Chains.{Covers, Reaches}
@@ -51,7 +51,7 @@ module _ (s : Setup) (apart : NamesApart s) (name : ℕ → ℕ) where
   pub two_names : (b m : ℕ) → IsPatch s name b m → (k : ℕ) → name (member_of b true) ≡ k + 1 → name (member_of b false) ≡ name (member_of b true) → ⊥
   two_names b m p k e h = apart.mate_leads (name (member_of b false)) (name (member_of b false)) k (sym p.1 ∙ e) p.0 (h ∙ e)
 
-module _ (s : Setup) (apart : NamesApart s) (round phase : ℕ) (name : ℕ → ℕ) (head hist : ℕ → Node) (born died : ℕ → ℕ) (life : ℕ → Life) (who : ℕ → ℕ → ℕ) (read : ℕ → Read) (n : NamesRule s round phase name head hist born died life who read)
+module _ (s : Setup) (apart : NamesApart s) (round : ℕ) (phase : Phase) (name : ℕ → ℕ) (head hist : ℕ → Node) (born died : ℕ → ℕ) (life : ℕ → Life) (who : ℕ → ℕ → ℕ) (read : ℕ → Read) (n : NamesRule s round phase name head hist born died life who read)
     (low : (q : ℕ) → IsKept round read q → q ≤ round) (b x m : ℕ) (at : life b ≡ Placed x m) where
   abbrev pub d : ℕ
   d = round + 1
@@ -75,13 +75,13 @@ module _ (s : Setup) (apart : NamesApart s) (round phase : ℕ) (name : ℕ → 
   else_ v q l = update_other who d q (now v) (λ (e : q ≡ round + 1). omega arith)
 
   -- publication
-  module _ (unborn : born b ≡ 0) (first : phase ≡ 1) (un : (t : Bool) (y : ℕ) → chained (life b) t ≡ y + 1 → who d (name (member_of b t)) ≡ 0)
+  module _ (unborn : born b ≡ 0) (first : phase ≡ FirstHalf) (un : (t : Bool) (y : ℕ) → chained (life b) t ≡ y + 1 → who d (name (member_of b t)) ≡ 0)
       (seen : (t : Bool) (y : ℕ) → chained (life b) t ≡ y + 1 → IsPlaceOf s name (who d) y (name (member_of b t))) (linked : (t : Bool) (y : ℕ) → chained (life b) t ≡ y + 1 → (head y).block ≡ b + 1) (live : died b ≡ 0) where
     abbrev born' : ℕ → ℕ
     born' = update born b d
 
     old : Fits s name head hist born died life (who d) d
-    old = n.fits d (inr (refl, omega arith))
+    old = n.fits d (inr (refl, omega (arith, ap order first)))
 
     pub stays : (k a : ℕ) → who d k ≡ a + 1 → now (b + 1) k ≡ a + 1
     stays k a w = ⊎_elim (λ c. let z : who d k ≡ 0 = ap (who d) c.3 ∙ un c.0 c.1 c.2 in absurd (omega arith)) (λ c. c.0 ∙ w) (is_member (b + 1) k)
@@ -115,7 +115,7 @@ module _ (s : Setup) (apart : NamesApart s) (round phase : ℕ) (name : ℕ → 
     sound_new : IsSound s name born' died life (now (b + 1)) d
     sound_new a t y c k = dite (ℕ_discrete a b)
         (λ e. let c' : chained (life b) t ≡ y + 1 = ap (λ (i : ℕ). chained (life i) t) (sym e) ∙ c in subst (λ (i : ℕ). (now (b + 1) (name (member_of i t)) ≡ i + 1) × IsPlaceOf s name (now (b + 1)) y (name (member_of i t))) (sym e) (marked (b + 1) t y c', seen_stays y (name (member_of b t)) (seen t y c')))
-        (λ o. let h = n.sound d (inr (refl, omega arith)) a t y c (subst (λ (i : ℕ). (0 < i) × (i ≤ d) × ((died a ≡ 0) ⊎ (d < died a))) (update_other born b a d o) k) in (stays (name (member_of a t)) a h.0, seen_stays y (name (member_of a t)) h.1))
+        (λ o. let h = n.sound d (inr (refl, omega (arith, ap order first))) a t y c (subst (λ (i : ℕ). (0 < i) × (i ≤ d) × ((died a ≡ 0) ⊎ (d < died a))) (update_other born b a d o) k) in (stays (name (member_of a t)) a h.0, seen_stays y (name (member_of a t)) h.1))
 
     pub names_publish : (A : ℕ → ℕ → Type 0) → Moves (IsKept round read) A s.elements round head hist head hist born died born' died life life → ((c : ℕ) → born c ≤ d) → NamesRule s round phase name head hist born' died life (who' (b + 1)) read
     names_publish A mv borns = record {
@@ -131,8 +131,8 @@ module _ (s : Setup) (apart : NamesApart s) (round phase : ℕ) (name : ℕ → 
           (λ k. dite (ℕ_discrete c b) (λ h. absurd (other a k p (sym (e ∙ ap (λ (i : ℕ). name (member_of i false)) h)))) (λ o. n.one a c (was a k p) (was c o q) e));
       calm = n.calm;
       grows = λ k a l w. ap (λ (f : ℕ → ℕ). f k) (update_same who d (now (b + 1))) ∙ stays k a (n.grows k a l (sym (ap (λ (f : ℕ → ℕ). f k) (else_ (b + 1) round (omega arith))) ∙ w));
-      either = λ k a l w. inl (ap (λ (f : ℕ → ℕ). f k) (update_same who d (now (b + 1))) ∙ stays k a (n.grows k a (omega arith) (sym (ap (λ (f : ℕ → ℕ). f k) (else_ (b + 1) round (omega arith))) ∙ w)));
-      fresh = λ k z. absurd (omega arith);
+      either = λ k a l w. inl (ap (λ (f : ℕ → ℕ). f k) (update_same who d (now (b + 1))) ∙ stays k a (n.grows k a (omega (arith, ap order first)) (sym (ap (λ (f : ℕ → ℕ). f k) (else_ (b + 1) round (omega arith))) ∙ w)));
+      fresh = λ k z. absurd (cc);
     }
       where
         kept : (q : ℕ) → MayRead round phase read q → q ≢ round + 1 → IsKept round read q
@@ -145,15 +145,15 @@ module _ (s : Setup) (apart : NamesApart s) (round phase : ℕ) (name : ℕ → 
         -- another living block has another patch
         other : (c : ℕ) → c ≢ b → IsLiving born' died life c → name (member_of b false) ≡ name (member_of c false) → ⊥
         other c o p e = let k = was c o p in let z = un false x (ap (λ (l : Life). chained l false) at) in
-            let y = (n.sound d (inr (refl, omega arith)) c false k.0 (ap (λ (l : Life). chained l false) k.2) (k.3, borns c, inl k.4)).0 in let f = ap (who d) e in omega arith
+            let y = (n.sound d (inr (refl, omega (arith, ap order first))) c false k.0 (ap (λ (l : Life). chained l false) k.2) (k.3, borns c, inl k.4)).0 in let f = ap (who d) e in omega arith
 
   -- retirement
-  module _ (second : phase ≡ 2) (was : (t : Bool) (y : ℕ) → chained (life b) t ≡ y + 1 → who d (name (member_of b t)) ≡ b + 1) (leaf : (t c : Bool) (y : ℕ) → chained (life b) t ≡ y + 1 → who d (s.child (name (member_of b t)) c) ≡ 0) where
+  module _ (second : phase ≡ SecondHalf) (was : (t : Bool) (y : ℕ) → chained (life b) t ≡ y + 1 → who d (name (member_of b t)) ≡ b + 1) (leaf : (t c : Bool) (y : ℕ) → chained (life b) t ≡ y + 1 → who d (s.child (name (member_of b t)) c) ≡ 0) where
     abbrev died' : ℕ → ℕ
     died' = update died b d
 
     old_ : Fits s name head hist born died life (who d) d
-    old_ = n.fits d (inr (refl, omega arith))
+    old_ = n.fits d (inr (refl, omega (arith, ap order second)))
 
     -- what is still bisected was so by the same block, which is another
     pub before : (k a : ℕ) → now 0 k ≡ a + 1 → (who d k ≡ a + 1) × (a ≢ b)
@@ -186,7 +186,7 @@ module _ (s : Setup) (apart : NamesApart s) (round phase : ℕ) (name : ℕ → 
 
     sound_left : IsSound s name born died' life (now 0) d
     sound_left a t y c k = let o : a ≢ b = λ (e : a ≡ b). not_here (subst (Covers born died' d) e k) in
-        let h = n.sound d (inr (refl, omega arith)) a t y c (subst (λ (i : ℕ). (0 < born a) × (born a ≤ d) × ((i ≡ 0) ⊎ (d < i))) (update_other died b a d o) k) in (stays_ (name (member_of a t)) a h.0 o, seen_left y (name (member_of a t)) a h.0 h.1)
+        let h = n.sound d (inr (refl, omega (arith, ap order second))) a t y c (subst (λ (i : ℕ). (0 < born a) × (born a ≤ d) × ((i ≡ 0) ⊎ (d < i))) (update_other died b a d o) k) in (stays_ (name (member_of a t)) a h.0 o, seen_left y (name (member_of a t)) a h.0 h.1)
 
     pub names_retire : (A : ℕ → ℕ → Type 0) → Moves (IsKept round read) A s.elements round head hist head hist born died born died' life life → NamesRule s round phase name head hist born died' life (who' 0) read
     names_retire A mv = record {
@@ -199,9 +199,9 @@ module _ (s : Setup) (apart : NamesApart s) (round phase : ℕ) (name : ℕ → 
       patch = n.patch;
       one = λ a c p q e. n.one a c (was_living a p) (was_living c q) e;
       calm = λ c y k l. absurd (l.0 second);
-      grows = λ k a l w. absurd (omega arith);
+      grows = λ k a l w. absurd (omega (arith, ap order second));
       either = λ k a l w. let e = ap (λ (f : ℕ → ℕ). f k) (update_same who d (now 0)) in ⊎_elim (λ c. inr (e ∙ c.4)) (λ c. ⊎_elim (λ u. inl (e ∙ c.0 ∙ u)) (λ u. inr (e ∙ c.0 ∙ u)) (n.either k a l (sym (ap (λ (f : ℕ → ℕ). f k) (else_ 0 round (omega arith))) ∙ w))) (is_member 0 k);
-      fresh = λ k z. absurd (omega arith);
+      fresh = λ k z. absurd (cc);
     }
       where
         kept : (q : ℕ) → MayRead round phase read q → q ≢ round + 1 → IsKept round read q

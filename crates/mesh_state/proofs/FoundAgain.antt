@@ -5,7 +5,7 @@ use mathlib.Core.Logic.{dite}
 use native.Mathlib.Decide.{ℕ_discrete}
 use Rattle.mesh_words.specs.Words.{Node}
 use Rattle.mesh_words.specs.Places.{member_of, child_place}
-use Rattle.mesh_words.specs.Views.{Plan, Work, Walk, Still, At, Past, Read}
+use Rattle.mesh_words.specs.Views.{Plan, Work, Walk, Still, At, Past, Read, Kind, Worker, Phase, FirstHalf, SecondHalf, Closing}
 use Rattle.mesh_words.specs.Entries.{HasEntry}
 use Rattle.mesh_state.specs.Ghosts.{Life, Free, Loose, Placed, Undone, chained, stands}
 use Rattle.mesh_state.specs.Chains.{Covers, Finds, Reaches, IsPlace}
@@ -13,6 +13,7 @@ use Rattle.mesh_state.specs.Bisections.{IsPlaceOf, Fits, IsSound, MayRead, IsPat
 use Rattle.mesh_state.specs.Work.{IsWorkPlace, WorkWalks, WalkRule}
 use Rattle.mesh_state.specs.Readers.{Walks, ReaderRule}
 use Rattle.mesh_state.specs.Fresh.{idle}
+use Rattle.mesh_words.proofs.SeatKinds.{kind_discrete}
 
 pub still_not : (x n b : ℕ) (t : Bool) → (Still ≡ At x n b t) ⊎ (Still ≡ Past x n b t) → ⊥
 still_not x n b t (inl e) = clash e
@@ -162,7 +163,7 @@ module _ (s : Setup) (name name' : ℕ → ℕ) (head hist head' hist' : ℕ →
   seen_live who q x n f (inl a) = inl a.0
   seen_live who q x n f (inr k) = let h = f.found (name (member_of k.0 k.1)) k.0 k.4 in let t = stood (life k.0) h.0 h.1 h.3 in inr (k.0, k.1, k.2, t.0, k.3, t.1)
 
-  module _ (round phase : ℕ) (who : ℕ → ℕ → ℕ) (read : ℕ → Read) (K : ℕ → Type 0) (A : ℕ → ℕ → Type 0) (m : Moves K A s.elements round head hist head' hist' born died born' died' life life') where
+  module _ (round : ℕ) (phase : Phase) (who : ℕ → ℕ → ℕ) (read : ℕ → Read) (K : ℕ → Type 0) (A : ℕ → ℕ → Type 0) (m : Moves K A s.elements round head hist head' hist' born died born' died' life life') where
     pub fits_on : (q : ℕ) → K q → Fits s name head hist born died life (who q) q → Fits s name' head' hist' born' died' life' (who q) q
     fits_on q k f = record {
       found = λ n b w. let h = f.found n b w in let c = found_covers hist born died life q h.1 b h.5.0 (head h.1) h.5.1 in
@@ -181,7 +182,7 @@ module _ (s : Setup) (name name' : ℕ → ℕ) (head hist head' hist' : ℕ →
 
     -- where no round's bisection changes
     pub names_on : ((q : ℕ) → MayRead round phase read q → K q) → ((b x m : ℕ) → life' b ≡ Placed x m → IsPatch s name' b m) → ((b : ℕ) → IsLiving born' died' life' b → IsLiving born died life b)
-        → ((b x m : ℕ) → (phase ≡ 2 → ⊥) × (phase ≡ 3 → ⊥) → life' b ≡ Placed x m → died' b ≤ round) → NamesRule s round phase name head hist born died life who read → NamesRule s round phase name' head' hist' born' died' life' who read
+        → ((b x m : ℕ) → (phase ≡ SecondHalf → ⊥) × (phase ≡ Closing → ⊥) → life' b ≡ Placed x m → died' b ≤ round) → NamesRule s round phase name head hist born died life who read → NamesRule s round phase name' head' hist' born' died' life' who read
     names_on all patch lives calm n = record {
       fits = λ q r. fits_on q (all q r) (n.fits q r);
       sound = λ q r. sound_on q (all q r) (n.fits q r) (n.sound q r);
@@ -213,8 +214,8 @@ module _ (s : Setup) (name name' : ℕ → ℕ) (head hist head' hist' : ℕ →
             (h.0, m.stand q b t x k.0 (gone j q b p h.0 a.1) h.1, seen_on (who q) q x n (fits q k.0) h.2, λ c w. m.hists q b t x c k.0 (gone j q b p h.0 a.1) h.1 (h.3 c w))
 
     -- what a worker knows of the last finished round, and where it walks
-    pub workers_on : K round → Fits s name head hist born died life (who round) round → (phase ≡ 1 → Fits s name head hist born died life (who (round + 1)) (round + 1)) → (kind seat : ℕ) (v : Work)
-        → ((b : ℕ) → kind ≡ 1 → HasEntry v.went b → (died b ≡ 0) ⊎ (round < died b) → A round b)
+    pub workers_on : K round → Fits s name head hist born died life (who round) round → (phase ≡ FirstHalf → Fits s name head hist born died life (who (round + 1)) (round + 1)) → (kind : Kind) (seat : ℕ) (v : Work)
+        → ((b : ℕ) → kind ≡ Worker → HasEntry v.went b → (died b ≡ 0) ⊎ (round < died b) → A round b)
         → WalkRule s round phase name hist born died life who kind seat v → WalkRule s round phase name' hist' born' died' life' who kind seat v
     workers_on now last next kind seat v gone g = record {
       still = g.still;
@@ -230,8 +231,8 @@ module _ (s : Setup) (name name' : ℕ → ℕ) (head hist head' hist' : ℕ →
       sided = λ x n b t h. same b t t x (⊎_elim (λ e. let k : WorkWalks s round phase name hist born died life who v.went (At x n b t) = subst (WorkWalks s round phase name hist born died life who v.went) e g.walk in k.1) (λ e. let k : WorkWalks s round phase name hist born died life who v.went (Past x n b t) = subst (WorkWalks s round phase name hist born died life who v.went) e g.walk in k.1) h) ∙ g.sided x n b t h;
     }
       where
-        worker : (b : ℕ) → HasEntry v.went b → kind ≡ 1
-        worker b h = dite (ℕ_discrete kind 1) (λ e. e) (λ o. absurd (subst (λ (l : List ℕ). HasEntry l b) (g.still o).0 h))
+        worker : (b : ℕ) → HasEntry v.went b → kind ≡ Worker
+        worker b h = dite (kind_discrete kind Worker) (λ e. e) (λ o. absurd (subst (λ (l : List ℕ). HasEntry l b) (g.still o).0 h))
 
         place_on : (x n : ℕ) → IsWorkPlace s round phase name who x n → IsWorkPlace s round phase name' who x n
         place_on x n h = ⊎_elim (λ t. inl (t.0, seen_on (who (round + 1)) (round + 1) x n (next t.0) t.1)) (λ t. inr (seen_on (who round) round x n last t)) h
@@ -244,8 +245,8 @@ module _ (s : Setup) (name name' : ℕ → ℕ) (head hist head' hist' : ℕ →
             (h.0, m.stand round b t x now f h.1, place_on x n h.2, λ c w. m.hists round b t x c now f h.1 (h.3 c w))
 
 -- workers see what the first half adds
-pub workers_who : (s : Setup) (round phase : ℕ) (name : ℕ → ℕ) (hist : ℕ → Node) (born died : ℕ → ℕ) (life : ℕ → Life) (who who' : ℕ → ℕ → ℕ) → who' round ≡ who round → (phase ≡ 1 → (x n : ℕ) → IsPlaceOf s name (who (round + 1)) x n → IsPlaceOf s name (who' (round + 1)) x n)
-    → (kind seat : ℕ) (v : Work) → WalkRule s round phase name hist born died life who kind seat v → WalkRule s round phase name hist born died life who' kind seat v
+pub workers_who : (s : Setup) (round : ℕ) (phase : Phase) (name : ℕ → ℕ) (hist : ℕ → Node) (born died : ℕ → ℕ) (life : ℕ → Life) (who who' : ℕ → ℕ → ℕ) → who' round ≡ who round → (phase ≡ FirstHalf → (x n : ℕ) → IsPlaceOf s name (who (round + 1)) x n → IsPlaceOf s name (who' (round + 1)) x n)
+    → (kind : Kind) (seat : ℕ) (v : Work) → WalkRule s round phase name hist born died life who kind seat v → WalkRule s round phase name hist born died life who' kind seat v
 workers_who s round phase name hist born died life who who' same more kind seat v g = record {
   still = g.still;
   only = g.only;
@@ -269,11 +270,11 @@ workers_who s round phase name hist born died life who who' same more kind seat 
     walk_on (Past x n b t) h = (h.0, h.1, place_on x n h.2, λ c w. h.3 c (sym (ap (λ (f : ℕ → ℕ). f n) same) ∙ w))
 
 -- a seat that does not walk
-pub walks_idle : (s : Setup) (round phase : ℕ) (name : ℕ → ℕ) (hist : ℕ → Node) (born died : ℕ → ℕ) (life : ℕ → Life) (who : ℕ → ℕ → ℕ) (kind seat half work number : ℕ) (plan : Plan) → (kind ≡ 1 → half ≡ phase) → (kind ≡ 1 → work ≡ round + 1) → WalkRule s round phase name hist born died life who kind seat (record idle { half = half; round = work; number = number; plan = plan })
+pub walks_idle : (s : Setup) (round : ℕ) (phase : Phase) (name : ℕ → ℕ) (hist : ℕ → Node) (born died : ℕ → ℕ) (life : ℕ → Life) (who : ℕ → ℕ → ℕ) (kind : Kind) (seat : ℕ) (half : Phase) (work number : ℕ) (plan : Plan) → (kind ≡ Worker → half ≡ phase) → (kind ≡ Worker → work ≡ round + 1) → WalkRule s round phase name hist born died life who kind seat (record idle { half = half; round = work; number = number; plan = plan })
 walks_idle s round phase name hist born died life who kind seat half work number plan said at_work = record { half = said; at_work = at_work; retired_in = λ b h. absurd h; still = λ _. (refl, refl); only = λ _ _. (refl, refl, refl, refl); absent = λ n h. absurd h; stood = λ x n h. absurd h; had = λ b n h. absurd h; went = λ b h. absurd h; walk = tt; sided = λ x n b t h. absurd (still_not x n b t h) }
 
 -- a seat that is no worker's keeps what it knows of the last finished round
-pub walks_home : (s : Setup) (round phase phase' : ℕ) (name : ℕ → ℕ) (hist hist' : ℕ → Node) (born died born' died' : ℕ → ℕ) (life life' : ℕ → Life) (who : ℕ → ℕ → ℕ) (kind seat : ℕ) (v : Work) → (kind ≡ 1 → ⊥) → WalkRule s round phase name hist born died life who kind seat v → WalkRule s round phase' name hist' born' died' life' who kind seat v
+pub walks_home : (s : Setup) (round : ℕ) (phase phase' : Phase) (name : ℕ → ℕ) (hist hist' : ℕ → Node) (born died born' died' : ℕ → ℕ) (life life' : ℕ → Life) (who : ℕ → ℕ → ℕ) (kind : Kind) (seat : ℕ) (v : Work) → (kind ≡ Worker → ⊥) → WalkRule s round phase name hist born died life who kind seat v → WalkRule s round phase' name hist' born' died' life' who kind seat v
 walks_home s round phase phase' name hist hist' born died born' died' life life' who kind seat v other g = let e = g.still other in record {
   still = g.still;
   only = g.only;

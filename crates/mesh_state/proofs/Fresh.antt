@@ -6,7 +6,7 @@ use Rattle.mesh_words.proofs.CodedNames.{codes_apart}
 use Rattle.mesh_state.specs.Sure.{SureRule}
 use Rattle.mesh_state.specs.Fresh.{idle, noted_below, fresh_words, fresh_kind, fresh_sure, fresh_views, fresh_ghost, FreshIsLawful}
 use Rattle.mesh_words.specs.Sums.{sum_below, one_where}
-use Rattle.mesh_words.specs.Views.{no_plan}
+use Rattle.mesh_words.specs.Views.{no_plan, Vacant, Worker, Reader, Owner, Resting}
 use Rattle.mesh_words.specs.Words.{node}
 use Rattle.mesh_state.specs.Ghosts.{Open, Free, Loose, Placed, Undone}
 use Rattle.mesh_state.specs.Lists.{Holds}
@@ -27,9 +27,9 @@ none_in : (n : ℕ) → ◌≡◌ {A = ℕ} (sum_below n (λ _. 0)) 0
 none_in zero = refl
 none_in (suc n) = let a = none_in n in omega arith
 
-not_two : (j : ℕ) → fresh_kind j ≡ 2 → ⊥
-not_two zero e = omega arith
-not_two (suc j) e = omega arith
+not_two : (j : ℕ) → fresh_kind j ≡ Reader → ⊥
+not_two zero e = cc
+not_two (suc j) e = cc
 
 pub starts : (s : Setup) → NamesApart s → Rule s (fresh_words s.pool) 1 (fresh_views s.pool) fresh_ghost
 starts s a = record {
@@ -45,11 +45,11 @@ starts s a = record {
     half = λ b x m u e. absurd (free_not x m u);
     rows = λ i l m. (refl, refl);
     apart = λ i k a l b m e. sym (row_is s.pool i l) ∙ e ∙ row_is s.pool k m;
-    drawn = λ e. absurd (omega arith);
-    living = λ x j m p h e. absurd (omega arith);
+    drawn = λ e. absurd (cc);
+    living = λ x j m p h e. absurd (cc);
     none = λ x e. refl;
   };
-  labels = λ x j m p h e. absurd (omega arith);
+  labels = λ x j m p h e. absurd (cc);
   chains = record { heads = λ x l. inl refl; hists = λ b t x h. absurd (omega arith); borns = λ b. omega arith; dieds = λ b x m u l. absurd (omega arith); undone = λ b x m u. refl; unborn = λ b. inl refl; sides = λ b t u x h. absurd (omega arith) };
   names = record {
     fits = λ q k. record { found = λ i b e. absurd (omega arith); both = λ b y t u e. absurd (omega arith) };
@@ -63,20 +63,20 @@ starts s a = record {
   };
   pins = record { now = refl; later = λ q l. (refl, refl); count = λ q. let z : one_where 0 (q + 1) ≡ 0 = ap (λ (t : Bool). cond {A = ℕ} t 1 0) (ne_eqb 0 (q + 1) (λ (e : 0 ≡ q + 1). omega arith)) in omega arith; past = λ j q e. absurd (omega arith); few = λ j l. few j l; readers = λ j o. (refl, refl); spent = λ j e. refl; bit = λ j. omega arith; most = λ q. omega arith; bound = omega arith };
   works = λ j. record { only = λ _ _. (refl, refl, refl, refl); found = λ x k h. absurd h; known = λ k h. absurd h; open_ = λ k h. absurd h; given = λ b k h. absurd h };
-  walks = λ j. walks_idle s 0 0 (λ _. 0) (λ _. node 0 0) (λ _. 0) (λ _. 0) (λ _. Free) (λ _ _. 0) (fresh_kind j) j 0 0 0 no_plan (λ _. refl) (λ e. absurd (not_one j e));
+  walks = λ j. walks_idle s 0 Resting (λ _. 0) (λ _. node 0 0) (λ _. 0) (λ _. 0) (λ _. Free) (λ _ _. 0) (fresh_kind j) j Resting 0 0 no_plan (λ _. refl) (λ e. absurd (not_one j e));
   sure = sure_is;
   goes = λ j. record { went = λ q b p h. absurd h; walk = λ q p. tt; sided = λ q x k b t p h. absurd (still_not x k b t h); dated = λ q x k b t p h. absurd (still_not x k b t h); places = λ q x k p h. absurd h; yes_notes = λ k q h. absurd h; no_notes = λ k q h. absurd h };
   rules = record { owner = (refl, omega arith); one = λ j e. only j e; workers = refl; readers = refl; few_readers = omega arith; halves = λ _ _. refl; clear = λ q h. absurd h };
-  stock = record { finished = refl; cursor_is = λ k e. ((λ f. omega arith), omega arith); free_is = λ k e. omega arith; left = λ q k h. absurd h };
+  stock = record { finished = refl; cursor_is = λ k e. ((λ f. cc), omega arith); free_is = λ k e. omega arith; left = λ q k h. absurd h };
   note = record { undone = λ b h. absurd h; all = λ b x m e. absurd (free_undone x m e); placed = λ b x m h. absurd h; seen = λ x e. absurd (omega arith); quiet = λ e. absurd (omega arith) };
   retired = λ b x m u e. absurd (free_not x m u);
   grows = λ j. record { only = λ _ _. refl; grown = λ x k h. absurd h };
   retireds = λ b h. absurd (⊎_elim (λ t. t.1) (λ f. f) h);
-  plan = record { same = λ j e. absurd (not_one j e); aim = λ l. absurd (omega arith); within = λ i l. absurd (omega arith); whole = λ i l. absurd (omega arith); done = λ i e. absurd (omega arith) };
+  plan = record { same = λ j e. absurd (not_one j e); aim = λ l. absurd (omega arith); within = λ i l. absurd (omega arith); whole = λ i l. absurd (omega arith); done = λ i e. absurd (cc) };
   history = record { rounds = refl; forests = λ q names e i. empty q names e i; told = λ j. ([] ∷ [], refl); seen = λ j. (omega arith, omega arith); made = λ j. (omega arith, λ q e. absurd (omega arith)) };
-  drawn = none_drawn 0 0 s.pool (fresh_words s.pool).row fresh_kind (λ _. idle) (λ j. refl);
-  draws = λ x j m p e. absurd (omega arith);
-  crew = crew_free s 0 0 fresh_kind (λ _. idle) (λ _. Open) 0 (omega arith, λ l. absurd (omega arith)) (λ e. absurd (omega arith));
+  drawn = none_drawn Resting 0 s.pool (fresh_words s.pool).row fresh_kind (λ _. idle) (λ j. refl);
+  draws = λ x j m p e. absurd (cc);
+  crew = crew_free s 0 Resting fresh_kind (λ _. idle) (λ _. Open) 0 (omega arith, λ l. absurd (omega arith)) (λ e. absurd (cc));
   inside = record { few = omega arith; rows = λ i l. let e = row_is s.pool i l in omega arith; blocks = λ b l. refl; stand_in = λ b t x st. absurd (omega arith); seconds = λ x j y p h. absurd (not_open j (y + 1) p (sym h)); hand_in = λ b h. absurd h; retired_in = λ b h. absurd h };
   named = record { heads = λ x b t l e c. absurd (omega arith); hists = λ a c x t u st e. absurd (omega arith); patch = λ b x m u. absurd (free_undone x m u) };
   once = λ j. tt;
@@ -92,9 +92,9 @@ starts s a = record {
     sure_is zero = record { head_is = λ z l f h. absurd f; hist_is = λ b t l f h. absurd f; died_is = λ b k f h. absurd f; name_is = λ b t k f h. absurd f; born_is = λ b k f h i. (noted_is s.pool (λ _. 0) b k f).1; row_is = λ b k f h i. let t = noted_is s.pool (λ i. i) b k f in row_is s.pool b t.0 ∙ t.1 }
     sure_is (suc j) = record { head_is = λ z l f h. absurd f; hist_is = λ b t l f h. absurd f; died_is = λ b k f h. absurd f; name_is = λ b t k f h. absurd f; born_is = λ b k f h i. absurd f; row_is = λ b k f h i. absurd f }
 
-    not_one : (j : ℕ) → fresh_kind j ≡ 1 → ⊥
-    not_one zero e = omega arith
-    not_one (suc j) e = omega arith
+    not_one : (j : ℕ) → fresh_kind j ≡ Worker → ⊥
+    not_one zero e = cc
+    not_one (suc j) e = cc
 
     empty : (q : ℕ) (names : List ℕ) → EntryAt ([] ∷ []) q names → (i : ℕ) → (HasEntry names i → Holds (λ _. 0) i) × (Holds (λ _. 0) i → HasEntry names i)
     empty zero names e i = ((λ h. absurd (subst (λ (l : List ℕ). HasEntry l i) e h)), λ h. let z = h.1 in absurd (omega arith))
@@ -109,13 +109,13 @@ starts s a = record {
     free_loose : (u : ℕ) → Free ≡ Loose u → ⊥
     free_loose u e = cc
 
-    few : (j : ℕ) → 1 ≤ j → fresh_kind j ≡ 0
+    few : (j : ℕ) → 1 ≤ j → fresh_kind j ≡ Vacant
     few zero l = absurd (omega arith)
     few (suc j) l = refl
 
-    only : (j : ℕ) → fresh_kind j ≡ 3 → j ≡ 0
+    only : (j : ℕ) → fresh_kind j ≡ Owner → j ≡ 0
     only zero e = refl
-    only (suc j) e = absurd (omega arith)
+    only (suc j) e = absurd (cc)
 
 pub fresh_is_lawful : FreshIsLawful
 fresh_is_lawful mesh across tells l passes = starts (setup_of mesh across l passes) (codes_apart mesh across l passes tells)

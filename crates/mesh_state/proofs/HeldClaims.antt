@@ -11,6 +11,7 @@ use Rattle.mesh_words.proofs.Functions.{update_at, update_other, update_cases}
 use Rattle.mesh_words.proofs.Sums.{sum_same}
 use Rattle.mesh_state.specs.Ghosts.{Stage, Open, Held, Life, Free, Loose, Placed}
 use Rattle.mesh_state.specs.Claims.{bit_of, draws, draws_of, Shape, ClaimsRule}
+use Rattle.mesh_words.specs.Views.{Phase, SecondHalf, Closing, Precedes, order}
 
 pub moved_on_has : (cs : List Claim) (x : ℕ) (p : Progress) (i m : ℕ) (q : Progress) → HasEntry (moved_on cs x p) (claim i m q) → ((i ≡ x) × (q ≡ p) × ((r : Progress) × HasEntry cs (claim x m r))) ⊎ ((i ≢ x) × HasEntry cs (claim i m q))
 moved_on_has [] x p i m q h = absurd h
@@ -111,7 +112,7 @@ free_not x m e = cc
 pub free_loose : (u : ℕ) → Free ≡ Loose u → ⊥
 free_loose u e = cc
 
-module _ (s : Setup) (round cursor free phase : ℕ) (row claimed : ℕ → ℕ) (head : ℕ → Node) (born : ℕ → ℕ) (life : ℕ → Life) (stage : ℕ → Stage) (claims : ℕ → List Claim) (c : ClaimsRule s round cursor free phase row claimed head born life stage claims) where
+module _ (s : Setup) (round cursor free : ℕ) (phase : Phase) (row claimed : ℕ → ℕ) (head : ℕ → Node) (born : ℕ → ℕ) (life : ℕ → Life) (stage : ℕ → Stage) (claims : ℕ → List Claim) (c : ClaimsRule s round cursor free phase row claimed head born life stage claims) where
   -- two claims with one block are one
   pub one_user : (x z j i m k b : ℕ) (p q : Progress) → stage x ≡ Held j m p → stage z ≡ Held i k q → uses p ≡ b + 1 → uses q ≡ b + 1 → x ≡ z
   one_user x z j i m k b p q hx hz up uq = ⊎_elim
@@ -139,9 +140,9 @@ module _ (s : Setup) (round cursor free phase : ℕ) (row claimed : ℕ → ℕ)
     back z i k r h = dite (ℕ_discrete z x) (λ e. let t = held_one j i m k q r (sym (update_at stage x z (Held j m q) e) ∙ h) in inl (e, sym t.0, sym t.1, sym t.2)) (λ n. inr (n, sym (update_other stage x z (Held j m q) n) ∙ h))
 
     -- the claim goes on
-    pub goes : draws q ≡ draws p → (phase ≡ 2 → (b : ℕ) × (q ≡ Living b)) → (head' : ℕ → Node) (born' : ℕ → ℕ) (life' : ℕ → Life) → Shape round head' born' life' x m q
+    pub goes : draws q ≡ draws p → (phase ≡ SecondHalf → (b : ℕ) × (q ≡ Living b)) → (head' : ℕ → Node) (born' : ℕ → ℕ) (life' : ℕ → Life) → Shape round head' born' life' x m q
         → ((z i k : ℕ) (r : Progress) → stage z ≡ Held i k r → z ≢ x → Shape round head born life z k r → Shape round head' born' life' z k r)
-        → ((b y k : ℕ) → life' b ≡ Placed y k → born' b ≡ round + 1 → (phase ≡ 3 → ⊥) → ((y ≡ x) × (k ≡ m) × (q ≡ Living b)) ⊎ ((life b ≡ Placed y k) × (born b ≡ round + 1) × (uses p ≡ b + 1 → ⊥)))
+        → ((b y k : ℕ) → life' b ≡ Placed y k → born' b ≡ round + 1 → (phase ≡ Closing → ⊥) → ((y ≡ x) × (k ≡ m) × (q ≡ Living b)) ⊎ ((life b ≡ Placed y k) × (born b ≡ round + 1) × (uses p ≡ b + 1 → ⊥)))
         → ((b y k : ℕ) → life' b ≡ Placed y k → born' b ≡ 0 → ((y ≡ x) × (k ≡ m) × ((q ≡ Half b) ⊎ (q ≡ Whole b))) ⊎ ((life b ≡ Placed y k) × (born b ≡ 0) × (uses p ≡ b + 1 → ⊥)))
         → ((b : ℕ) → life b ≡ Free → born b ≡ 0 → (life' b ≡ Free) × (born' b ≡ 0))
         → ClaimsRule s round cursor free phase row claimed head' born' life' stage' (update claims j (moved_on (claims j) x q))
@@ -182,9 +183,9 @@ module _ (s : Setup) (round cursor free phase : ℕ) (row claimed : ℕ → ℕ)
         )
 
     -- the claim ends
-    pub ends : (phase < 3 → ⊥) → (head' : ℕ → Node) (born' : ℕ → ℕ) (life' : ℕ → Life)
+    pub ends : (Precedes phase Closing → ⊥) → (head' : ℕ → Node) (born' : ℕ → ℕ) (life' : ℕ → Life)
         → ((z i k : ℕ) (r : Progress) → stage z ≡ Held i k r → z ≢ x → Shape round head born life z k r → Shape round head' born' life' z k r)
-        → ((b y k : ℕ) → life' b ≡ Placed y k → born' b ≡ round + 1 → (phase ≡ 3 → ⊥) → (life b ≡ Placed y k) × (born b ≡ round + 1) × (p ≡ Living b → ⊥))
+        → ((b y k : ℕ) → life' b ≡ Placed y k → born' b ≡ round + 1 → (phase ≡ Closing → ⊥) → (life b ≡ Placed y k) × (born b ≡ round + 1) × (p ≡ Living b → ⊥))
         → ((b y k : ℕ) → life' b ≡ Placed y k → born' b ≡ 0 → (life b ≡ Placed y k) × (born b ≡ 0) × (uses p ≡ b + 1 → ⊥))
         → ((b : ℕ) → life b ≡ Free → born b ≡ 0 → (life' b ≡ Free) × (born' b ≡ 0))
         → ClaimsRule s round cursor free phase row (update claimed x 0) head' born' life' (update stage x Open) (update claims j (ended (claims j) x))
@@ -211,7 +212,7 @@ module _ (s : Setup) (round cursor free phase : ℕ) (row claimed : ℕ → ℕ)
           );
           rows = λ i a l. let t = c.rows i a l in free_on (row i) t.0 t.1;
           apart = c.apart;
-          drawn = λ e. absurd (late (omega arith));
-          living = λ z i k r h e. absurd (late (omega arith));
-          none = λ z e. absurd (late (omega arith));
+          drawn = λ e. absurd (late (omega (arith, ap order e)));
+          living = λ z i k r h e. absurd (late (omega (arith, ap order e)));
+          none = λ z e. absurd (late (omega (arith, ap order e)));
         }

@@ -9,11 +9,12 @@ use Rattle.mesh_words.proofs.Functions.{update_at, update_other, update_cases}
 use Rattle.mesh_state.specs.Ghosts.{Stage, Open, Held, Life, Free, Loose, Placed, Undone}
 use Rattle.mesh_state.specs.Claims.{block_of}
 use Rattle.mesh_state.specs.Owner.{FreeRule, HasClaim, HasDraw, KnownRule, KeptRule, EarlyRule, is_early}
-use Rattle.mesh_words.specs.Views.{Read, Work}
+use Rattle.mesh_words.specs.Views.{Read, Work, Kind, Reader, is_reader, Phase, SecondHalf}
 use Rattle.mesh_state.specs.Work.{RetiredRight, GrownRule}
 use Rattle.mesh_words.specs.Setup.{Setup}
 use Rattle.mesh_words.proofs.Sums.{sum_same}
 use Rattle.mesh_state.proofs.HeldClaims.{not_open, held_one}
+use Rattle.mesh_words.proofs.SeatKinds.{kind_discrete, reader_true, reader_false}
 
 -- where the free blocks are the same, and those not born stay so
 pub frees_on : (pool cursor free : ℕ) (row born born' : ℕ → ℕ) (life life' : ℕ → Life) (hand : List ℕ) (low high : ℕ) → ((b : ℕ) → life' b ≡ Free → life b ≡ Free) → ((b : ℕ) → life b ≡ Free → (life' b ≡ Free) × (born b ≡ 0 → born' b ≡ 0))
@@ -76,23 +77,23 @@ kept_on round died died' life life' kept back on r = record {
 }
 
 -- where no pass is made or ends, and each keeps when it was made
-pub early_on : (round n : ℕ) (kind : ℕ → ℕ) (read : ℕ → Read) (j : ℕ) (u : Read) (early : ℕ) → u.made ≡ (read j).made → EarlyRule round n kind read early → EarlyRule round n kind (update read j u) early
+pub early_on : (round n : ℕ) (kind : ℕ → Kind) (read : ℕ → Read) (j : ℕ) (u : Read) (early : ℕ) → u.made ≡ (read j).made → EarlyRule round n kind read early → EarlyRule round n kind (update read j u) early
 early_on round n kind read j u early same r = r ∙ sym (sum_same n (λ i. is_early round (kind i) (read i)) (λ i. is_early round (kind i) (update read j u i)) (λ i _. dite (ℕ_discrete i j)
-    (λ e. ap (is_early round (kind i)) (update_at read j i u e) ∙ ap (λ (k : ℕ). cond (kind i == 2) (cond {A = ℕ} (ltb k round) 1 0) 0) same ∙ ap (λ (k : ℕ). is_early round (kind i) (read k)) (sym e)) (λ o. ap (is_early round (kind i)) (update_other read j i u o))))
+    (λ e. ap (is_early round (kind i)) (update_at read j i u e) ∙ ap (λ (k : ℕ). cond (is_reader (kind i)) (cond {A = ℕ} (ltb k round) 1 0) 0) same ∙ ap (λ (k : ℕ). is_early round (kind i) (read k)) (sym e)) (λ o. ap (is_early round (kind i)) (update_other read j i u o))))
 
 -- a seat that is no reader's pass is not counted, nor one that was made since
-pub early_none : (round kind : ℕ) (u : Read) → (kind ≡ 2 → ⊥) → is_early round kind u ≡ 0
-early_none round kind u o = ap (λ (b : Bool). cond b (cond {A = ℕ} (ltb u.made round) 1 0) 0) (ne_eqb kind 2 o)
+pub early_none : (round : ℕ) (kind : Kind) (u : Read) → (kind ≡ Reader → ⊥) → is_early round kind u ≡ 0
+early_none round kind u o = ap (λ (b : Bool). cond b (cond {A = ℕ} (ltb u.made round) 1 0) 0) (reader_false kind o)
 
-pub early_late : (round kind : ℕ) (u : Read) → round ≤ u.made → is_early round kind u ≡ 0
-early_late round kind u l = dite (ℕ_discrete kind 2) (λ e. ap (λ (b : Bool). cond b (cond {A = ℕ} (ltb u.made round) 1 0) 0) (eq-eqb kind 2 e) ∙ ap (λ (b : Bool). cond {A = ℕ} b 1 0) (le-ltb u.made round l)) (early_none round kind u)
+pub early_late : (round : ℕ) (kind : Kind) (u : Read) → round ≤ u.made → is_early round kind u ≡ 0
+early_late round kind u l = dite (kind_discrete kind Reader) (λ e. ap (λ (b : Bool). cond b (cond {A = ℕ} (ltb u.made round) 1 0) 0) (reader_true kind e) ∙ ap (λ (b : Bool). cond {A = ℕ} b 1 0) (le-ltb u.made round l)) (early_none round kind u)
 
-pub early_one : (round kind : ℕ) (u : Read) → kind ≡ 2 → u.made < round → is_early round kind u ≡ 1
-early_one round kind u e l = ap (λ (b : Bool). cond b (cond {A = ℕ} (ltb u.made round) 1 0) 0) (eq-eqb kind 2 e) ∙ ap (λ (b : Bool). cond {A = ℕ} b 1 0) (lt-ltb u.made round l)
+pub early_one : (round : ℕ) (kind : Kind) (u : Read) → kind ≡ Reader → u.made < round → is_early round kind u ≡ 1
+early_one round kind u e l = ap (λ (b : Bool). cond b (cond {A = ℕ} (ltb u.made round) 1 0) 0) (reader_true kind e) ∙ ap (λ (b : Bool). cond {A = ℕ} b 1 0) (lt-ltb u.made round l)
 
-pub early_other : (round n : ℕ) (kind : ℕ → ℕ) (read : ℕ → Read) (j : ℕ) (u : Read) (early : ℕ) → (kind j ≡ 2 → ⊥) → EarlyRule round n kind read early → EarlyRule round n kind (update read j u) early
+pub early_other : (round n : ℕ) (kind : ℕ → Kind) (read : ℕ → Read) (j : ℕ) (u : Read) (early : ℕ) → (kind j ≡ Reader → ⊥) → EarlyRule round n kind read early → EarlyRule round n kind (update read j u) early
 early_other round n kind read j u early not r = r ∙ sym (sum_same n (λ i. is_early round (kind i) (read i)) (λ i. is_early round (kind i) (update read j u i)) (λ i _. dite (ℕ_discrete i j)
-    (λ e. let o : kind i ≡ 2 → ⊥ = λ f. not (ap kind (sym e) ∙ f) in early_none round (kind i) (update read j u i) o ∙ sym (early_none round (kind i) (read i) o)) (λ o. ap (is_early round (kind i)) (update_other read j i u o))))
+    (λ e. let o : kind i ≡ Reader → ⊥ = λ f. not (ap kind (sym e) ∙ f) in early_none round (kind i) (update read j u i) o ∙ sym (early_none round (kind i) (read i) o)) (λ o. ap (is_early round (kind i)) (update_other read j i u o))))
 
 -- where no block is known as retired that was not known so, and those that were are as before
 pub retireds_on : (round : ℕ) (died died' : ℕ → ℕ) (life life' : ℕ → Life) (work work' : ℕ → Work) (retired retired' : List ℕ) → ((b : ℕ) → ((j : ℕ) × HasEntry (work' j).retired b) ⊎ HasEntry retired' b → ((j : ℕ) × HasEntry (work j).retired b) ⊎ HasEntry retired b)
@@ -105,8 +106,8 @@ retireds_work round died life work retired j u same r = retireds_on round died d
     (λ b h. ⊎_elim (λ t. inl (t.0, subst (λ (l : List ℕ). HasEntry l b) (update_cases (λ i x. x.retired ≡ (work i).retired) work j u same (λ _ _. refl) t.0) t.1)) inr h) (λ b x m e f. (e, refl)) r
 
 -- but in the second half no child of a block that was born in the round is known
-pub grows_off : (s : Setup) (round phase : ℕ) (name born name' born' : ℕ → ℕ) (who who' : ℕ → ℕ) (kind seat : ℕ) (v u : Work) → (phase ≡ 2 → ⊥) → u.grown ≡ v.grown → GrownRule s round phase name born who kind seat v → GrownRule s round phase name' born' who' kind seat u
+pub grows_off : (s : Setup) (round : ℕ) (phase : Phase) (name born name' born' : ℕ → ℕ) (who who' : ℕ → ℕ) (kind : Kind) (seat : ℕ) (v u : Work) → (phase ≡ SecondHalf → ⊥) → u.grown ≡ v.grown → GrownRule s round phase name born who kind seat v → GrownRule s round phase name' born' who' kind seat u
 grows_off s round phase name born name' born' who who' kind seat v u not same r = record { only = λ o z. same ∙ r.only o z; grown = λ x n h. absurd (not (r.grown x n (subst (λ (l : List (ℕ × ℕ)). HasEntry l (x, n)) same h)).0) }
 
-pub grows_same : (s : Setup) (round phase : ℕ) (name born : ℕ → ℕ) (who : ℕ → ℕ) (kind seat : ℕ) (v u : Work) → u.grown ≡ v.grown → GrownRule s round phase name born who kind seat v → GrownRule s round phase name born who kind seat u
+pub grows_same : (s : Setup) (round : ℕ) (phase : Phase) (name born : ℕ → ℕ) (who : ℕ → ℕ) (kind : Kind) (seat : ℕ) (v u : Work) → u.grown ≡ v.grown → GrownRule s round phase name born who kind seat v → GrownRule s round phase name born who kind seat u
 grows_same s round phase name born who kind seat v u same r = record { only = λ o z. same ∙ r.only o z; grown = λ x n h. r.grown x n (subst (λ (l : List (ℕ × ℕ)). HasEntry l (x, n)) same h) }

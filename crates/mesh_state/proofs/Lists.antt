@@ -5,7 +5,7 @@ use native.Mathlib.Decide.{ℕ_discrete}
 use Rattle.mesh_words.specs.Entries.{HasEntry, EntryAt}
 use Rattle.mesh_words.specs.Functions.{update}
 use Rattle.mesh_words.specs.Setup.{Setup}
-use Rattle.mesh_words.specs.Views.{Plan, Work, Read, Views}
+use Rattle.mesh_words.specs.Views.{Plan, Work, Read, Views, Kind, Worker, Phase, Resting, FirstHalf, Precedes}
 use Rattle.mesh_words.specs.Words.{Words}
 use Rattle.mesh_words.proofs.Functions.{update_at, update_cases, update_other}
 use Rattle.mesh_words.specs.Claims.{Progress}
@@ -19,15 +19,15 @@ use Rattle.mesh_state.specs.Rule.{Rule}
 use Rattle.mesh_state.proofs.Lawful.{parents_bisected, members_together}
 
 -- where the workers' passes keep the lists
-pub plan_on : (s : Setup) (round phase : ℕ) (who : ℕ → ℕ → ℕ) (kind kind' : ℕ → ℕ) (work work' : ℕ → Work) (p : Plan) → ((j : ℕ) → kind' j ≡ 1 → (work' j).plan ≡ p) → PlanRule s round phase who kind work p → PlanRule s round phase who kind' work' p
+pub plan_on : (s : Setup) (round : ℕ) (phase : Phase) (who : ℕ → ℕ → ℕ) (kind kind' : ℕ → Kind) (work work' : ℕ → Work) (p : Plan) → ((j : ℕ) → kind' j ≡ Worker → (work' j).plan ≡ p) → PlanRule s round phase who kind work p → PlanRule s round phase who kind' work' p
 plan_on s round phase who kind kind' work work' p same k = record { same = same; aim = k.aim; within = k.within; whole = k.whole; done = k.done }
 
 -- where one seat's knowledge changes, but not its lists
-pub plan_update : (s : Setup) (round phase : ℕ) (who : ℕ → ℕ → ℕ) (kind : ℕ → ℕ) (work : ℕ → Work) (p : Plan) (j : ℕ) (u : Work) → u.plan ≡ (work j).plan → PlanRule s round phase who kind work p → PlanRule s round phase who kind (update work j u) p
-plan_update s round phase who kind work p j u e k = plan_on s round phase who kind kind work (update work j u) p (update_cases (λ i x. kind i ≡ 1 → x.plan ≡ p) work j u (λ z. e ∙ k.same j z) (λ i _. k.same i)) k
+pub plan_update : (s : Setup) (round : ℕ) (phase : Phase) (who : ℕ → ℕ → ℕ) (kind : ℕ → Kind) (work : ℕ → Work) (p : Plan) (j : ℕ) (u : Work) → u.plan ≡ (work j).plan → PlanRule s round phase who kind work p → PlanRule s round phase who kind (update work j u) p
+plan_update s round phase who kind work p j u e k = plan_on s round phase who kind kind work (update work j u) p (update_cases (λ i x. kind i ≡ Worker → x.plan ≡ p) work j u (λ z. e ∙ k.same j z) (λ i _. k.same i)) k
 
 -- where one seat's knowledge changes, but not its draws
-pub drawn_update : (phase cursor free : ℕ) (row : ℕ → ℕ) (kind : ℕ → ℕ) (work : ℕ → Work) (j : ℕ) (u : Work) → u.drawn ≡ (work j).drawn → DrawnRule phase cursor free row kind work → DrawnRule phase cursor free row kind (update work j u)
+pub drawn_update : (phase : Phase) (cursor free : ℕ) (row : ℕ → ℕ) (kind : ℕ → Kind) (work : ℕ → Work) (j : ℕ) (u : Work) → u.drawn ≡ (work j).drawn → DrawnRule phase cursor free row kind work → DrawnRule phase cursor free row kind (update work j u)
 drawn_update phase cursor free row kind work j u e k = record {
   only = λ i a b. same i ∙ k.only i a b;
   drawn = λ i a b h. k.drawn i a b (was i a b h);
@@ -41,7 +41,7 @@ drawn_update phase cursor free row kind work j u e k = record {
     was i a b h = subst (λ (l : List (ℕ × ℕ)). HasEntry l (a, b)) (same i) h
 
 -- there is no draw
-pub none_drawn : (phase cursor free : ℕ) (row : ℕ → ℕ) (kind : ℕ → ℕ) (work : ℕ → Work) → ((j : ℕ) → (work j).drawn ≡ []) → DrawnRule phase cursor free row kind work
+pub none_drawn : (phase : Phase) (cursor free : ℕ) (row : ℕ → ℕ) (kind : ℕ → Kind) (work : ℕ → Work) → ((j : ℕ) → (work j).drawn ≡ []) → DrawnRule phase cursor free row kind work
 none_drawn phase cursor free row kind work none = record {
   only = λ j _ _. none j;
   drawn = λ j i b h. absurd (no j i b h);
@@ -115,7 +115,7 @@ pub number_kept : (work : ℕ → Work) (j : ℕ) (u : Work) → u.number ≡ (w
 number_kept work j u e = update_cases (λ i x. x.number ≡ (work i).number) work j u e (λ _ _. refl)
 
 -- where a worker's claim goes on, and its number stays
-pub crew_goes : (s : Setup) (round phase : ℕ) (kind : ℕ → ℕ) (work work' : ℕ → Work) (stage : ℕ → Stage) (lone x j m : ℕ) (q : Progress) → kind j ≡ 1 → ((i : ℕ) → (work' i).number ≡ (work i).number) → CrewRule s round phase kind work stage lone → CrewRule s round phase kind work' (update stage x (Held j m q)) lone
+pub crew_goes : (s : Setup) (round : ℕ) (phase : Phase) (kind : ℕ → Kind) (work work' : ℕ → Work) (stage : ℕ → Stage) (lone x j m : ℕ) (q : Progress) → kind j ≡ Worker → ((i : ℕ) → (work' i).number ≡ (work i).number) → CrewRule s round phase kind work stage lone → CrewRule s round phase kind work' (update stage x (Held j m q)) lone
 crew_goes s round phase kind work work' stage lone x j m q k same c = record {
   rounds = c.rounds;
   alone = λ i one a z. let t = c.alone i one a (sym (same i) ∙ z) in (t.0, λ y l n p h. dite (ℕ_discrete y x) (λ e. inl (sym (held_one j l m n q p (sym (update_at stage x y (Held j m q) e) ∙ h)).0 ∙ t.0 j k)) (λ o. t.1 y l n p (sym (update_other stage x y (Held j m q) o) ∙ h)));
@@ -123,7 +123,7 @@ crew_goes s round phase kind work work' stage lone x j m q k same c = record {
 }
 
 -- where one seat's knowledge changes, but not its number
-pub crew_update : (s : Setup) (round phase : ℕ) (kind : ℕ → ℕ) (work : ℕ → Work) (stage : ℕ → Stage) (lone j : ℕ) (u : Work) → u.number ≡ (work j).number → CrewRule s round phase kind work stage lone → CrewRule s round phase kind (update work j u) stage lone
+pub crew_update : (s : Setup) (round : ℕ) (phase : Phase) (kind : ℕ → Kind) (work : ℕ → Work) (stage : ℕ → Stage) (lone j : ℕ) (u : Work) → u.number ≡ (work j).number → CrewRule s round phase kind work stage lone → CrewRule s round phase kind (update work j u) stage lone
 crew_update s round phase kind work stage lone j u e c = record {
   rounds = c.rounds;
   alone = λ i one a z. c.alone i one a (sym (number_kept work j u e i) ∙ z);
@@ -131,19 +131,19 @@ crew_update s round phase kind work stage lone j u e c = record {
 }
 
 -- out of the first half
-pub crew_free : (s : Setup) (round phase : ℕ) (kind : ℕ → ℕ) (work : ℕ → Work) (stage : ℕ → Stage) (lone : ℕ) → (round ≤ s.rounds) × (0 < phase → round < s.rounds) → (phase ≡ 1 → (j : ℕ) → kind j ≡ 1 → ⊥) → CrewRule s round phase kind work stage lone
+pub crew_free : (s : Setup) (round : ℕ) (phase : Phase) (kind : ℕ → Kind) (work : ℕ → Work) (stage : ℕ → Stage) (lone : ℕ) → (round ≤ s.rounds) × (Precedes Resting phase → round < s.rounds) → (phase ≡ FirstHalf → (j : ℕ) → kind j ≡ Worker → ⊥) → CrewRule s round phase kind work stage lone
 crew_free s round phase kind work stage lone low out = record { rounds = low; alone = λ j one k. absurd (out one j k); none = λ j one l k. absurd (out one j k) }
 
 -- where the seats keep their draws
-pub draws_on : (phase : ℕ) (work work' : ℕ → Work) (stage : ℕ → Stage) → ((i : ℕ) → (work' i).drawn ≡ (work i).drawn) → DrawnFor phase work stage → DrawnFor phase work' stage
+pub draws_on : (phase : Phase) (work work' : ℕ → Work) (stage : ℕ → Stage) → ((i : ℕ) → (work' i).drawn ≡ (work i).drawn) → DrawnFor phase work stage → DrawnFor phase work' stage
 draws_on phase work work' stage same h x j m p one e f = let t = h x j m p one e f in (t.0, subst (λ (l : List (ℕ × ℕ)). HasEntry l (t.0, block_of p)) (sym (same j)) t.1)
 
 -- where one seat's knowledge changes, but not its draws
-pub draws_update : (phase : ℕ) (work : ℕ → Work) (stage : ℕ → Stage) (j : ℕ) (u : Work) → u.drawn ≡ (work j).drawn → DrawnFor phase work stage → DrawnFor phase (update work j u) stage
+pub draws_update : (phase : Phase) (work : ℕ → Work) (stage : ℕ → Stage) (j : ℕ) (u : Work) → u.drawn ≡ (work j).drawn → DrawnFor phase work stage → DrawnFor phase (update work j u) stage
 draws_update phase work stage j u e = draws_on phase work (update work j u) stage (update_cases (λ i x. x.drawn ≡ (work i).drawn) work j u e (λ _ _. refl))
 
 -- where a claim goes on with the same block
-pub draws_goes : (phase : ℕ) (work : ℕ → Work) (stage : ℕ → Stage) (x j m : ℕ) (p q : Progress) → stage x ≡ Held j m p → (draws q ≡ 1 → (draws p ≡ 1) × (block_of q ≡ block_of p)) → DrawnFor phase work stage → DrawnFor phase work (update stage x (Held j m q))
+pub draws_goes : (phase : Phase) (work : ℕ → Work) (stage : ℕ → Stage) (x j m : ℕ) (p q : Progress) → stage x ≡ Held j m p → (draws q ≡ 1 → (draws p ≡ 1) × (block_of q ≡ block_of p)) → DrawnFor phase work stage → DrawnFor phase work (update stage x (Held j m q))
 draws_goes phase work stage x j m p q is same h y i k z one e f = dite (ℕ_discrete y x)
     (λ a. let t = held_one j i m k q z (sym (update_at stage x y (Held j m q) a) ∙ e) in let u = same (ap draws t.2 ∙ f) in
     subst (λ (c : ℕ × ℕ). (n : ℕ) × HasEntry (work c.0).drawn (n, c.1)) (λ n. (t.0 n, (sym u.1 ∙ ap block_of t.2) n)) (h x j m p one is u.0))

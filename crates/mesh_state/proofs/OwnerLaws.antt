@@ -5,7 +5,7 @@ use mathlib.Core.Logic.{dite}
 use native.Mathlib.Decide.{ℕ_discrete, dec_lt}
 use Rattle.mesh_words.specs.Setup.{Setup}
 use Rattle.mesh_words.specs.Words.{Words}
-use Rattle.mesh_words.specs.Views.{Views}
+use Rattle.mesh_words.specs.Views.{Views, Resting}
 use Rattle.mesh_words.specs.Claims.{Progress, Claimed, Failed, Drawn, Half, Whole, Living}
 use Rattle.mesh_state.specs.Claims.{block_of}
 use Rattle.mesh_words.specs.Entries.{HasEntry}
@@ -42,18 +42,18 @@ early_pins s w n v (g, r) = (r.early, no_early s w n v g r)
 
 module _ (s : Setup) (w : Words) (n : ℕ) (v : Views) (g : Ghost) (r : Rule s w n v g) where
   -- before the round each block of the chains was published
-  pub is_born : v.ruling.phase ≡ 0 → (b x m : ℕ) → g.life b ≡ Placed x m → (0 < w.born b) × (w.born b ≤ w.round) × (w.died b ≤ w.round)
+  pub is_born : v.ruling.phase ≡ Resting → (b x m : ℕ) → g.life b ≡ Placed x m → (0 < w.born b) × (w.born b ≤ w.round) × (w.died b ≤ w.round)
   is_born z b x m u = (
     elim (dec_lt 0 (w.born b)) [ yes l ↦ l | no o ↦ absurd (let t = r.claims.half b x m u (omega arith) in ⊎_elim (λ h. open_ x t.0 m _ h) (λ h. open_ x t.0 m _ h) t.1) ],
-    elim (dec_lt w.round (w.born b)) [ yes l ↦ absurd (let c = r.chains.borns b in let t = r.claims.kept b x m u (omega arith) (λ e. omega arith) in open_ x t.0 m _ t.1) | no o ↦ omega arith ],
-    r.names.calm b x m ((λ e. omega arith), λ e. omega arith) u,
+    elim (dec_lt w.round (w.born b)) [ yes l ↦ absurd (let c = r.chains.borns b in let t = r.claims.kept b x m u (omega arith) (λ e. cc) in open_ x t.0 m _ t.1) | no o ↦ omega arith ],
+    r.names.calm b x m ((λ e. cc), λ e. cc) u,
   )
     where
       open_ : (x j m : ℕ) (p : Progress) → g.stage x ≡ Held j m p → ⊥
       open_ x j m p h = not_open j m p (sym h ∙ r.claims.none x z)
 
   -- and each block that is not free is noted
-  pub all_noted : v.ruling.phase ≡ 0 → (b : ℕ) → (g.life b ≡ Free) ⊎ ((x : ℕ) × (m : ℕ) × HasEntry v.ruling.placed (b, x, m))
+  pub all_noted : v.ruling.phase ≡ Resting → (b : ℕ) → (g.life b ≡ Free) ⊎ ((x : ℕ) × (m : ℕ) × HasEntry v.ruling.placed (b, x, m))
   all_noted z b = by (g.life b) refl
     where
       open_ : (x j m : ℕ) (p : Progress) → g.stage x ≡ Held j m p → ⊥

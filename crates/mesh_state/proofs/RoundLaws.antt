@@ -13,12 +13,13 @@ use Rattle.mesh_state.proofs.FoundAgain.{chained_stands, found_covers, one_more,
 use Rattle.mesh_state.proofs.ChainSteps.{named, older_named}
 use Rattle.mesh_state.proofs.Across.{Went, half_of}
 use Rattle.mesh_state.proofs.Lists.{bisected_closed, entry_low, entry_at}
+use Rattle.mesh_words.specs.Views.{FirstHalf, RollingBack, Precedes, order}
 
 pub between : BetweenForests
-between s w n v (g, r) one = (r.plan.aim (omega arith) (omega arith), λ k. ((λ h. (h.0, r.names.grows k h.0 (omega arith) h.1)), λ h. r.plan.within k (omega arith) (omega arith) h))
+between s w n v (g, r) one = (r.plan.aim (omega (arith, ap order one)) (omega (arith, ap order one)), λ k. ((λ h. (h.0, r.names.grows k h.0 (omega (arith, ap order one)) h.1)), λ h. r.plan.within k (omega (arith, ap order one)) (omega (arith, ap order one)) h))
 
 pub differs : DiffersByPatches
-differs s w n v (g, r) later k = let a : 1 < v.ruling.phase = ⊎_elim (λ e. omega arith) (λ e. omega arith) later in let b : v.ruling.phase < 4 = ⊎_elim (λ e. omega arith) (λ e. omega arith) later in
+differs s w n v (g, r) later k = let a : Precedes FirstHalf v.ruling.phase = ⊎_elim (λ e. omega (arith, ap order e)) (λ e. omega (arith, ap order e)) later in let b : Precedes v.ruling.phase RollingBack = ⊎_elim (λ e. omega (arith, ap order e)) (λ e. omega (arith, ap order e)) later in
     ((λ h. r.plan.within k (omega arith) b h), (λ h. r.plan.whole k a b h), λ e h l. let z = r.plan.done k e h in let y = l.1 in omega arith)
 
 pub closed : BisectedClosed
@@ -116,7 +117,7 @@ standing_kept s w n v (g, r) b x t st = (
     free e = let z : 0 ≡ x + 1 = sym (ap (λ (l : Life). stands l t) e) ∙ st in omega arith
 
 pub rounds_left : RoundsLeft
-rounds_left s w n v (g, r) = (r.crew.rounds.0, λ j k. r.crew.rounds.1 (⊎_elim (λ e. omega arith) (λ e. omega arith) (half_of s w n v g r j k)))
+rounds_left s w n v (g, r) = (r.crew.rounds.0, λ j k. r.crew.rounds.1 (⊎_elim (λ e. omega (arith, ap order e)) (λ e. omega (arith, ap order e)) (half_of s w n v g r j k)))
 
 pub worker_alone : WorkerAlone
 worker_alone s w n v (g, r) j one k z = let t = r.crew.alone j one k z in (t.0, λ i x m p h. t.1 x i m p (r.claims.held i x m p h))

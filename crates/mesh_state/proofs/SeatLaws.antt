@@ -12,6 +12,7 @@ use Rattle.mesh_state.specs.SeatLaws.{BeginsEqual, LivingClaimed, LivingBlocks, 
 use Rattle.mesh_state.proofs.FoundAgain.{one_more, placed}
 use Rattle.mesh_state.proofs.Across.{half_of, place_one, chained_of}
 use Rattle.mesh_state.proofs.Lawful.{walks_end}
+use Rattle.mesh_words.specs.Views.{order}
 
 pub begins_equal : BeginsEqual
 begins_equal s w n v (g, r) k z = r.names.fresh k z
@@ -48,10 +49,10 @@ living_blocks s w n v (g, r) b x m u p z = (
     held_at j h t y c = let f = r.claims.shape x j m (Living b) h in ⊎_elim (λ e. ap (λ (i : ℕ). (w.head i).block) e ∙ ap (λ (l : Node). l.block) f.2) (λ e. ap (λ (l : Node). l.block) (f.3 y e)) (chained_of (g.life b) t x m y u c)
 
     heads : (t : Bool) (y : ℕ) → chained (g.life b) t ≡ y + 1 → (w.head y).block ≡ b + 1
-    heads t y c = elim (dec_lt v.ruling.phase 4) [
+    heads t y c = elim (dec_lt (order v.ruling.phase) 4) [
       | yes l ↦ read_at (w.round + 1) (inr (refl, l)) (r.chains.borns b) t y c
       | no o ↦ elim (dec_lt w.round (w.born b)) [
-        | yes k ↦ (let l = r.chains.borns b in let a = r.claims.kept b x m u (omega arith) (λ e. omega arith) in held_at a.0 a.1 t y c)
+        | yes k ↦ (let l = r.chains.borns b in let a = r.claims.kept b x m u (omega arith) (λ e. o (omega (arith, ap order e))) in held_at a.0 a.1 t y c)
         | no k ↦ read_at w.round (inl (inl refl)) (omega arith) t y c
       ]
     ]

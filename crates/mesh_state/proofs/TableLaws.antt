@@ -4,7 +4,7 @@ use mathlib.Core.Logic.{dite}
 use native.Mathlib.Decide.{ℕ_discrete, dec_lt}
 use Rattle.mesh_words.specs.Setup.{Setup, places}
 use Rattle.mesh_words.specs.Words.{Words}
-use Rattle.mesh_words.specs.Views.{Views, Still, At}
+use Rattle.mesh_words.specs.Views.{Views, Still, At, Worker, order}
 use Rattle.mesh_words.specs.Places.{member_of}
 use Rattle.mesh_state.specs.Ghosts.{Held, Free, Undone, stands, Ghost}
 use Rattle.mesh_state.specs.Bisections.{IsPatch}
@@ -20,6 +20,7 @@ use Rattle.mesh_state.proofs.Bisections.{two_names}
 use Rattle.mesh_state.proofs.Inside.{below_pool, not_free, label_below, label_one, label_of}
 use Rattle.mesh_state.proofs.Lawful.{uses_block}
 use Rattle.mesh_state.proofs.RoundLaws.{chains_stand}
+use Rattle.mesh_words.proofs.SeatKinds.{kind_discrete}
 
 module _ (s : Setup) (w : Words) (n : ℕ) (v : Views) (g : Ghost) (r : Rule s w n v g) where
   low : (b : ℕ) → (g.life b ≡ Free → ⊥) → b < s.pool
@@ -52,15 +53,15 @@ module _ (s : Setup) (w : Words) (n : ℕ) (v : Views) (g : Ghost) (r : Rule s w
   side_is b x k t st e u =
       ((λ f. sym (two_stand b x t u st (e ∙ sym f))), λ f. ap (λ (i : Bool). w.name (member_of b i)) f ∙ e)
 
-  pub work_label : (j x k : ℕ) → v.kind j ≡ 1 → IsWorkPlace s w.round v.ruling.phase w.name g.who x k → IsLabel s w.name g.life x k
-  work_label j x k kind (inl t) = label_of s w n v g r (w.round + 1) (inr (refl, let e = t.0 in omega arith)) x k t.1
+  pub work_label : (j x k : ℕ) → v.kind j ≡ Worker → IsWorkPlace s w.round v.ruling.phase w.name g.who x k → IsLabel s w.name g.life x k
+  work_label j x k kind (inl t) = label_of s w n v g r (w.round + 1) (inr (refl, let e = t.0 in omega (arith, ap order e))) x k t.1
   work_label j x k kind (inr t) = label_of s w n v g r w.round (inl (inl refl)) x k t
 
   not_still : (x k b : ℕ) (t : Bool) → Still ≡ At x k b t → ⊥
   not_still x k b t e = cc
 
-  worker : (j x k b : ℕ) (t : Bool) → (v.work j).walk ≡ At x k b t → v.kind j ≡ 1
-  worker j x k b t at = dite (ℕ_discrete (v.kind j) 1) (λ e. e) (λ o. absurd (not_still x k b t (sym ((r.walks j).still o).1 ∙ at)))
+  worker : (j x k b : ℕ) (t : Bool) → (v.work j).walk ≡ At x k b t → v.kind j ≡ Worker
+  worker j x k b t at = dite (kind_discrete (v.kind j) Worker) (λ e. e) (λ o. absurd (not_still x k b t (sym ((r.walks j).still o).1 ∙ at)))
 
 pub blocks_in_pool : BlocksInPool
 blocks_in_pool s w n v (g, r) = (
@@ -94,7 +95,7 @@ places_in_table s w n v (g, r) = (
   (λ b x t st. r.inside.stand_in b t x st),
   (λ j x m p h. let is = r.claims.held j x m p h in (place_of s w.round w.cursor w.free v.ruling.phase w.row w.claimed w.head w.born g.life g.stage v.claims r.claims x j m p is, λ y e. r.inside.seconds x j y p (subst (λ (i : ℕ). g.stage x ≡ Held j i p) e is))),
   λ j x k. (
-    (λ h. let t = (r.works j).found x k h in place_low s w n v g r x k (label_of s w n v g r (w.round + 1) (inr (refl, let e = t.0 in omega arith)) x k t.1)),
+    (λ h. let t = (r.works j).found x k h in place_low s w n v g r x k (label_of s w n v g r (w.round + 1) (inr (refl, let e = t.0 in omega (arith, ap order e))) x k t.1)),
     (λ h. place_low s w n v g r x k (label_of s w n v g r w.round (inl (inl refl)) x k ((r.walks j).stood x k h))),
     λ q p h. place_low s w n v g r x k (label_of s w n v g r q (inl (inr (j, p))) x k ((r.goes j).places q x k p h)),
   ),

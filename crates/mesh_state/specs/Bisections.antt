@@ -2,7 +2,7 @@
 use Rattle.std.specs.Prelude.{◌≡◌, ℕ, ◌+◌, ◌<◌, ◌≤◌, Bool, true, false, ◌⊎◌}
 use Rattle.mesh_words.specs.Places.{member_of, child_place}
 use Rattle.mesh_words.specs.Setup.{Setup}
-use Rattle.mesh_words.specs.Views.{resting, second_half, closing, taking_back, Read}
+use Rattle.mesh_words.specs.Views.{Resting, SecondHalf, Closing, RollingBack, Read, Phase, Precedes}
 use Rattle.mesh_words.specs.Words.{Node}
 use Rattle.mesh_state.specs.Ghosts.{Life, Placed, chained}
 use Rattle.mesh_state.specs.Chains.{Covers, Reaches}
@@ -27,8 +27,8 @@ abbrev pub IsKept : ℕ → (ℕ → Read) → ℕ → Type 0
 IsKept round read q = (q ≡ round) ⊎ ((j : ℕ) × ((read j).pin ≡ q + 1))
 
 -- a kept round, or, but while it is taken back, the round in work
-abbrev pub MayRead : ℕ → ℕ → (ℕ → Read) → ℕ → Type 0
-MayRead round phase read q = IsKept round read q ⊎ ((q ≡ round + 1) × (phase < taking_back))
+abbrev pub MayRead : ℕ → Phase → (ℕ → Read) → ℕ → Type 0
+MayRead round phase read q = IsKept round read q ⊎ ((q ≡ round + 1) × (Precedes phase RollingBack))
 
 -- the NAME words of a block are a patch, with a second member exactly where the block has a second place
 abbrev pub IsPatch : Setup → (ℕ → ℕ) → ℕ → ℕ → Type 0
@@ -38,16 +38,16 @@ IsPatch s name b m = (s.leads (name (member_of b false)) ≡ 1) × (name (member
 abbrev pub IsLiving : (ℕ → ℕ) → (ℕ → ℕ) → (ℕ → Life) → ℕ → Type 0
 IsLiving born died life b = (x : ℕ) × (m : ℕ) × (life b ≡ Placed x m) × (0 < born b) × (died b ≡ 0)
 
-pub record NamesRule (s : Setup) (round phase : ℕ) (name : ℕ → ℕ) (head hist : ℕ → Node) (born died : ℕ → ℕ) (life : ℕ → Life) (who : ℕ → ℕ → ℕ) (read : ℕ → Read) : Type 0 where
+pub record NamesRule (s : Setup) (round : ℕ) (phase : Phase) (name : ℕ → ℕ) (head hist : ℕ → Node) (born died : ℕ → ℕ) (life : ℕ → Life) (who : ℕ → ℕ → ℕ) (read : ℕ → Read) : Type 0 where
   pub fits : (q : ℕ) → MayRead round phase read q → Fits s name head hist born died life (who q) q
   pub sound : (q : ℕ) → MayRead round phase read q → IsSound s name born died life (who q) q
   pub patch : (b x m : ℕ) → life b ≡ Placed x m → IsPatch s name b m
   -- no patch has two living blocks
   pub one : (b c : ℕ) → IsLiving born died life b → IsLiving born died life c → name (member_of b false) ≡ name (member_of c false) → b ≡ c
   -- blocks are retired in the second half and while the round is closed alone
-  pub calm : (b x m : ℕ) → (phase ≡ second_half → ⊥) × (phase ≡ closing → ⊥) → life b ≡ Placed x m → died b ≤ round
+  pub calm : (b x m : ℕ) → (phase ≡ SecondHalf → ⊥) × (phase ≡ Closing → ⊥) → life b ≡ Placed x m → died b ≤ round
   -- the first half only adds to the last finished round's forest, from which the round begins
-  pub grows : (n b : ℕ) → phase < second_half → who round n ≡ b + 1 → who (round + 1) n ≡ b + 1
+  pub grows : (n b : ℕ) → Precedes phase SecondHalf → who round n ≡ b + 1 → who (round + 1) n ≡ b + 1
   -- and the second half only takes from it
-  pub either : (n b : ℕ) → phase < taking_back → who round n ≡ b + 1 → (who (round + 1) n ≡ b + 1) ⊎ (who (round + 1) n ≡ 0)
-  pub fresh : (n : ℕ) → phase ≡ resting → who (round + 1) n ≡ who round n
+  pub either : (n b : ℕ) → Precedes phase RollingBack → who round n ≡ b + 1 → (who (round + 1) n ≡ b + 1) ⊎ (who (round + 1) n ≡ 0)
+  pub fresh : (n : ℕ) → phase ≡ Resting → who (round + 1) n ≡ who round n

@@ -1,6 +1,6 @@
 -- What the rule says of claims: where their bits are, of which views they are, and how many draws were made for them.
 use Rattle.std.specs.Prelude.{◌≡◌, ℕ, ◌+◌, ◌<◌, ◌≤◌, ◌⊎◌, ◌↔◌}
-use Rattle.mesh_words.specs.Views.{resting, first_half, taking_back}
+use Rattle.mesh_words.specs.Views.{Resting, FirstHalf, RollingBack, Precedes}
 use Rattle.mesh_words.specs.Claims.{Progress, Drawn, Half, Whole, claim}
 use Rattle.mesh_words.specs.Entries.{HasEntry}
 use Rattle.mesh_words.specs.Setup.{places}
@@ -26,7 +26,7 @@ StagesViewed = Always (λ s w n v g. (j x m : ℕ) (p : Progress) → (g.stage x
 
 -- in the first half CURSOR is how many of the claims have a draw
 abbrev pub DrawsCounted : Type 0
-DrawsCounted = Always (λ s w n v g. v.ruling.phase ≡ first_half → w.cursor ≡ sum_below (places s) (λ x. draws_of (g.stage x)))
+DrawsCounted = Always (λ s w n v g. v.ruling.phase ≡ FirstHalf → w.cursor ≡ sum_below (places s) (λ x. draws_of (g.stage x)))
 
 -- a block that was drawn and not published has BORN 0: it is in no chain until it is linked at the first member's place, and then in those of its places; and so has one that was taken back
 abbrev pub UnbornBlocks : Type 0
@@ -45,4 +45,4 @@ UnbornClaimed = Always (λ s w n v g. (b x m : ℕ) → g.life b ≡ Placed x m 
 
 -- in both halves and while the round is closed the target is the least closed list over the needs and the last finished round's names
 abbrev pub TargetLeast : Type 0
-TargetLeast = Always (λ s w n v g. resting < v.ruling.phase → v.ruling.phase < taking_back → IsTarget s (Holds (g.who w.round)) v.ruling.plan)
+TargetLeast = Always (λ s w n v g. Precedes Resting v.ruling.phase → Precedes v.ruling.phase RollingBack → IsTarget s (Holds (g.who w.round)) v.ruling.plan)

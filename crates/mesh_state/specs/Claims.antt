@@ -1,6 +1,6 @@
 -- Claims, draws and free rows.
 use Rattle.std.specs.Prelude.{◌≡◌, ℕ, ◌+◌, ◌<◌, ◌≤◌, List, ◌⊎◌}
-use Rattle.mesh_words.specs.Views.{resting, first_half, second_half, closing}
+use Rattle.mesh_words.specs.Views.{Resting, FirstHalf, SecondHalf, Closing, Phase}
 use Rattle.mesh_words.specs.Claims.{Progress, Claimed, Failed, Drawn, Half, Whole, Living, Claim, claim}
 use Rattle.mesh_words.specs.Entries.{HasEntry}
 use Rattle.mesh_words.specs.Setup.{Setup, places}
@@ -53,7 +53,7 @@ Shape round head born life x m (Half b) = (life b ≡ Placed x m) × (born b ≡
 Shape round head born life x m (Whole b) = (life b ≡ Placed x m) × (born b ≡ 0) × (head x ≡ node (b + 1) 0) × ((y : ℕ) → m ≡ y + 1 → head y ≡ node (b + 1) 0)
 Shape round head born life x m (Living b) = (life b ≡ Placed x m) × (born b ≡ round + 1) × (head x ≡ node (b + 1) 0) × ((y : ℕ) → m ≡ y + 1 → head y ≡ node (b + 1) 0)
 
-pub record ClaimsRule (s : Setup) (round cursor free phase : ℕ) (row : ℕ → ℕ) (claimed : ℕ → ℕ) (head : ℕ → Node) (born : ℕ → ℕ) (life : ℕ → Life) (stage : ℕ → Stage) (claims : ℕ → List Claim) : Type 0 where
+pub record ClaimsRule (s : Setup) (round cursor free : ℕ) (phase : Phase) (row : ℕ → ℕ) (claimed : ℕ → ℕ) (head : ℕ → Node) (born : ℕ → ℕ) (life : ℕ → Life) (stage : ℕ → Stage) (claims : ℕ → List Claim) : Type 0 where
   -- a claim in a view is that of its place, and is in the view of its seat
   pub held : (j x m : ℕ) (p : Progress) → HasEntry (claims j) (claim x m p) → stage x ≡ Held j m p
   pub holds : (j x m : ℕ) (p : Progress) → stage x ≡ Held j m p → HasEntry (claims j) (claim x m p)
@@ -63,14 +63,14 @@ pub record ClaimsRule (s : Setup) (round cursor free phase : ℕ) (row : ℕ →
   pub mates : (x j y : ℕ) (p : Progress) → stage x ≡ Held j (y + 1) p → (stage y ≡ Open) × ((z i : ℕ) (q : Progress) → stage z ≡ Held i (y + 1) q → z ≡ x)
   pub shape : (x j m : ℕ) (p : Progress) → stage x ≡ Held j m p → Shape round head born life x m p
   -- each block that was born in the round in work has its claim, but while the round is closed
-  pub kept : (b x m : ℕ) → life b ≡ Placed x m → born b ≡ round + 1 → (phase ≡ closing → ⊥) → (j : ℕ) × (stage x ≡ Held j m (Living b))
+  pub kept : (b x m : ℕ) → life b ≡ Placed x m → born b ≡ round + 1 → (phase ≡ Closing → ⊥) → (j : ℕ) × (stage x ≡ Held j m (Living b))
   -- each block in a chain that is not born has its claim
   pub half : (b x m : ℕ) → life b ≡ Placed x m → born b ≡ 0 → (j : ℕ) × ((stage x ≡ Held j m (Half b)) ⊎ (stage x ≡ Held j m (Whole b)))
   -- the rows from CURSOR on and below FREE name free blocks, each once
   pub rows : (i : ℕ) → cursor ≤ i → i < free → (life (row i) ≡ Free) × (born (row i) ≡ 0)
   pub apart : (i k : ℕ) → cursor ≤ i → i < free → cursor ≤ k → k < free → row i ≡ row k → i ≡ k
   -- in the first half CURSOR counts the draws
-  pub drawn : phase ≡ first_half → cursor ≡ sum_below (places s) (λ x. draws_of (stage x))
+  pub drawn : phase ≡ FirstHalf → cursor ≡ sum_below (places s) (λ x. draws_of (stage x))
   -- in the second half each claim has a published block, and before the round there is no claim
-  pub living : (x j m : ℕ) (p : Progress) → stage x ≡ Held j m p → phase ≡ second_half → (b : ℕ) × (p ≡ Living b)
-  pub none : (x : ℕ) → phase ≡ resting → stage x ≡ Open
+  pub living : (x j m : ℕ) (p : Progress) → stage x ≡ Held j m p → phase ≡ SecondHalf → (b : ℕ) × (p ≡ Living b)
+  pub none : (x : ℕ) → phase ≡ Resting → stage x ≡ Open

@@ -4,7 +4,7 @@ use Rattle.mesh_names.specs.Triangles.{Shape}
 use Rattle.mesh_names.specs.Partners.{Across, Tells}
 use Rattle.mesh_words.specs.declared.layout.Layout.{Layout}
 use Rattle.mesh_words.specs.Setup.{setup_of}
-use Rattle.mesh_words.specs.Views.{no_plan, Still, Note, Work, Read, Sure, unsure, Views}
+use Rattle.mesh_words.specs.Views.{no_plan, Still, Note, Work, Read, Sure, unsure, Views, Kind, Vacant, Owner, Resting}
 use Rattle.mesh_words.specs.FreshWords.{AreFresh}
 use Rattle.mesh_words.specs.Words.{Words, node, words_at}
 use Rattle.mesh_state.specs.Ghosts.{Open, Free, Ghost}
@@ -17,7 +17,7 @@ noted_below (suc n) f = (n, f n) ∷ noted_below n f
 
 -- a pass that knows nothing of the work
 abbrev pub idle : Work
-idle = record { half = 0; round = 0; number = 0; plan = no_plan; drawn = []; found = []; known = []; open_ = []; given = []; absent = []; stood = []; had = []; grown = []; retired = []; went = []; walk = Still }
+idle = record { half = Resting; round = 0; number = 0; plan = no_plan; drawn = []; found = []; known = []; open_ = []; given = []; absent = []; stood = []; had = []; grown = []; retired = []; went = []; walk = Still }
 
 -- a pass without a pin
 abbrev pub blank : List Note → Read
@@ -27,9 +27,9 @@ abbrev pub fresh_words : ℕ → Words
 fresh_words pool = record { round = 0; taken = 0; cursor = 0; free = pool; released = λ _. 0; row = λ i. cond (ltb i pool) i 0; claimed = λ _. 0; head = λ _. node 0 0; hist = λ _. node 0 0; born = λ _. 0; died = λ _. 0; name = λ _. 0 }
 
 -- the owner has the first seat
-abbrev pub fresh_kind : ℕ → ℕ
-fresh_kind zero = 3
-fresh_kind (suc j) = 0
+abbrev pub fresh_kind : ℕ → Kind
+fresh_kind zero = Owner
+fresh_kind (suc j) = Vacant
 
 -- the owner is sure of each row, and that no block is born
 abbrev pub fresh_sure : ℕ → ℕ → Sure
@@ -37,7 +37,7 @@ fresh_sure pool zero = record unsure { born = noted_below pool (λ _. 0); row = 
 fresh_sure pool (suc j) = unsure
 
 abbrev pub fresh_views : ℕ → Views
-fresh_views pool = record { kind = fresh_kind; claims = λ _. []; work = λ _. idle; sure = fresh_sure pool; read = λ _. blank []; ruling = record { phase = 0; finished = 0; history = [] ∷ []; plan = no_plan; workers = 0; readers = 0; early = 0; lone = 0; left = []; clear = []; hand = []; cursor = 1; free = pool + 1; low = 0; high = 0; retired = []; kept = []; placed = []; undone = []; seen = 0; quiet = 0 } }
+fresh_views pool = record { kind = fresh_kind; claims = λ _. []; work = λ _. idle; sure = fresh_sure pool; read = λ _. blank []; ruling = record { phase = Resting; finished = 0; history = [] ∷ []; plan = no_plan; workers = 0; readers = 0; early = 0; lone = 0; left = []; clear = []; hand = []; cursor = 1; free = pool + 1; low = 0; high = 0; retired = []; kept = []; placed = []; undone = []; seen = 0; quiet = 0 } }
 
 abbrev pub fresh_ghost : Ghost
 fresh_ghost = record { stage = λ _. Open; life = λ _. Free; who = λ _ _. 0; pins = λ _. 0 }

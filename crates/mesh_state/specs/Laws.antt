@@ -2,7 +2,7 @@
 use Rattle.std.specs.Prelude.{◌≡◌, ℕ, ◌+◌, ◌*◌, ◌≤◌, ◌<◌, Bool, true, false, List, [], ◌∷◌, length, ◌⊎◌, ◌↔◌}
 use Rattle.mesh_words.specs.Setup.{Setup}
 use Rattle.mesh_words.specs.Words.{Node, Words}
-use Rattle.mesh_words.specs.Views.{first_half, Views}
+use Rattle.mesh_words.specs.Views.{FirstHalf, Views}
 use Rattle.mesh_words.specs.Claims.{Progress, claim}
 use Rattle.mesh_state.specs.Claims.{block_of}
 use Rattle.mesh_words.specs.Places.{member_of}
@@ -31,7 +31,7 @@ OneClaim = Always (λ s w n v g. (i j x y m k b : ℕ) (p q : Progress) → HasE
 
 -- in the first half there are at most as many draws as places
 abbrev pub DrawsBounded : Type 0
-DrawsBounded = Always (λ s w n v g. v.ruling.phase ≡ first_half → w.cursor ≤ s.elements + 4 * s.pool)
+DrawsBounded = Always (λ s w n v g. v.ruling.phase ≡ FirstHalf → w.cursor ≤ s.elements + 4 * s.pool)
 
 -- the rows from CURSOR on and below FREE name free blocks, each once
 abbrev pub FreeRows : Type 0

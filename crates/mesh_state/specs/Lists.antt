@@ -3,7 +3,7 @@ use Rattle.std.specs.Prelude.{◌≡◌, ℕ, ◌+◌, ◌<◌, ◌≤◌, Bool,
 use Rattle.mesh_words.specs.Entries.{HasEntry, EntryAt}
 use Rattle.mesh_words.specs.Setup.{Setup}
 use Rattle.mesh_words.specs.Claims.{Progress, Living}
-use Rattle.mesh_words.specs.Views.{resting, first_half, closing, taking_back, worker, Plan, Work, Read}
+use Rattle.mesh_words.specs.Views.{Resting, FirstHalf, Closing, RollingBack, Worker, Plan, Work, Read, Kind, Phase, Precedes}
 use Rattle.mesh_state.specs.Ghosts.{Stage, Held}
 use Rattle.mesh_state.specs.Claims.{block_of, draws}
 
@@ -33,16 +33,16 @@ abbrev pub IsListed : Setup → List ℕ → ℕ → Type 0
 IsListed s list n = (k : ℕ) × HasEntry list k × IsMember s k n
 
 -- the lists of the round in work
-pub record PlanRule (s : Setup) (round phase : ℕ) (who : ℕ → ℕ → ℕ) (kind : ℕ → ℕ) (work : ℕ → Work) (p : Plan) : Type 0 where
+pub record PlanRule (s : Setup) (round : ℕ) (phase : Phase) (who : ℕ → ℕ → ℕ) (kind : ℕ → Kind) (work : ℕ → Work) (p : Plan) : Type 0 where
   -- each worker's pass has them
-  pub same : (j : ℕ) → kind j ≡ worker → (work j).plan ≡ p
-  pub aim : resting < phase → phase < taking_back → IsTarget s (Holds (who round)) p
+  pub same : (j : ℕ) → kind j ≡ Worker → (work j).plan ≡ p
+  pub aim : Precedes Resting phase → Precedes phase RollingBack → IsTarget s (Holds (who round)) p
   -- the names that are bisected in the round are of the target
-  pub within : (n : ℕ) → resting < phase → phase < taking_back → Holds (who (round + 1)) n → HasEntry p.target n
+  pub within : (n : ℕ) → Precedes Resting phase → Precedes phase RollingBack → Holds (who (round + 1)) n → HasEntry p.target n
   -- from the second half on all of the target are, but of patches of the retire list
-  pub whole : (n : ℕ) → first_half < phase → phase < taking_back → HasEntry p.target n → Holds (who (round + 1)) n ⊎ IsListed s p.retire n
+  pub whole : (n : ℕ) → Precedes FirstHalf phase → Precedes phase RollingBack → HasEntry p.target n → Holds (who (round + 1)) n ⊎ IsListed s p.retire n
   -- of which none is when the round is closed
-  pub done : (n : ℕ) → phase ≡ closing → IsListed s p.retire n → who (round + 1) n ≡ 0
+  pub done : (n : ℕ) → phase ≡ Closing → IsListed s p.retire n → who (round + 1) n ≡ 0
 
 -- the forests of the finished rounds, and what passes were told of them
 pub record HistoryRule (round : ℕ) (who : ℕ → ℕ → ℕ) (read : ℕ → Read) (history : List (List ℕ)) : Type 0 where
@@ -56,23 +56,23 @@ pub record HistoryRule (round : ℕ) (who : ℕ → ℕ → ℕ) (read : ℕ →
   pub made : (j : ℕ) → ((read j).made ≤ (read j).seen) × ((q : ℕ) → (read j).pin ≡ q + 1 → (read j).made ≤ q)
 
 -- the draws of the first half
-pub record DrawnRule (phase cursor free : ℕ) (row : ℕ → ℕ) (kind : ℕ → ℕ) (work : ℕ → Work) : Type 0 where
+pub record DrawnRule (phase : Phase) (cursor free : ℕ) (row : ℕ → ℕ) (kind : ℕ → Kind) (work : ℕ → Work) : Type 0 where
   -- only workers' passes and the owner have draws
-  pub only : (j : ℕ) → (kind j ≡ worker → ⊥) → (j ≡ 0 → ⊥) → (work j).drawn ≡ []
+  pub only : (j : ℕ) → (kind j ≡ Worker → ⊥) → (j ≡ 0 → ⊥) → (work j).drawn ≡ []
   -- a draw's number is below CURSOR, and below FREE its block is that of the row
-  pub drawn : (j i b : ℕ) → HasEntry (work j).drawn (i, b) → (phase ≡ first_half) × (i < cursor) × (i < free → b ≡ row i + 1) × (free ≤ i → b ≡ 0)
+  pub drawn : (j i b : ℕ) → HasEntry (work j).drawn (i, b) → (phase ≡ FirstHalf) × (i < cursor) × (i < free → b ≡ row i + 1) × (free ≤ i → b ≡ 0)
   -- a draw is in one view
   pub apart : (j k i b c : ℕ) → HasEntry (work j).drawn (i, b) → HasEntry (work k).drawn (i, c) → j ≡ k
 
 -- in the first half each claim for which a draw was made has its block, or none, by a draw that the claim's seat has
-abbrev pub DrawnFor : ℕ → (ℕ → Work) → (ℕ → Stage) → Type 0
-DrawnFor phase work stage = (x j m : ℕ) (p : Progress) → phase ≡ first_half → stage x ≡ Held j m p → draws p ≡ 1 → (i : ℕ) × HasEntry (work j).drawn (i, block_of p)
+abbrev pub DrawnFor : Phase → (ℕ → Work) → (ℕ → Stage) → Type 0
+DrawnFor phase work stage = (x j m : ℕ) (p : Progress) → phase ≡ FirstHalf → stage x ≡ Held j m p → draws p ≡ 1 → (i : ℕ) × HasEntry (work j).drawn (i, block_of p)
 
 -- who is at work
-pub record CrewRule (s : Setup) (round phase : ℕ) (kind : ℕ → ℕ) (work : ℕ → Work) (stage : ℕ → Stage) (lone : ℕ) : Type 0 where
+pub record CrewRule (s : Setup) (round : ℕ) (phase : Phase) (kind : ℕ → Kind) (work : ℕ → Work) (stage : ℕ → Stage) (lone : ℕ) : Type 0 where
   -- a round in work is one of those for which the table was made
-  pub rounds : (round ≤ s.rounds) × (resting < phase → round < s.rounds)
+  pub rounds : (round ≤ s.rounds) × (Precedes Resting phase → round < s.rounds)
   -- while a pass of worker 0 is out in the first half, no other worker's is, and each claim without a living block is its own
-  pub alone : (j : ℕ) → phase ≡ first_half → kind j ≡ worker → (work j).number ≡ 0 → ((i : ℕ) → kind i ≡ worker → i ≡ j) × ((x i m : ℕ) (p : Progress) → stage x ≡ Held i m p → (i ≡ j) ⊎ ((b : ℕ) × (p ≡ Living b)))
+  pub alone : (j : ℕ) → phase ≡ FirstHalf → kind j ≡ Worker → (work j).number ≡ 0 → ((i : ℕ) → kind i ≡ Worker → i ≡ j) × ((x i m : ℕ) (p : Progress) → stage x ≡ Held i m p → (i ≡ j) ⊎ ((b : ℕ) × (p ≡ Living b)))
   -- the owner knows where none is out
-  pub none : (j : ℕ) → phase ≡ first_half → lone ≡ 0 → kind j ≡ worker → (work j).number ≡ 0 → ⊥
+  pub none : (j : ℕ) → phase ≡ FirstHalf → lone ≡ 0 → kind j ≡ Worker → (work j).number ≡ 0 → ⊥

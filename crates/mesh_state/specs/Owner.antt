@@ -2,28 +2,29 @@
 use Rattle.std.specs.Prelude.{◌≡◌, ℕ, ◌+◌, ◌<◌, ◌≤◌, ◌==◌, cond, ltb, List, ◌⊎◌}
 use Rattle.mesh_words.specs.Entries.{HasEntry}
 use Rattle.mesh_words.specs.Sums.{sum_below, one_where}
-use Rattle.mesh_words.specs.Views.{first_half, second_half, worker, reader, ruler, Read, Ruling}
+use Rattle.mesh_words.specs.Views.{FirstHalf, SecondHalf, Owner, Read, Ruling, Kind, is_worker, is_reader}
 use Rattle.mesh_words.specs.Claims.{Progress, Drawn}
 use Rattle.mesh_state.specs.Ghosts.{Stage, Held, Life, Free, Loose, Placed, Undone}
 use Rattle.mesh_state.specs.Claims.{block_of}
+use Rattle.mesh_names.specs.Names.{digit}
 
-pub record OwnerRule (passes round : ℕ) (released pins : ℕ → ℕ) (n : ℕ) (kind : ℕ → ℕ) (v : Ruling) : Type 0 where
+pub record OwnerRule (passes round : ℕ) (released pins : ℕ → ℕ) (n : ℕ) (kind : ℕ → Kind) (v : Ruling) : Type 0 where
   -- seat 0 is the owner's, and no other
-  pub owner : (kind 0 ≡ ruler) × (0 < n)
-  pub one : (j : ℕ) → kind j ≡ ruler → j ≡ 0
+  pub owner : (kind 0 ≡ Owner) × (0 < n)
+  pub one : (j : ℕ) → kind j ≡ Owner → j ≡ 0
   -- it counts the passes that are out
-  pub workers : v.workers ≡ sum_below n (λ j. one_where (kind j) worker)
-  pub readers : v.readers ≡ sum_below n (λ j. one_where (kind j) reader)
+  pub workers : v.workers ≡ sum_below n (λ j. digit (is_worker (kind j)))
+  pub readers : v.readers ≡ sum_below n (λ j. digit (is_reader (kind j)))
   pub few_readers : v.readers ≤ passes + 1
   -- workers' passes are out in the two halves alone
-  pub halves : (v.phase ≡ first_half → ⊥) → (v.phase ≡ second_half → ⊥) → v.workers ≡ 0
+  pub halves : (v.phase ≡ FirstHalf → ⊥) → (v.phase ≡ SecondHalf → ⊥) → v.workers ≡ 0
   -- of a clear round each pin was given back
   pub clear : (q : ℕ) → HasEntry v.clear q → (q < round) × (released q ≡ pins q)
 
 -- what the owner knows of the free rows, and of the rounds that were left
 pub record StockRule (round cursor free : ℕ) (pins : ℕ → ℕ) (v : Ruling) : Type 0 where
   pub finished : v.finished ≡ round
-  pub cursor_is : (k : ℕ) → v.cursor ≡ k + 1 → (v.phase ≡ first_half → ⊥) × (cursor ≡ k)
+  pub cursor_is : (k : ℕ) → v.cursor ≡ k + 1 → (v.phase ≡ FirstHalf → ⊥) × (cursor ≡ k)
   pub free_is : (k : ℕ) → v.free ≡ k + 1 → free ≡ k
   -- the swap of ROUND showed how many pins were taken
   pub left : (q k : ℕ) → HasEntry v.left (q, k) → (q < round) × (pins q ≡ k)
@@ -76,9 +77,9 @@ pub record KeptRule (round : ℕ) (died : ℕ → ℕ) (life : ℕ → Life) (ke
   pub right : (b : ℕ) → HasEntry kept b → (x : ℕ) × (m : ℕ) × (life b ≡ Placed x m) × (0 < died b) × (died b ≤ round)
 
 -- 1 where the seat is a reader's pass that was made before the round was finished, else 0
-abbrev pub is_early : ℕ → ℕ → Read → ℕ
-is_early round kind u = cond (kind == reader) (cond (ltb u.made round) 1 0) 0
+abbrev pub is_early : ℕ → Kind → Read → ℕ
+is_early round kind u = cond (is_reader kind) (cond (ltb u.made round) 1 0) 0
 
 -- the owner counts these passes
-abbrev pub EarlyRule : ℕ → ℕ → (ℕ → ℕ) → (ℕ → Read) → ℕ → Type 0
+abbrev pub EarlyRule : ℕ → ℕ → (ℕ → Kind) → (ℕ → Read) → ℕ → Type 0
 EarlyRule round n kind read early = early ≡ sum_below n (λ j. is_early round (kind j) (read j))

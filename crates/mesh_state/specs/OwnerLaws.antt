@@ -4,7 +4,7 @@ use Rattle.mesh_words.specs.Claims.{Progress, Drawn, claim}
 use Rattle.mesh_words.specs.Entries.{HasEntry, EntryAt}
 use Rattle.mesh_words.specs.Places.{member_of, child_place}
 use Rattle.mesh_words.specs.Sums.{sum_below}
-use Rattle.mesh_words.specs.Views.{resting, Views}
+use Rattle.mesh_words.specs.Views.{Resting, Views}
 use Rattle.mesh_state.specs.Ghosts.{Free, Loose, Placed, Undone, chained, stands}
 use Rattle.mesh_state.specs.Claims.{block_of}
 use Rattle.mesh_state.specs.Owner.{InRows, is_early}
@@ -37,7 +37,7 @@ KeptExact = Always (λ s w n v g. (b : ℕ) → HasEntry v.ruling.kept b ↔ ((x
 
 -- before the round a block that the owner noted with its places is a living one, which the LINK words of its places name, or was retired in a finished round, or was taken back
 abbrev pub NotedKinds : Type 0
-NotedKinds = Always (λ s w n v g. (b x m : ℕ) → v.ruling.phase ≡ resting → HasEntry v.ruling.placed (b, x, m) →
+NotedKinds = Always (λ s w n v g. (b x m : ℕ) → v.ruling.phase ≡ Resting → HasEntry v.ruling.placed (b, x, m) →
     ((0 < w.born b) × (w.died b ≡ 0) × ((t : Bool) (y : ℕ) → stands (Placed x m) t ≡ y + 1 → (w.head y).block ≡ b + 1)) ⊎ HasEntry v.ruling.kept b ⊎ HasEntry v.ruling.undone b)
 
 -- the block that a chain word names at the place is noted with its places, of which this is that of a member, and was not taken back; or it has a claim in a view
@@ -60,9 +60,9 @@ Once (x ∷ xs) = (HasEntry xs x → ⊥) × Once xs
 
 -- before the round, with nothing in the hand and the stock, the rows from CURSOR on and below FREE and the noted blocks are all blocks of the pool
 abbrev pub BlocksCounted : Type 0
-BlocksCounted = Always (λ s w n v g. v.ruling.phase ≡ resting → v.ruling.hand ≡ [] → v.ruling.high ≤ v.ruling.low → w.cursor ≤ w.free → (blocks : List ℕ) → Once blocks → ((b : ℕ) → HasEntry blocks b ↔ ((x : ℕ) × (m : ℕ) × HasEntry v.ruling.placed (b, x, m))) → length blocks + w.free ≡ w.cursor + s.pool)
+BlocksCounted = Always (λ s w n v g. v.ruling.phase ≡ Resting → v.ruling.hand ≡ [] → v.ruling.high ≤ v.ruling.low → w.cursor ≤ w.free → (blocks : List ℕ) → Once blocks → ((b : ℕ) → HasEntry blocks b ↔ ((x : ℕ) × (m : ℕ) × HasEntry v.ruling.placed (b, x, m))) → length blocks + w.free ≡ w.cursor + s.pool)
 
 -- then each patch of the last finished round has its block in the pool, and each block that was retired or taken back and is not free yet is another: so FREE is the pool less the patches and these, where CURSOR is 0
 abbrev pub PatchesCounted : Type 0
-PatchesCounted = Always (λ s w n v g. v.ruling.phase ≡ resting → v.ruling.hand ≡ [] → v.ruling.high ≤ v.ruling.low → w.cursor ≤ w.free → (names firsts stay : List ℕ) → EntryAt v.ruling.history w.round names
+PatchesCounted = Always (λ s w n v g. v.ruling.phase ≡ Resting → v.ruling.hand ≡ [] → v.ruling.high ≤ v.ruling.low → w.cursor ≤ w.free → (names firsts stay : List ℕ) → EntryAt v.ruling.history w.round names
     → Once firsts → ((k : ℕ) → HasEntry firsts k ↔ (HasEntry names k × (s.leads k ≡ 1))) → Once stay → ((b : ℕ) → HasEntry stay b ↔ (HasEntry v.ruling.kept b ⊎ HasEntry v.ruling.undone b)) → length firsts + length stay + w.free ≡ w.cursor + s.pool)

@@ -1,6 +1,6 @@
 -- What the rule says of the lists of a round, of the history, and of blocks that may not be used again.
 use Rattle.std.specs.Prelude.{◌≡◌, ℕ, ◌+◌, ◌<◌, ◌≤◌, Bool, true, false, List, ◌++◌, length, ◌⊎◌, ◌↔◌}
-use Rattle.mesh_words.specs.Views.{resting, first_half, second_half, closing, taking_back, worker}
+use Rattle.mesh_words.specs.Views.{Resting, FirstHalf, SecondHalf, Closing, RollingBack, Worker, Precedes}
 use Rattle.mesh_words.specs.Claims.{Progress, Drawn, Living, claim}
 use Rattle.mesh_words.specs.Entries.{HasEntry, EntryAt}
 use Rattle.mesh_words.specs.Places.{member_of}
@@ -13,11 +13,11 @@ use Rattle.mesh_state.specs.Lists.{Holds, IsClosed, IsTarget, IsListed}
 
 -- in the first half the bisected names lie between the last finished round's and the target
 abbrev pub BetweenForests : Type 0
-BetweenForests = Always (λ s w n v g. v.ruling.phase ≡ first_half → IsTarget s (Holds (g.who w.round)) v.ruling.plan × ((k : ℕ) → (Holds (g.who w.round) k → Holds (g.who (w.round + 1)) k) × (Holds (g.who (w.round + 1)) k → HasEntry v.ruling.plan.target k)))
+BetweenForests = Always (λ s w n v g. v.ruling.phase ≡ FirstHalf → IsTarget s (Holds (g.who w.round)) v.ruling.plan × ((k : ℕ) → (Holds (g.who w.round) k → Holds (g.who (w.round + 1)) k) × (Holds (g.who (w.round + 1)) k → HasEntry v.ruling.plan.target k)))
 
 -- in the second half and while the round is closed they are the target's, but for patches of the retire list, of which none is left when the round is closed
 abbrev pub DiffersByPatches : Type 0
-DiffersByPatches = Always (λ s w n v g. (v.ruling.phase ≡ second_half) ⊎ (v.ruling.phase ≡ closing) → (k : ℕ) → (Holds (g.who (w.round + 1)) k → HasEntry v.ruling.plan.target k) × (HasEntry v.ruling.plan.target k → Holds (g.who (w.round + 1)) k ⊎ IsListed s v.ruling.plan.retire k) × (v.ruling.phase ≡ closing → IsListed s v.ruling.plan.retire k → Holds (g.who (w.round + 1)) k → ⊥))
+DiffersByPatches = Always (λ s w n v g. (v.ruling.phase ≡ SecondHalf) ⊎ (v.ruling.phase ≡ Closing) → (k : ℕ) → (Holds (g.who (w.round + 1)) k → HasEntry v.ruling.plan.target k) × (HasEntry v.ruling.plan.target k → Holds (g.who (w.round + 1)) k ⊎ IsListed s v.ruling.plan.retire k) × (v.ruling.phase ≡ Closing → IsListed s v.ruling.plan.retire k → Holds (g.who (w.round + 1)) k → ⊥))
 
 -- at each round that may be read the parent of a bisected name is bisected, and the other member of its patch
 abbrev pub BisectedClosed : Type 0
@@ -25,15 +25,15 @@ BisectedClosed = AtRounds (λ s w g q who. IsClosed s (Holds who))
 
 -- in the first half a claim is of a patch of the target that the last finished round has not, and its bit is set at the place of the patch's first member
 abbrev pub ClaimsAimed : Type 0
-ClaimsAimed = Always (λ s w n v g. (j x m : ℕ) (p : Progress) → v.ruling.phase ≡ first_half → HasEntry (v.claims j) (claim x m p) → (w.claimed x ≡ 1) × ((k : ℕ) × (s.leads k ≡ 1) × IsPlaceOf s w.name (g.who (w.round + 1)) x k × (g.who w.round k ≡ 0) × HasEntry v.ruling.plan.target k))
+ClaimsAimed = Always (λ s w n v g. (j x m : ℕ) (p : Progress) → v.ruling.phase ≡ FirstHalf → HasEntry (v.claims j) (claim x m p) → (w.claimed x ≡ 1) × ((k : ℕ) × (s.leads k ≡ 1) × IsPlaceOf s w.name (g.who (w.round + 1)) x k × (g.who w.round k ≡ 0) × HasEntry v.ruling.plan.target k))
 
 -- from its first half on, until it is taken back, a claim with a living block is so too: the first name of the block is that of the patch
 abbrev pub LivingAimed : Type 0
-LivingAimed = Always (λ s w n v g. (j x m b : ℕ) → resting < v.ruling.phase → v.ruling.phase < taking_back → HasEntry (v.claims j) (claim x m (Living b)) → let k : ℕ = w.name (member_of b false) in (w.claimed x ≡ 1) × (s.leads k ≡ 1) × IsPlaceOf s w.name (g.who (w.round + 1)) x k × (g.who w.round k ≡ 0) × HasEntry v.ruling.plan.target k)
+LivingAimed = Always (λ s w n v g. (j x m b : ℕ) → Precedes Resting v.ruling.phase → Precedes v.ruling.phase RollingBack → HasEntry (v.claims j) (claim x m (Living b)) → let k : ℕ = w.name (member_of b false) in (w.claimed x ≡ 1) × (s.leads k ≡ 1) × IsPlaceOf s w.name (g.who (w.round + 1)) x k × (g.who w.round k ≡ 0) × HasEntry v.ruling.plan.target k)
 
 -- the workers' passes have the lists of the round
 abbrev pub ListsKnown : Type 0
-ListsKnown = Always (λ s w n v g. (j : ℕ) → v.kind j ≡ worker → (v.work j).plan ≡ v.ruling.plan)
+ListsKnown = Always (λ s w n v g. (j : ℕ) → v.kind j ≡ Worker → (v.work j).plan ≡ v.ruling.plan)
 
 -- the owner's history has the forest of each finished round
 abbrev pub HistoryRight : Type 0
@@ -53,7 +53,7 @@ DrawsApart = Always (λ s w n v g. (i j k b c : ℕ) → HasEntry (v.work i).dra
 
 -- in the first half a claim in a view for which a draw was made has the block, or none, that a draw in the view found
 abbrev pub ClaimsDrawn : Type 0
-ClaimsDrawn = Always (λ s w n v g. (j x m : ℕ) (p : Progress) → v.ruling.phase ≡ first_half → HasEntry (v.claims j) (claim x m p) → draws p ≡ 1 → (i : ℕ) × HasEntry (v.work j).drawn (i, block_of p))
+ClaimsDrawn = Always (λ s w n v g. (j x m : ℕ) (p : Progress) → v.ruling.phase ≡ FirstHalf → HasEntry (v.claims j) (claim x m p) → draws p ≡ 1 → (i : ℕ) × HasEntry (v.work j).drawn (i, block_of p))
 
 -- the owner's note that the last finished round is quiet: no pass with a pin of it has gone to a block that was taken back, and no chain word names such a block
 abbrev pub QuietRound : Type 0
@@ -74,8 +74,8 @@ StandingKept = Always (λ s w n v g. (b x : ℕ) (t : Bool) → stands (g.life b
 
 -- a round in work is one of those for which the table was made
 abbrev pub RoundsLeft : Type 0
-RoundsLeft = Always (λ s w n v g. (w.round ≤ s.rounds) × ((j : ℕ) → v.kind j ≡ worker → w.round < s.rounds))
+RoundsLeft = Always (λ s w n v g. (w.round ≤ s.rounds) × ((j : ℕ) → v.kind j ≡ Worker → w.round < s.rounds))
 
 -- while a pass of worker 0 is out in the first half, no other worker's is, and each claim without a living block is its own
 abbrev pub WorkerAlone : Type 0
-WorkerAlone = Always (λ s w n v g. (j : ℕ) → v.ruling.phase ≡ first_half → v.kind j ≡ worker → (v.work j).number ≡ 0 → ((i : ℕ) → v.kind i ≡ worker → i ≡ j) × ((i x m : ℕ) (p : Progress) → HasEntry (v.claims i) (claim x m p) → (i ≡ j) ⊎ ((b : ℕ) × (p ≡ Living b))))
+WorkerAlone = Always (λ s w n v g. (j : ℕ) → v.ruling.phase ≡ FirstHalf → v.kind j ≡ Worker → (v.work j).number ≡ 0 → ((i : ℕ) → v.kind i ≡ Worker → i ≡ j) × ((i x m : ℕ) (p : Progress) → HasEntry (v.claims i) (claim x m p) → (i ≡ j) ⊎ ((b : ℕ) × (p ≡ Living b))))

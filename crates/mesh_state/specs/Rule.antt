@@ -4,7 +4,7 @@ use Rattle.mesh_words.specs.Claims.{Progress}
 use Rattle.mesh_words.specs.Entries.{HasEntry}
 use Rattle.mesh_words.specs.Places.{member_of}
 use Rattle.mesh_words.specs.Setup.{Setup, NamesApart}
-use Rattle.mesh_words.specs.Views.{first_half, worker, Views}
+use Rattle.mesh_words.specs.Views.{FirstHalf, Worker, Views, Phase}
 use Rattle.mesh_words.specs.Words.{Words}
 use Rattle.mesh_state.specs.Ghosts.{Stage, Held, Free, Ghost}
 use Rattle.mesh_state.specs.Chains.{ChainsRule}
@@ -19,8 +19,8 @@ use Rattle.mesh_state.specs.Inside.{InsideRule, LabelRule, ListedOnce}
 use Rattle.mesh_state.specs.Owner.{OwnerRule, StockRule, NoteRule, FreeRule, KnownRule, KeptRule, EarlyRule}
 
 -- in the first half the members of a claim's patch stand at its places, are not bisected at the last finished round, and the first is of the round's target
-abbrev pub Labels : Setup → ℕ → ℕ → (ℕ → ℕ) → (ℕ → Stage) → (ℕ → ℕ → ℕ) → List ℕ → Type 0
-Labels s round phase name stage who target = (x j m : ℕ) (p : Progress) → stage x ≡ Held j m p → phase ≡ first_half → (n : ℕ) × (s.leads n ≡ 1) × IsPlaceOf s name (who (round + 1)) x n × (who round n ≡ 0) × ((b : ℕ) → linked p ≡ b + 1 → name (member_of b false) ≡ n)
+abbrev pub Labels : Setup → ℕ → Phase → (ℕ → ℕ) → (ℕ → Stage) → (ℕ → ℕ → ℕ) → List ℕ → Type 0
+Labels s round phase name stage who target = (x j m : ℕ) (p : Progress) → stage x ≡ Held j m p → phase ≡ FirstHalf → (n : ℕ) × (s.leads n ≡ 1) × IsPlaceOf s name (who (round + 1)) x n × (who round n ≡ 0) × ((b : ℕ) → linked p ≡ b + 1 → name (member_of b false) ≡ n)
     × ((m ≡ 0) × (s.mate n ≡ 0) ⊎ (y : ℕ) × (k : ℕ) × (m ≡ y + 1) × (s.mate n ≡ k + 1) × IsPlaceOf s name (who (round + 1)) y (k + 1) × (who round (k + 1) ≡ 0)) × HasEntry target n
 
 -- n is the number of seats that were ever made
@@ -50,7 +50,7 @@ pub record Rule (s : Setup) (w : Words) (n : ℕ) (v : Views) (g : Ghost) : Type
   pub named : LabelRule s w.name w.head w.hist g.life
   pub once : (j : ℕ) → ListedOnce (v.claims j)
   -- a claim is the owner's or a worker's
-  pub holders : (x j m : ℕ) (p : Progress) → g.stage x ≡ Held j m p → (j ≡ 0) ⊎ (v.kind j ≡ worker)
+  pub holders : (x j m : ℕ) (p : Progress) → g.stage x ≡ Held j m p → (j ≡ 0) ⊎ (v.kind j ≡ Worker)
   -- blocks in the owner's hand are free, and each free block is in it, in a row or in the stock
   pub hand : (b : ℕ) → HasEntry v.ruling.hand b → g.life b ≡ Free
   pub frees : FreeRule s.pool w.cursor w.free w.row w.born g.life v.ruling.hand v.ruling.low v.ruling.high

@@ -1,6 +1,6 @@
 -- What the rule says of what seats know, and of blocks and claims of the round in work.
 use Rattle.std.specs.Prelude.{◌≡◌, ℕ, ◌+◌, ◌<◌, ◌≤◌, Bool, false, [], ◌⊎◌, ◌↔◌}
-use Rattle.mesh_words.specs.Views.{resting, first_half, second_half, closing, taking_back, worker, reader, ruler, Still, unread}
+use Rattle.mesh_words.specs.Views.{Resting, FirstHalf, SecondHalf, Closing, RollingBack, Worker, Reader, Owner, Still, unread, Vacant, is_worker, is_reader, Precedes}
 use Rattle.mesh_words.specs.Claims.{Progress, Drawn, Half, Living, claim}
 use Rattle.mesh_words.specs.Entries.{HasEntry, Noted}
 use Rattle.mesh_words.specs.Places.{member_of, child_place}
@@ -12,27 +12,28 @@ use Rattle.mesh_state.specs.Bisections.{IsPlaceOf, IsPatch}
 use Rattle.mesh_state.specs.Inside.{IsLabel}
 use Rattle.mesh_state.specs.Laws.{Always}
 use Rattle.mesh_state.specs.Lists.{Holds}
+use Rattle.mesh_names.specs.Names.{digit}
 
 -- before the round's first pass the round in work reads as the last finished one
 abbrev pub BeginsEqual : Type 0
-BeginsEqual = Always (λ s w n v g. (k : ℕ) → v.ruling.phase ≡ resting → g.who (w.round + 1) k ≡ g.who w.round k)
+BeginsEqual = Always (λ s w n v g. (k : ℕ) → v.ruling.phase ≡ Resting → g.who (w.round + 1) k ≡ g.who w.round k)
 
 -- each block that was published in the round in work has its claim in a view, with the bit set, but while the round is closed; and the block of such a claim was, and both links name it
 abbrev pub LivingClaimed : Type 0
-LivingClaimed = Always (λ s w n v g. (b x m : ℕ) → g.life b ≡ Placed x m → w.born b ≡ w.round + 1 → (v.ruling.phase ≡ closing → ⊥) → (w.claimed x ≡ 1) × ((j : ℕ) × HasEntry (v.claims j) (claim x m (Living b))))
+LivingClaimed = Always (λ s w n v g. (b x m : ℕ) → g.life b ≡ Placed x m → w.born b ≡ w.round + 1 → (v.ruling.phase ≡ Closing → ⊥) → (w.claimed x ≡ 1) × ((j : ℕ) × HasEntry (v.claims j) (claim x m (Living b))))
     × Always (λ s w n v g. (j b x m : ℕ) → HasEntry (v.claims j) (claim x m (Living b)) → (w.born b ≡ w.round + 1) × (g.life b ≡ Placed x m) × (w.head x ≡ node (b + 1) 0) × ((y : ℕ) → m ≡ y + 1 → w.head y ≡ node (b + 1) 0))
 
 -- a living block, also one of a round that is taken back, has the names of a patch, which at a place at work are those of the elements there; the LINK of each member names it; no other living block has the patch; and until the round is taken back it bisects the patch at the round in work
 abbrev pub LivingBlocks : Type 0
 LivingBlocks = Always (λ s w n v g. (b x m : ℕ) → g.life b ≡ Placed x m → 0 < w.born b → w.died b ≡ 0 → IsPatch s w.name b m
-    × ((t : Bool) (y : ℕ) → chained (g.life b) t ≡ y + 1 → ((w.head y).block ≡ b + 1) × (IsPlace s.elements g.life y → IsLabel s w.name g.life y (w.name (member_of b t))) × (v.ruling.phase < taking_back → g.who (w.round + 1) (w.name (member_of b t)) ≡ b + 1))
+    × ((t : Bool) (y : ℕ) → chained (g.life b) t ≡ y + 1 → ((w.head y).block ≡ b + 1) × (IsPlace s.elements g.life y → IsLabel s w.name g.life y (w.name (member_of b t))) × (Precedes v.ruling.phase RollingBack → g.who (w.round + 1) (w.name (member_of b t)) ≡ b + 1))
     × ((c y i : ℕ) → g.life c ≡ Placed y i → 0 < w.born c → w.died c ≡ 0 → w.name (member_of c false) ≡ w.name (member_of b false) → c ≡ b))
 
 -- what a pass found of the round in work is so: places and bisected names in the first half, and in the second names that are not bisected, blocks of patches, and places of children of blocks that were born in the round
 abbrev pub FindingsRight : Type 0
-FindingsRight = Always (λ s w n v g. (j k : ℕ) → ((x : ℕ) → HasEntry (v.work j).found (x, k) → (v.ruling.phase ≡ first_half) × IsPlaceOf s w.name (g.who (w.round + 1)) x k) × (HasEntry (v.work j).known k → (v.ruling.phase ≡ first_half) × Holds (g.who (w.round + 1)) k) × (HasEntry (v.work j).open_ k → (v.ruling.phase ≡ second_half) × (g.who (w.round + 1) k ≡ 0))
+FindingsRight = Always (λ s w n v g. (j k : ℕ) → ((x : ℕ) → HasEntry (v.work j).found (x, k) → (v.ruling.phase ≡ FirstHalf) × IsPlaceOf s w.name (g.who (w.round + 1)) x k) × (HasEntry (v.work j).known k → (v.ruling.phase ≡ FirstHalf) × Holds (g.who (w.round + 1)) k) × (HasEntry (v.work j).open_ k → (v.ruling.phase ≡ SecondHalf) × (g.who (w.round + 1) k ≡ 0))
     × ((b : ℕ) → HasEntry (v.work j).given (b, k) → (w.name (member_of b false) ≡ k) × (0 < w.born b) × (w.born b ≤ w.round) × ((w.died b ≡ 0) ⊎ (w.died b ≡ w.round + 1)))
-    × ((x : ℕ) → HasEntry (v.work j).grown (x, k) → (v.ruling.phase ≡ second_half) × IsPlaceOf s w.name (g.who (w.round + 1)) x k))
+    × ((x : ℕ) → HasEntry (v.work j).grown (x, k) → (v.ruling.phase ≡ SecondHalf) × IsPlaceOf s w.name (g.who (w.round + 1)) x k))
 
 -- what a pass at work found of the last finished round is so: names that are not bisected, places, and blocks of names
 abbrev pub FinishedFindings : Type 0
@@ -44,7 +45,7 @@ WorkersWent = Always (λ s w n v g. (j b : ℕ) → HasEntry (v.work j).went b �
 
 -- all workers' passes are of one half, and in the second each claim has a living block
 abbrev pub OneHalf : Type 0
-OneHalf = Always (λ s w n v g. (j : ℕ) → v.kind j ≡ worker → ((v.work j).half ≡ v.ruling.phase) × ((v.ruling.phase ≡ first_half) ⊎ (v.ruling.phase ≡ second_half)) × (v.ruling.phase ≡ second_half → (i x m : ℕ) (p : Progress) → HasEntry (v.claims i) (claim x m p) → (b : ℕ) × (p ≡ Living b)))
+OneHalf = Always (λ s w n v g. (j : ℕ) → v.kind j ≡ Worker → ((v.work j).half ≡ v.ruling.phase) × ((v.ruling.phase ≡ FirstHalf) ⊎ (v.ruling.phase ≡ SecondHalf)) × (v.ruling.phase ≡ SecondHalf → (i x m : ℕ) (p : Progress) → HasEntry (v.claims i) (claim x m p) → (b : ℕ) × (p ≡ Living b)))
 
 -- until a claim's block is linked whole, what its seat filled into the words of the block, and what it loaded from the members' LINK words or filled into the children's, stands there
 abbrev pub FilledStays : Type 0
@@ -64,7 +65,7 @@ OwnerSure = Always (λ s w n v g. v.ruling.workers ≡ 0 → ((z : ℕ) (l : Nod
 -- pins of a round that was left were given back or are in a view; none is of a later round; and readers and pins are bounded
 abbrev pub PinsCounted : Type 0
 PinsCounted = Always (λ s w n v g. ((q k : ℕ) → HasEntry v.ruling.left (q, k) → k ≡ w.released q + sum_below n (λ j. one_where (v.read j).pin (q + 1))) × ((q : ℕ) → w.round < q → w.released q ≡ 0) × ((j q : ℕ) → (v.read j).pin ≡ q + 1 → q ≤ w.round)
-    × (sum_below n (λ j. one_where (v.kind j) reader) ≤ s.passes + 1) × (w.taken + sum_below n (λ j. (v.read j).ready) ≤ s.limit + s.passes + 1))
+    × (sum_below n (λ j. digit (is_reader (v.kind j))) ≤ s.passes + 1) × (w.taken + sum_below n (λ j. (v.read j).ready) ≤ s.limit + s.passes + 1))
 
 -- a LINK word names a block of its place: with the block's retired round, or with none where the block is not retired or in the round in work alone
 abbrev pub LinkWords : Type 0
@@ -84,7 +85,7 @@ PinsOut = Always (λ s w n v g. ((q : ℕ) → g.pins q ≡ w.released q + sum_b
 
 -- the owner knows the last finished round, and what it noted of CURSOR, which is nothing in the first half, and of FREE
 abbrev pub NumbersKnown : Type 0
-NumbersKnown = Always (λ s w n v g. (v.ruling.finished ≡ w.round) × ((k : ℕ) → v.ruling.cursor ≡ k + 1 → (v.ruling.phase ≡ first_half → ⊥) × (w.cursor ≡ k)) × ((k : ℕ) → v.ruling.free ≡ k + 1 → w.free ≡ k))
+NumbersKnown = Always (λ s w n v g. (v.ruling.finished ≡ w.round) × ((k : ℕ) → v.ruling.cursor ≡ k + 1 → (v.ruling.phase ≡ FirstHalf → ⊥) × (w.cursor ≡ k)) × ((k : ℕ) → v.ruling.free ≡ k + 1 → w.free ≡ k))
 
 -- the owner knows which blocks were taken back; blocks in its hand are free; and one that it noted with its places stands there
 abbrev pub BlocksKnown : Type 0
@@ -93,10 +94,10 @@ BlocksKnown = Always (λ s w n v g. (b : ℕ) → (HasEntry v.ruling.undone b �
 
 -- a seat that is neither the owner's nor a worker's, as one that was joined, has no claim, draw, finding or walk at work; one that is not a reader's has no pin and is not ready for one; one of no kind, as one that was joined, was told nothing and has read and noted nothing; and a seat that was never made is of no kind
 abbrev pub OthersEmpty : Type 0
-OthersEmpty = Always (λ s w n v g. (j : ℕ) → ((v.kind j ≡ worker → ⊥) → (j ≡ 0 → ⊥) → ((x m : ℕ) (p : Progress) → HasEntry (v.claims j) (claim x m p) → ⊥) × ((v.work j).drawn ≡ []) × ((v.work j).found ≡ []) × ((v.work j).known ≡ []) × ((v.work j).open_ ≡ []) × ((v.work j).given ≡ []) × ((v.work j).absent ≡ []) × ((v.work j).stood ≡ []) × ((v.work j).had ≡ []) × ((v.work j).grown ≡ []) × ((v.work j).retired ≡ []) × ((v.work j).went ≡ []) × ((v.work j).walk ≡ Still))
-    × ((v.kind j ≡ reader → ⊥) → ((v.read j).pin ≡ 0) × ((v.read j).ready ≡ 0)) × (v.kind j ≡ 0 → v.read j ≡ unread) × (n ≤ j → v.kind j ≡ 0))
+OthersEmpty = Always (λ s w n v g. (j : ℕ) → ((v.kind j ≡ Worker → ⊥) → (j ≡ 0 → ⊥) → ((x m : ℕ) (p : Progress) → HasEntry (v.claims j) (claim x m p) → ⊥) × ((v.work j).drawn ≡ []) × ((v.work j).found ≡ []) × ((v.work j).known ≡ []) × ((v.work j).open_ ≡ []) × ((v.work j).given ≡ []) × ((v.work j).absent ≡ []) × ((v.work j).stood ≡ []) × ((v.work j).had ≡ []) × ((v.work j).grown ≡ []) × ((v.work j).retired ≡ []) × ((v.work j).went ≡ []) × ((v.work j).walk ≡ Still))
+    × ((v.kind j ≡ Reader → ⊥) → ((v.read j).pin ≡ 0) × ((v.read j).ready ≡ 0)) × (v.kind j ≡ Vacant → v.read j ≡ unread) × (n ≤ j → v.kind j ≡ Vacant))
 
 -- the owner's seat is the first, and no other; it knows how many workers' and readers' passes are out; and workers' are so in the two halves alone
 abbrev pub PassesCounted : Type 0
-PassesCounted = Always (λ s w n v g. (v.kind 0 ≡ ruler) × ((j : ℕ) → v.kind j ≡ ruler → j ≡ 0) × (v.ruling.workers ≡ sum_below n (λ j. one_where (v.kind j) worker)) × (v.ruling.readers ≡ sum_below n (λ j. one_where (v.kind j) reader))
-    × ((v.ruling.phase ≡ first_half → ⊥) → (v.ruling.phase ≡ second_half → ⊥) → v.ruling.workers ≡ 0))
+PassesCounted = Always (λ s w n v g. (v.kind 0 ≡ Owner) × ((j : ℕ) → v.kind j ≡ Owner → j ≡ 0) × (v.ruling.workers ≡ sum_below n (λ j. digit (is_worker (v.kind j)))) × (v.ruling.readers ≡ sum_below n (λ j. digit (is_reader (v.kind j))))
+    × ((v.ruling.phase ≡ FirstHalf → ⊥) → (v.ruling.phase ≡ SecondHalf → ⊥) → v.ruling.workers ≡ 0))

@@ -3,43 +3,43 @@ use Rattle.std.specs.Prelude.{◌≡◌, ℕ, ◌+◌, ◌<◌, ◌≤◌, Bool,
 use Rattle.mesh_words.specs.Entries.{HasEntry}
 use Rattle.mesh_words.specs.Places.{member_of, child_place}
 use Rattle.mesh_words.specs.Setup.{Setup}
-use Rattle.mesh_words.specs.Views.{first_half, second_half, worker, Walk, Still, At, Past, Work}
+use Rattle.mesh_words.specs.Views.{FirstHalf, SecondHalf, Worker, Walk, Still, At, Past, Work, Kind, Phase}
 use Rattle.mesh_words.specs.Words.{Node}
 use Rattle.mesh_state.specs.Ghosts.{Life, Placed, stands}
 use Rattle.mesh_state.specs.Chains.{Covers, Reaches}
 use Rattle.mesh_state.specs.Bisections.{IsPlaceOf}
 
 -- `who` says which blocks bisect names at the round in work
-pub record WorkRule (s : Setup) (round phase : ℕ) (name born died : ℕ → ℕ) (life : ℕ → Life) (who : ℕ → ℕ) (kind : ℕ) (seat : ℕ) (v : Work) : Type 0 where
+pub record WorkRule (s : Setup) (round : ℕ) (phase : Phase) (name born died : ℕ → ℕ) (life : ℕ → Life) (who : ℕ → ℕ) (kind : Kind) (seat : ℕ) (v : Work) : Type 0 where
   -- only workers' passes and the owner know of the work
-  pub only : (kind ≡ worker → ⊥) → (seat ≡ 0 → ⊥) → (v.found ≡ []) × (v.known ≡ []) × (v.open_ ≡ []) × (v.given ≡ [])
+  pub only : (kind ≡ Worker → ⊥) → (seat ≡ 0 → ⊥) → (v.found ≡ []) × (v.known ≡ []) × (v.open_ ≡ []) × (v.given ≡ [])
   -- a place that was found in the first half is its element's, and a name that was found bisected is so
-  pub found : (x n : ℕ) → HasEntry v.found (x, n) → (phase ≡ first_half) × IsPlaceOf s name who x n
-  pub known : (n : ℕ) → HasEntry v.known n → (phase ≡ first_half) × ((b : ℕ) × (who n ≡ b + 1))
+  pub found : (x n : ℕ) → HasEntry v.found (x, n) → (phase ≡ FirstHalf) × IsPlaceOf s name who x n
+  pub known : (n : ℕ) → HasEntry v.known n → (phase ≡ FirstHalf) × ((b : ℕ) × (who n ≡ b + 1))
   -- a name that was found not bisected in the second half is not
-  pub open_ : (n : ℕ) → HasEntry v.open_ n → (phase ≡ second_half) × (who n ≡ 0)
+  pub open_ : (n : ℕ) → HasEntry v.open_ n → (phase ≡ SecondHalf) × (who n ≡ 0)
   -- a block that was found for a patch of the retire list is its block, of a finished round, and is not retired by that
-  pub given : (b k : ℕ) → HasEntry v.given (b, k) → (phase ≡ second_half) × (name (member_of b false) ≡ k) × ((x : ℕ) × (m : ℕ) × (life b ≡ Placed x m) × (0 < born b) × (born b ≤ round) × ((died b ≡ 0) ⊎ (died b ≡ round + 1)))
+  pub given : (b k : ℕ) → HasEntry v.given (b, k) → (phase ≡ SecondHalf) × (name (member_of b false) ≡ k) × ((x : ℕ) × (m : ℕ) × (life b ≡ Placed x m) × (0 < born b) × (born b ≤ round) × ((died b ≡ 0) ⊎ (died b ≡ round + 1)))
 
 -- the element n stands at x at the last finished round, or, in the first half, at the round in work
-abbrev pub IsWorkPlace : Setup → ℕ → ℕ → (ℕ → ℕ) → (ℕ → ℕ → ℕ) → ℕ → ℕ → Type 0
-IsWorkPlace s round phase name who x n = ((phase ≡ first_half) × IsPlaceOf s name (who (round + 1)) x n) ⊎ IsPlaceOf s name (who round) x n
+abbrev pub IsWorkPlace : Setup → ℕ → Phase → (ℕ → ℕ) → (ℕ → ℕ → ℕ) → ℕ → ℕ → Type 0
+IsWorkPlace s round phase name who x n = ((phase ≡ FirstHalf) × IsPlaceOf s name (who (round + 1)) x n) ⊎ IsPlaceOf s name (who round) x n
 
 -- Where a worker's walk is: it stands still; or it has gone to a block's member from the place of a name, whose block at the last finished round, if there is one, is this or is found behind it; or it has passed that block by
-abbrev pub WorkWalks : Setup → ℕ → ℕ → (ℕ → ℕ) → (ℕ → Node) → (ℕ → ℕ) → (ℕ → ℕ) → (ℕ → Life) → (ℕ → ℕ → ℕ) → List ℕ → Walk → Type 0
+abbrev pub WorkWalks : Setup → ℕ → Phase → (ℕ → ℕ) → (ℕ → Node) → (ℕ → ℕ) → (ℕ → ℕ) → (ℕ → Life) → (ℕ → ℕ → ℕ) → List ℕ → Walk → Type 0
 WorkWalks s round phase name hist born died life who went Still = Unit {0}
 WorkWalks s round phase name hist born died life who went (At x n b t) = HasEntry went b × (stands (life b) t ≡ x + 1) × IsWorkPlace s round phase name who x n × ((c : ℕ) → who round n ≡ c + 1 → ((b ≡ c) × Covers born died round c) ⊎ Reaches hist born died life round x c (hist (member_of b t)))
 WorkWalks s round phase name hist born died life who went (Past x n b t) = HasEntry went b × (stands (life b) t ≡ x + 1) × IsWorkPlace s round phase name who x n × ((c : ℕ) → who round n ≡ c + 1 → Reaches hist born died life round x c (hist (member_of b t)))
 
 -- what the passes at work know of the last finished round, and where they walk
-pub record WalkRule (s : Setup) (round phase : ℕ) (name : ℕ → ℕ) (hist : ℕ → Node) (born died : ℕ → ℕ) (life : ℕ → Life) (who : ℕ → ℕ → ℕ) (kind : ℕ) (seat : ℕ) (v : Work) : Type 0 where
+pub record WalkRule (s : Setup) (round : ℕ) (phase : Phase) (name : ℕ → ℕ) (hist : ℕ → Node) (born died : ℕ → ℕ) (life : ℕ → Life) (who : ℕ → ℕ → ℕ) (kind : Kind) (seat : ℕ) (v : Work) : Type 0 where
   -- only workers' passes walk, and only they and the owner know of the work
-  pub still : (kind ≡ worker → ⊥) → (v.went ≡ []) × (v.walk ≡ Still)
-  pub only : (kind ≡ worker → ⊥) → (seat ≡ 0 → ⊥) → (v.absent ≡ []) × (v.stood ≡ []) × (v.had ≡ []) × (v.retired ≡ [])
+  pub still : (kind ≡ Worker → ⊥) → (v.went ≡ []) × (v.walk ≡ Still)
+  pub only : (kind ≡ Worker → ⊥) → (seat ≡ 0 → ⊥) → (v.absent ≡ []) × (v.stood ≡ []) × (v.had ≡ []) × (v.retired ≡ [])
   -- a worker's pass knows its half
-  pub half : kind ≡ worker → v.half ≡ phase
+  pub half : kind ≡ Worker → v.half ≡ phase
   -- and the round in which it works, the one after the last finished
-  pub at_work : kind ≡ worker → v.round ≡ round + 1
+  pub at_work : kind ≡ Worker → v.round ≡ round + 1
   -- blocks that it retired are below the pool
   pub retired_in : (b : ℕ) → HasEntry v.retired b → b < s.pool
   pub absent : (n : ℕ) → HasEntry v.absent n → who round n ≡ 0
@@ -56,9 +56,9 @@ abbrev pub IsGrown : Setup → ℕ → (ℕ → ℕ) → (ℕ → ℕ) → (ℕ 
 IsGrown s round name born who x n = (b : ℕ) × (t c : Bool) × (x ≡ child_place s.elements b t c) × (born b ≡ round + 1) × (who (name (member_of b t)) ≡ b + 1) × (n ≡ s.child (name (member_of b t)) c)
 
 -- what a pass of the second half knows of these: such blocks are not retired in the round
-pub record GrownRule (s : Setup) (round phase : ℕ) (name born : ℕ → ℕ) (who : ℕ → ℕ) (kind : ℕ) (seat : ℕ) (v : Work) : Type 0 where
-  pub only : (kind ≡ worker → ⊥) → (seat ≡ 0 → ⊥) → v.grown ≡ []
-  pub grown : (x n : ℕ) → HasEntry v.grown (x, n) → (phase ≡ second_half) × IsGrown s round name born who x n
+pub record GrownRule (s : Setup) (round : ℕ) (phase : Phase) (name born : ℕ → ℕ) (who : ℕ → ℕ) (kind : Kind) (seat : ℕ) (v : Work) : Type 0 where
+  pub only : (kind ≡ Worker → ⊥) → (seat ≡ 0 → ⊥) → v.grown ≡ []
+  pub grown : (x n : ℕ) → HasEntry v.grown (x, n) → (phase ≡ SecondHalf) × IsGrown s round name born who x n
 
 -- a block that some seat knows to have been retired in the round in work was so
 abbrev pub RetiredRight : ℕ → (ℕ → ℕ) → (ℕ → Life) → (ℕ → Work) → List ℕ → Type 0

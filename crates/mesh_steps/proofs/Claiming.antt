@@ -5,7 +5,7 @@ use native.Mathlib.Decide.{ℕ_discrete}
 use Rattle.mesh_words.specs.Setup.{Setup, places}
 use Rattle.mesh_words.specs.Functions.{update}
 use Rattle.mesh_words.specs.Words.{Words}
-use Rattle.mesh_words.specs.Views.{Plan, Views, unsure}
+use Rattle.mesh_words.specs.Views.{Plan, Views, unsure, Worker, FirstHalf, order}
 use Rattle.mesh_words.specs.Claims.{Progress, Claimed, Drawn, Half, Whole, Living, Claim, claim}
 use Rattle.mesh_words.specs.Entries.{HasEntry}
 use Rattle.mesh_words.proofs.Functions.{update_at, update_other, update_cases}
@@ -34,9 +34,9 @@ module _ (s : Setup) (w : Words) (n : ℕ) (v : Views) (g : Ghost) (r : Rule s w
   nothing_sure j workers stage = record { head_is = λ z l f h. absurd f; hist_is = λ b t l f h. absurd f; died_is = λ b k f h. absurd f; name_is = λ b t k f h. absurd f; born_is = λ b k f h i. absurd f; row_is = λ b k f h i. absurd f }
 
   -- The claim of a patch of the target of which the pass found the members' places, and which the last finished round has not
-  module _ (j x m k : ℕ) (kind : v.kind j ≡ 1) (bit0 : w.claimed x ≡ 0) (lead : s.leads k ≡ 1) (room : x < places s) (absent : HasEntry (v.work j).absent k) (aimed : HasEntry (v.work j).plan.target k)
+  module _ (j x m k : ℕ) (kind : v.kind j ≡ Worker) (bit0 : w.claimed x ≡ 0) (lead : s.leads k ≡ 1) (room : x < places s) (absent : HasEntry (v.work j).absent k) (aimed : HasEntry (v.work j).plan.target k)
       (here : HasEntry (v.work j).found (x, k)) (mate : ((m ≡ 0) × (s.mate k ≡ 0)) ⊎ ((y : ℕ) × (i : ℕ) × (m ≡ y + 1) × (s.mate k ≡ i + 1) × HasEntry (v.work j).found (y, i + 1))) where
-    one : v.ruling.phase ≡ 1
+    one : v.ruling.phase ≡ FirstHalf
     one = ((r.works j).found x k here).0
 
     old : g.who w.round k ≡ 0
@@ -47,7 +47,7 @@ module _ (s : Setup) (w : Words) (n : ℕ) (v : Views) (g : Ghost) (r : Rule s w
     mate_old i e = ⊎_elim (λ z. z) (λ t. let z = (members_together s w n v (g, r) w.round (inl (inl refl)) k i t.0 e).1 t.1 in let y = old in absurd (omega arith)) (zero_or_more (g.who w.round (i + 1)))
 
     can : MayRead w.round v.ruling.phase v.read d
-    can = inr (refl, let e = one in omega arith)
+    can = inr (refl, let e = one in omega (arith, ap order one))
 
     seen : IsPlaceOf s w.name (g.who d) x k
     seen = ((r.works j).found x k here).1
@@ -111,8 +111,8 @@ module _ (s : Setup) (w : Words) (n : ℕ) (v : Views) (g : Ghost) (r : Rule s w
         rows = r.claims.rows;
         apart = r.claims.apart;
         drawn = λ e. r.claims.drawn e ∙ sym (sum_same (places s) (λ z. draws_of (g.stage z)) (λ z. draws_of (stage' z)) (λ z _. dite (ℕ_discrete z x) (λ f. ap draws_of (update_at g.stage x z new f) ∙ sym (ap draws_of (ap g.stage f ∙ open_))) (λ o. ap draws_of (update_other g.stage x z new o))));
-        living = λ z i a p h e. absurd (omega (arith, one));
-        none = λ z e. absurd (omega (arith, one));
+        living = λ z i a p h e. absurd (let f = one in cc);
+        none = λ z e. absurd (let f = one in cc);
       };
       labels = λ z i a p h e. ⊎_elim (λ t. subst (λ (y : ℕ × ℕ × Progress). Label s w n v g r y.0 y.1 y.2) (λ u. (sym t.0 u, sym t.2 u, sym t.3 u)) (k, lead, seen, old, (λ b q. absurd (omega arith)), ⊎_elim inl (λ t. inr (t.0, t.1, t.2, t.3, ((r.works j).found t.0 (t.1 + 1) t.4).1, mate_old t.1 t.3)) mate, subst (λ (p : Plan). HasEntry p.target k) (r.plan.same j kind) aimed)) (λ t. r.labels z i a p t.1 e) (back z i a p h);
       chains = r.chains;

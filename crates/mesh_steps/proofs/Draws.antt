@@ -5,7 +5,7 @@ use native.Mathlib.Decide.{ℕ_discrete, dec_lt}
 use Rattle.mesh_words.specs.Setup.{Setup, places}
 use Rattle.mesh_words.specs.Functions.{update}
 use Rattle.mesh_words.specs.Words.{Words, Node}
-use Rattle.mesh_words.specs.Views.{Work, Views, unsure}
+use Rattle.mesh_words.specs.Views.{Work, Views, unsure, Worker, FirstHalf, order}
 use Rattle.mesh_words.specs.Claims.{Progress, Claimed, Failed, Drawn, Half, Whole, Living, claim, moved_on}
 use Rattle.mesh_words.specs.Places.{member_of}
 use Rattle.mesh_words.specs.Entries.{HasEntry}
@@ -41,11 +41,11 @@ module _ (s : Setup) (w : Words) (n : ℕ) (v : Views) (g : Ghost) (r : Rule s w
   Can q = MayRead w.round v.ruling.phase v.read q
 
   -- the row of the draw names a free block, which is the claim's from now on
-  module _ (j x m : ℕ) (mine : HasEntry (v.claims j) (claim x m Claimed)) (kind : v.kind j ≡ 1) where
+  module _ (j x m : ℕ) (mine : HasEntry (v.claims j) (claim x m Claimed)) (kind : v.kind j ≡ Worker) where
     is : g.stage x ≡ Held j m Claimed
     is = r.claims.held j x m Claimed mine
 
-    one : v.ruling.phase ≡ 1
+    one : v.ruling.phase ≡ FirstHalf
     one = first_half s w n v g r j x m Claimed kind is (λ h. h)
 
     module _ (q : Progress) (life : ℕ → Life) (used : (b : ℕ) → uses q ≡ b + 1 → (b ≡ w.row w.cursor) × (w.cursor < w.free) × (q ≡ Drawn b))
@@ -115,8 +115,8 @@ module _ (s : Setup) (w : Words) (n : ℕ) (v : Views) (g : Ghost) (r : Rule s w
           rows = λ i a l. (free_life i (omega arith) l, (r.claims.rows i (omega arith) l).1);
           apart = λ i k a l b. r.claims.apart i k (omega arith) l (omega arith);
           drawn = λ e. let t = sum_update (places s) (λ z. draws_of (g.stage z)) (λ z. draws_of (stage' z)) x room (λ z o. ap draws_of (update_other g.stage x z (Held j m q) o)) in let a : draws_of (g.stage x) ≡ 0 = ap draws_of is in let b : draws_of (stage' x) ≡ 1 = ap draws_of (update_same g.stage x (Held j m q)) ∙ drawn in let c = r.claims.drawn e in omega arith;
-          living = λ z i k p h e. absurd (omega (arith, one));
-          none = λ z e. absurd (omega (arith, one));
+          living = λ z i k p h e. absurd (let f = one in cc);
+          none = λ z e. absurd (let f = one in cc);
         };
         labels = λ z i k p h e. ⊎_elim (λ t. let l = r.labels x j m Claimed is e in subst (λ (y : ℕ × ℕ × Progress). Label s w n v g r y.0 y.1 y.2) (λ u. (sym t.0 u, sym t.2 u, sym t.3 u)) (l.0, l.1, l.2, l.3, (λ b f. absurd (unlinked b f)), l.5, l.6)) (λ t. r.labels z i k p t.1 e) (back z i k p h);
         chains = record {
@@ -131,8 +131,8 @@ module _ (s : Setup) (w : Words) (n : ℕ) (v : Views) (g : Ghost) (r : Rule s w
         names = names_on s w.name w.name w.head w.hist w.head w.hist w.born w.died w.born w.died g.life life (λ _ _ _ _ _. refl) w.round v.ruling.phase g.who v.read Can A moves (λ _ k. k) (λ b y k u. r.names.patch b y k (back_life b y k u)) (λ b p. (p.0, p.1, back_life b p.0 p.1 p.2, p.3, p.4)) (λ b y k l u. r.names.calm b y k l (back_life b y k u)) r.names;
         pins = r.pins;
         works = update_cases (λ i u. WorkRule s w.round v.ruling.phase w.name w.born w.died life (g.who d) (v.kind i) i u) v.work j noted
-            (let k = r.works j in record { only = k.only; found = k.found; known = k.known; open_ = k.open_; given = λ c y h. let t = (k.given c y h).0 in let z = one in absurd (omega arith) })
-            (λ i _. let k = r.works i in record { only = k.only; found = k.found; known = k.known; open_ = k.open_; given = λ c y h. let t = (k.given c y h).0 in let z = one in absurd (omega arith) });
+            (let k = r.works j in record { only = k.only; found = k.found; known = k.known; open_ = k.open_; given = λ c y h. let t = (k.given c y h).0 in let z = one in absurd (cc) })
+            (λ i _. let k = r.works i in record { only = k.only; found = k.found; known = k.known; open_ = k.open_; given = λ c y h. let t = (k.given c y h).0 in let z = one in absurd (cc) });
         sure = update_cases (λ i u. SureRule s.elements v.ruling.workers w.head w.hist w.born w.died w.name w.row stage' i u) v.sure j unsure
             record { head_is = λ z l f h. absurd f; hist_is = λ b t l f h. absurd f; died_is = λ b k f h. absurd f; name_is = λ b t k f h. absurd f; born_is = λ b k f h i. absurd f; row_is = λ b k f h i. absurd f }
             (λ i ne. sure_on s.elements v.ruling.workers v.ruling.workers w.head w.hist w.head w.hist w.born w.died w.name w.row w.born w.died w.name w.row g.stage stage' i (v.sure i)
@@ -146,8 +146,8 @@ module _ (s : Setup) (w : Words) (n : ℕ) (v : Views) (g : Ghost) (r : Rule s w
         plan = plan_update s w.round v.ruling.phase g.who v.kind v.work v.ruling.plan j noted refl r.plan;
         history = r.history;
         drawn = record {
-          only = update_cases (λ i u. (v.kind i ≡ 1 → ⊥) → (i ≡ 0 → ⊥) → u.drawn ≡ []) v.work j noted (λ a. absurd (a kind)) (λ i _. r.drawn.only i);
-          drawn = update_cases (λ _ u. (i b : ℕ) → HasEntry u.drawn (i, b) → (v.ruling.phase ≡ 1) × (i < w.cursor + 1) × (i < w.free → b ≡ w.row i + 1) × (w.free ≤ i → b ≡ 0)) v.work j noted
+          only = update_cases (λ i u. (v.kind i ≡ Worker → ⊥) → (i ≡ 0 → ⊥) → u.drawn ≡ []) v.work j noted (λ a. absurd (a kind)) (λ i _. r.drawn.only i);
+          drawn = update_cases (λ _ u. (i b : ℕ) → HasEntry u.drawn (i, b) → (v.ruling.phase ≡ FirstHalf) × (i < w.cursor + 1) × (i < w.free → b ≡ w.row i + 1) × (w.free ≤ i → b ≡ 0)) v.work j noted
               (λ i b h. ⊎_elim (λ z. new_draw i b (ap (λ (t : ℕ × ℕ). t.0) z) (ap (λ (t : ℕ × ℕ). t.1) z)) (old_draw j i b) h) (λ a _. old_draw a);
           apart = λ a c i b f h l. ⊎_elim (λ t. ⊎_elim (λ u. t.0 ∙ sym u.0) (λ u. let z = (r.drawn.drawn c i f u).1 in let y = t.1 in absurd (omega arith)) (whose c i f l))
               (λ t. ⊎_elim (λ u. let z = (r.drawn.drawn a i b t).1 in let y = u.1 in absurd (omega arith)) (λ u. r.drawn.apart a c i b f t u) (whose c i f l)) (whose a i b h);
@@ -174,12 +174,12 @@ module _ (s : Setup) (w : Words) (n : ℕ) (v : Views) (g : Ghost) (r : Rule s w
       }
         where
           walker : (i : ℕ) → WalkRule s w.round v.ruling.phase w.name w.hist w.born w.died life g.who (v.kind i) i (v.work i)
-          walker i = workers_on s w.name w.name w.head w.hist w.head w.hist w.born w.died w.born w.died g.life life (λ _ _ _ _ _. refl) w.round v.ruling.phase g.who v.read Can A moves (inl (inl refl)) (r.names.fits w.round (inl (inl refl))) (λ e. r.names.fits d (inr (refl, omega arith))) (v.kind i) i (v.work i) (λ b k h x. (inr (i, k, refl, h), x)) (r.walks i)
+          walker i = workers_on s w.name w.name w.head w.hist w.head w.hist w.born w.died w.born w.died g.life life (λ _ _ _ _ _. refl) w.round v.ruling.phase g.who v.read Can A moves (inl (inl refl)) (r.names.fits w.round (inl (inl refl))) (λ e. r.names.fits d (inr (refl, omega (arith, ap order e)))) (v.kind i) i (v.work i) (λ b k h x. (inr (i, k, refl, h), x)) (r.walks i)
 
-          old_draw : (a i b : ℕ) → HasEntry (v.work a).drawn (i, b) → (v.ruling.phase ≡ 1) × (i < w.cursor + 1) × (i < w.free → b ≡ w.row i + 1) × (w.free ≤ i → b ≡ 0)
+          old_draw : (a i b : ℕ) → HasEntry (v.work a).drawn (i, b) → (v.ruling.phase ≡ FirstHalf) × (i < w.cursor + 1) × (i < w.free → b ≡ w.row i + 1) × (w.free ≤ i → b ≡ 0)
           old_draw a i b h = let t = r.drawn.drawn a i b h in let t1 = t.1 in (t.0, omega arith, t.2, t.3)
 
-          new_draw : (i b : ℕ) → i ≡ w.cursor → b ≡ e → (v.ruling.phase ≡ 1) × (i < w.cursor + 1) × (i < w.free → b ≡ w.row i + 1) × (w.free ≤ i → b ≡ 0)
+          new_draw : (i b : ℕ) → i ≡ w.cursor → b ≡ e → (v.ruling.phase ≡ FirstHalf) × (i < w.cursor + 1) × (i < w.free → b ≡ w.row i + 1) × (w.free ≤ i → b ≡ 0)
           new_draw i b z y = (one, omega arith, (λ l. y ∙ below (omega arith) ∙ ap (λ (t : ℕ). w.row t + 1) (sym z)), λ l. y ∙ above (omega arith))
 
           drawn_at : (i : ℕ) → i ≡ j → (a b : ℕ) → HasEntry noted.drawn (a, b) → HasEntry (update v.work j noted i).drawn (a, b)

@@ -7,7 +7,7 @@ use Rattle.mesh_words.specs.Claims.{Progress, Claim, claim}
 use Rattle.mesh_words.specs.Entries.{HasEntry}
 use Rattle.mesh_words.specs.Functions.{update}
 use Rattle.mesh_words.specs.Words.{Words}
-use Rattle.mesh_words.specs.Views.{Views, Work, At, Past}
+use Rattle.mesh_words.specs.Views.{Views, Work, At, Past, Vacant, Worker}
 use Rattle.mesh_words.proofs.Functions.{update_at, update_other, update_cases}
 use Rattle.mesh_state.specs.Fresh.{idle}
 use Rattle.mesh_state.specs.Ghosts.{Ghost, Held}
@@ -17,18 +17,18 @@ use Rattle.mesh_state.specs.Rule.{Rule}
 use Rattle.mesh_state.specs.Work.{WorkRule, WalkRule, GrownRule}
 use Rattle.mesh_state.proofs.FoundAgain.{still_not}
 
-module _ (s : Setup) (w : Words) (n : ℕ) (v : Views) (g : Ghost) (r : Rule s w n v g) (j : ℕ) (far : j ≢ 0) (none : v.kind j ≡ 0) where
+module _ (s : Setup) (w : Words) (n : ℕ) (v : Views) (g : Ghost) (r : Rule s w n v g) (j : ℕ) (far : j ≢ 0) (none : v.kind j ≡ Vacant) where
   abbrev work' : ℕ → Work
   work' = update v.work j idle
 
-  no_worker : v.kind j ≡ 1 → ⊥
-  no_worker e = absurd (omega arith)
+  no_worker : v.kind j ≡ Worker → ⊥
+  no_worker e = absurd (cc)
 
   -- a seat with a claim, or of a worker's kind, is another
   holder : (x i m : ℕ) (p : Progress) → g.stage x ≡ Held i m p → i ≢ j
   holder x i m p h e = ⊎_elim (λ z. far (sym e ∙ z)) (λ k. no_worker (ap v.kind (sym e) ∙ k)) (r.holders x i m p h)
 
-  other : (i : ℕ) → v.kind i ≡ 1 → i ≢ j
+  other : (i : ℕ) → v.kind i ≡ Worker → i ≢ j
   other i k e = no_worker (ap v.kind (sym e) ∙ k)
 
   kept : (i : ℕ) → i ≢ j → work' i ≡ v.work i

@@ -3,7 +3,7 @@ use Rattle.std.proofs.Common.{◌≡◌, ◌≢◌, ℕ, ◌+◌, ◌≤◌, Boo
 use Rattle.mesh_words.specs.Setup.{Setup}
 use Rattle.mesh_words.specs.Functions.{update}
 use Rattle.mesh_words.specs.Words.{Words, Node}
-use Rattle.mesh_words.specs.Views.{Views, Sure}
+use Rattle.mesh_words.specs.Views.{Views, Sure, Worker, FirstHalf, order}
 use Rattle.mesh_words.specs.Claims.{Progress, Claimed, Failed, Drawn, Half, Whole, Living, claim}
 use Rattle.mesh_words.specs.Places.{member_of, child_place}
 use Rattle.mesh_words.specs.Entries.{HasEntry}
@@ -34,7 +34,7 @@ linked_placed round head born life z m (Half b) c h e = let s : b ≡ c = omega 
 linked_placed round head born life z m (Whole b) c h e = let s : b ≡ c = omega arith in subst (λ (y : ℕ). life y ≡ Placed z m) s h.0
 linked_placed round head born life z m (Living b) c h e = let s : b ≡ c = omega arith in subst (λ (y : ℕ). life y ≡ Placed z m) s h.0
 
-module _ (s : Setup) (w : Words) (n : ℕ) (v : Views) (g : Ghost) (r : Rule s w n v g) (j x m b : ℕ) (mine : HasEntry (v.claims j) (claim x m (Drawn b))) (kind : v.kind j ≡ 1) where
+module _ (s : Setup) (w : Words) (n : ℕ) (v : Views) (g : Ghost) (r : Rule s w n v g) (j x m b : ℕ) (mine : HasEntry (v.claims j) (claim x m (Drawn b))) (kind : v.kind j ≡ Worker) where
   abbrev d : ℕ
   d = w.round + 1
 
@@ -47,14 +47,14 @@ module _ (s : Setup) (w : Words) (n : ℕ) (v : Views) (g : Ghost) (r : Rule s w
   is : g.stage x ≡ Held j m (Drawn b)
   is = r.claims.held j x m (Drawn b) mine
 
-  one : v.ruling.phase ≡ 1
+  one : v.ruling.phase ≡ FirstHalf
   one = first_half s w n v g r j x m (Drawn b) kind is (λ h. h)
 
   loose : g.life b ≡ Loose (x + 1)
   loose = (r.claims.shape x j m (Drawn b) is).0
 
   can : Can d
-  can = inr (refl, let e = one in omega arith)
+  can = inr (refl, let e = one in omega (arith, ap order one))
 
   -- what stands in a chain is another block
   other : (c : ℕ) (t : Bool) (y : ℕ) → chained (g.life c) t ≡ y + 1 → c ≢ b
@@ -98,7 +98,7 @@ module _ (s : Setup) (w : Words) (n : ℕ) (v : Views) (g : Ghost) (r : Rule s w
           (λ c p. (p.0, p.1, p.2, p.3, sym (off c (other c false p.0 (ap (λ (l : Life). chained l false) p.2))).1 ∙ p.4))
           (λ c y k l h. subst (λ (i : ℕ). i ≤ w.round) (sym (off c (other c false y (ap (λ (l : Life). chained l false) h))).1) (r.names.calm c y k l h)) r.names;
       pins = r.pins;
-      works = λ i. let k = r.works i in record { only = k.only; found = λ y a h. let t = k.found y a h in (t.0, place_on y a t.1); known = k.known; open_ = k.open_; given = λ c y h. let t = (k.given c y h).0 in let e = one in absurd (omega arith) };
+      works = λ i. let k = r.works i in record { only = k.only; found = λ y a h. let t = k.found y a h in (t.0, place_on y a t.1); known = k.known; open_ = k.open_; given = λ c y h. let t = (k.given c y h).0 in let e = one in absurd (cc) };
       walks = λ i. workers_on s w.name name' w.head w.hist w.head hist' w.born w.died w.born died' g.life g.life same w.round v.ruling.phase g.who v.read Can A step_chains.1 (inl (inl refl)) (r.names.fits w.round (inl (inl refl))) (λ e. r.names.fits d can) (v.kind i) i (v.work i) (λ b k h x. (inr (i, k, refl, h), x)) (r.walks i);
       sure = update_cases (λ i y. SureRule s.elements v.ruling.workers w.head hist' w.born died' name' w.row g.stage i y) v.sure j u sure
           (λ i ne. let a = r.sure i in record {
@@ -124,7 +124,7 @@ module _ (s : Setup) (w : Words) (n : ℕ) (v : Views) (g : Ghost) (r : Rule s w
       once = r.once;
       holders = r.holders;
       hand = r.hand;
-      grows = λ i. grows_off s w.round v.ruling.phase w.name w.born name' w.born (g.who d) (g.who d) (v.kind i) i (v.work i) (v.work i) (λ e. let z = one in omega arith) refl (r.grows i);
+      grows = λ i. grows_off s w.round v.ruling.phase w.name w.born name' w.born (g.who d) (g.who d) (v.kind i) i (v.work i) (v.work i) (λ e. let z = one in cc) refl (r.grows i);
       retireds = retireds_on w.round w.died died' g.life g.life v.work v.work v.ruling.retired v.ruling.retired (λ _ h. h) (λ c y k u _. (u, (off c (other c false y (ap (λ (l : Life). chained l false) u))).1)) r.retireds;
       frees = r.frees;
       known = r.known;

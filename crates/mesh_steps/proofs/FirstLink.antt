@@ -5,7 +5,7 @@ use native.Mathlib.Decide.{ℕ_discrete}
 use Rattle.mesh_words.specs.Setup.{Setup, places}
 use Rattle.mesh_words.specs.Functions.{update}
 use Rattle.mesh_words.specs.Words.{Words, Node, node}
-use Rattle.mesh_words.specs.Views.{Views}
+use Rattle.mesh_words.specs.Views.{Views, Worker, FirstHalf, order}
 use Rattle.mesh_words.specs.Claims.{Progress, Drawn, Half, Whole, claim, moved_on}
 use Rattle.mesh_words.specs.Places.{member_of, child_place}
 use Rattle.mesh_words.specs.Entries.{HasEntry, Noted}
@@ -41,7 +41,7 @@ module _ (s : Setup) (w : Words) (n : ℕ) (v : Views) (g : Ghost) (r : Rule s w
   Can q = MayRead w.round v.ruling.phase v.read q
 
   -- The condition speaks of the pass's own view: its claim, the words of its block, the heads of its places, and the names that it found there.
-  module _ (j x m b k : ℕ) (mine : HasEntry (v.claims j) (claim x m (Drawn b))) (kind : v.kind j ≡ 1)
+  module _ (j x m b k : ℕ) (mine : HasEntry (v.claims j) (claim x m (Drawn b))) (kind : v.kind j ≡ Worker)
       (died : Noted (v.sure j).died b 0) (name0 : Noted (v.sure j).name (member_of b false) k) (name1 : Noted (v.sure j).name (member_of b true) (s.mate k)) (lead : s.leads k ≡ 1)
       (kids : (t c : Bool) → Noted (v.sure j).head (child_place s.elements b t c) (node 0 0))
       (hists : (t : Bool) (y : ℕ) → stands (Placed x m) t ≡ y + 1 → (l : Node) × Noted (v.sure j).head y l × Noted (v.sure j).hist (member_of b t) l)
@@ -49,7 +49,7 @@ module _ (s : Setup) (w : Words) (n : ℕ) (v : Views) (g : Ghost) (r : Rule s w
     is : g.stage x ≡ Held j m (Drawn b)
     is = r.claims.held j x m (Drawn b) mine
 
-    one : v.ruling.phase ≡ 1
+    one : v.ruling.phase ≡ FirstHalf
     one = first_half s w n v g r j x m (Drawn b) kind is (λ h. h)
 
     shape : (g.life b ≡ Loose (x + 1)) × (w.born b ≡ 0)
@@ -73,7 +73,7 @@ module _ (s : Setup) (w : Words) (n : ℕ) (v : Views) (g : Ghost) (r : Rule s w
     label = r.labels x j m (Drawn b) is one
 
     can : Can d
-    can = inr (refl, let e = one in omega arith)
+    can = inr (refl, let e = one in omega (arith, ap order one))
 
     live : (y : ℕ) → Of x m y → IsPlace s.elements g.life y
     live y o = let t = member s w n v g r x m (Drawn b) label y o in seen_live s w.name w.name w.head w.hist w.head w.hist w.born w.died w.born w.died g.life g.life (λ _ _ _ _ _. refl) (g.who d) d y t.0 (r.names.fits d can) t.1
@@ -120,7 +120,7 @@ module _ (s : Setup) (w : Words) (n : ℕ) (v : Views) (g : Ghost) (r : Rule s w
         → Rule s (record w { head = head' }) n (record v { claims = update v.claims j (moved_on (v.claims j) x q) }) (record g { stage = update g.stage x (Held j m q); life = life' })
     links q how = record {
       names_apart = r.names_apart;
-      claims = held.goes s w.round w.cursor w.free v.ruling.phase w.row w.claimed w.head w.born g.life g.stage v.claims r.claims x j m (Drawn b) q is (⊎_elim (λ e. ap draws e) (λ e. ap draws e.0) how) (λ e. let t = one in absurd (omega arith)) head' w.born life'
+      claims = held.goes s w.round w.cursor w.free v.ruling.phase w.row w.claimed w.head w.born g.life g.stage v.claims r.claims x j m (Drawn b) q is (⊎_elim (λ e. ap draws e) (λ e. ap draws e.0) how) (λ e. let t = one in absurd (cc)) head' w.born life'
           (⊎_elim (λ e. subst (Shape w.round head' w.born life' x m) (sym e) new_half) (λ e. subst (Shape w.round head' w.born life' x m) (sym e.0) (new_half.0, new_half.1, new_half.2, λ y f. let z = e.1 in absurd (omega arith))) how)
           (λ z i c p h ne t. let a = heads_apart s w.round w.cursor w.free v.ruling.phase w.row w.claimed w.head w.born g.life g.stage v.claims r.claims x z j i m c (Drawn b) p is h ne x (inl refl) in
           shape_on w.round w.head w.born g.life z c head' w.born life' p (λ a u. (off a (λ (e : a ≡ b). ne (one_user s w.round w.cursor w.free v.ruling.phase w.row w.claimed w.head w.born g.life g.stage v.claims r.claims z x i j c m b p (Drawn b) h is (u ∙ ap (λ (t : ℕ). t + 1) e) refl)), refl)) (update_other w.head x z (node (b + 1) 0) ne) (λ f e. update_other w.head x f (node (b + 1) 0) (a.1 f e)) t)
@@ -141,14 +141,14 @@ module _ (s : Setup) (w : Words) (n : ℕ) (v : Views) (g : Ghost) (r : Rule s w
         found = k.found;
         known = k.known;
         open_ = k.open_;
-        given = λ c y h. let t = (k.given c y h).0 in let e = one in absurd (omega arith);
+        given = λ c y h. let t = (k.given c y h).0 in let e = one in absurd (cc);
       };
       sure = λ i. sure_on s.elements v.ruling.workers v.ruling.workers w.head w.hist head' w.hist w.born w.died w.name w.row w.born w.died w.name w.row g.stage (update g.stage x (Held j m q)) i (v.sure i)
           (λ z h. (head_back s.elements v.ruling.workers g.stage x j m (Drawn b) q is not_drawn half_is i z h, update_other w.head x z (node (b + 1) 0) (λ (e : z ≡ x). elsewhere i z h e)))
           (λ c h. (block_back s.elements v.ruling.workers g.stage x j m (Drawn b) q is not_drawn half_is i c h, (λ _. refl), refl, λ _. refl))
           (λ z e. let t = some_worker s w n v g r j kind in absurd (omega arith))
           (r.sure i);
-      walks = λ i. workers_on s w.name w.name w.head w.hist head' w.hist w.born w.died w.born w.died g.life life' (λ _ _ _ _ _. refl) w.round v.ruling.phase g.who v.read Can A step_chains.1 (inl (inl refl)) (r.names.fits w.round (inl (inl refl))) (λ e. r.names.fits d (inr (refl, omega arith))) (v.kind i) i (v.work i) (λ b k h x. (inr (i, k, refl, h), x)) (r.walks i);
+      walks = λ i. workers_on s w.name w.name w.head w.hist head' w.hist w.born w.died w.born w.died g.life life' (λ _ _ _ _ _. refl) w.round v.ruling.phase g.who v.read Can A step_chains.1 (inl (inl refl)) (r.names.fits w.round (inl (inl refl))) (λ e. r.names.fits d (inr (refl, omega (arith, ap order e)))) (v.kind i) i (v.work i) (λ b k h x. (inr (i, k, refl, h), x)) (r.walks i);
       goes = λ i. goes_on s w.name w.name w.head w.hist head' w.hist w.born w.died w.born w.died g.life life' (λ _ _ _ _ _. refl) w.round v.ruling.phase g.who v.read Can A step_chains.1 (λ a p e. (inl (inr (a, e)), r.pins.past a p e)) (λ a p c e h x. (inl (a, e, h), x)) (λ p t. r.names.fits p t) i (r.goes i);
       rules = r.rules;
       stock = let k = r.stock in record { finished = k.finished; cursor_is = k.cursor_is; free_is = k.free_is; left = k.left };

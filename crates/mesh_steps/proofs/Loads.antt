@@ -4,7 +4,7 @@ use Rattle.std.proofs.Common.{◌≡◌, inl, inr, ℕ, ◌+◌, ◌<◌, ◌≤
 use Rattle.mesh_words.specs.Setup.{Setup}
 use Rattle.mesh_words.specs.Functions.{update}
 use Rattle.mesh_words.specs.Words.{Words}
-use Rattle.mesh_words.specs.Views.{Views, Sure, Ruling}
+use Rattle.mesh_words.specs.Views.{Views, Sure, Ruling, Reader, FirstHalf}
 use Rattle.mesh_words.specs.Entries.{HasEntry, Noted}
 use native.Mathlib.Decide.{dec_lt}
 use Rattle.mesh_words.specs.Sums.{one_where}
@@ -126,7 +126,7 @@ module _ (s : Setup) (w : Words) (n : ℕ) (v : Views) (g : Ghost) (r : Rule s w
       record { finished = r.stock.finished; cursor_is = r.stock.cursor_is; free_is = r.stock.free_is; left = r.stock.left } same_note r.hand refl refl r.inside.hand_in r.frees (λ _ h. h)
 
   -- CURSOR, but in the first half
-  pub loads_cursor : (v.ruling.phase ≡ 1 → ⊥) → Rule s w n (record v { ruling = record v.ruling { cursor = w.cursor + 1 } }) g
+  pub loads_cursor : (v.ruling.phase ≡ FirstHalf → ⊥) → Rule s w n (record v { ruling = record v.ruling { cursor = w.cursor + 1 } }) g
   loads_cursor o = learns (record v.ruling { cursor = w.cursor + 1 })
       record { owner = r.rules.owner; one = r.rules.one; workers = r.rules.workers; readers = r.rules.readers; few_readers = r.rules.few_readers; halves = r.rules.halves; clear = r.rules.clear }
       record { finished = r.stock.finished; cursor_is = λ k e. (o, omega arith); free_is = r.stock.free_is; left = r.stock.left } same_note r.hand refl refl r.inside.hand_in r.frees (λ _ h. h)
@@ -167,7 +167,7 @@ module _ (s : Setup) (w : Words) (n : ℕ) (v : Views) (g : Ghost) (r : Rule s w
       out : (j : ℕ) → (v.read j).pin ≡ w.round + 1 → w.taken ≡ w.released w.round → ⊥
       out j p e = let c = r.pins.count w.round in let t = r.pins.now in elim (dec_lt j n) [
         | yes l ↦ let o = one_if (v.read j).pin (w.round + 1) p in let m = summand n (λ i. one_where (v.read i).pin (w.round + 1)) j l in omega arith
-        | no o ↦ let z = r.pins.few j (omega arith) in let q = (r.pins.readers j (λ (t : v.kind j ≡ 2). absurd (omega arith))).0 in omega arith
+        | no o ↦ let z = r.pins.few j (omega arith) in let q = (r.pins.readers j (λ (t : v.kind j ≡ Reader). absurd (cc))).0 in omega arith
       ]
 
   -- RELEASED of the last finished round is loaded first

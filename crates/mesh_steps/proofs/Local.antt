@@ -3,8 +3,8 @@ use Rattle.std.proofs.Common.{◌≡◌, ℕ, ◌⊎◌, refl, sym, subst, inl, 
 use Rattle.mesh_words.specs.Places.{member_of, child_place}
 use Rattle.mesh_words.specs.Setup.{Setup}
 use Rattle.mesh_words.specs.Words.{Words}
-use Rattle.mesh_words.specs.Views.{Views}
-use Rattle.mesh_steps.specs.States.{Kind, State}
+use Rattle.mesh_words.specs.Views.{Views, Phase, Resting, FirstHalf, SecondHalf, Closing, RollingBack}
+use Rattle.mesh_steps.specs.States.{StepKind, State}
 use Rattle.mesh_steps.specs.WorkSteps.{ClaimStep, DrawStep, FullStep, FillHistory, FillName, FillDied, FillChild, LinkFirst, LinkSecond, PublishStep, RetireStep, RetiredStep}
 use Rattle.mesh_steps.specs.WalkSteps.{WorkTop, WorkEnds, WorkGoes, WorkFinds, WorkHad, WorkBoth, WorkPasses, WorkGives, WorkDead, WorkOpen, LoadHead, LoadHistory, LoadBorn, LoadDied, LoadName, LoadRow}
 use Rattle.mesh_steps.specs.PinSteps.{LoadRound, PinStep, UnpinStep, ReadEnds, ReadGoes, ReadFinds, ReadPasses}
@@ -14,14 +14,14 @@ use Rattle.mesh_steps.specs.Steps.{ByClaimStep, ByDrawStep, ByFullStep, ByFillHi
 use Rattle.mesh_steps.specs.Local.{IsLocal, StepsLocal}
 
 -- so a kind of step is local
-abbrev Local : Kind → Type 0
+abbrev Local : StepKind → Type 0
 Local K = (s : Setup) (w : Words) (n : ℕ) (v : Views) (after : State) → K s w n v after → IsLocal s w n v after
 
 -- the owner's step is in neither half
-still : {p : ℕ} → (p ≡ 0) ⊎ (p ≡ 3) ⊎ (p ≡ 4) → (p ≡ 1 → ⊥) × (p ≡ 2 → ⊥)
-still (inl a) = ((λ e. omega arith), λ e. omega arith)
-still (inr (inl a)) = ((λ e. omega arith), λ e. omega arith)
-still (inr (inr a)) = ((λ e. omega arith), λ e. omega arith)
+still : {p : Phase} → (p ≡ Resting) ⊎ (p ≡ Closing) ⊎ (p ≡ RollingBack) → (p ≡ FirstHalf → ⊥) × (p ≡ SecondHalf → ⊥)
+still (inl a) = ((λ e. cc), λ e. cc)
+still (inr (inl a)) = ((λ e. cc), λ e. cc)
+still (inr (inr a)) = ((λ e. cc), λ e. cc)
 
 claim_step : Local ClaimStep
 claim_step s w n v after (j, x, m, k, kind, bit, lead, absent, aimed, here, mate, e) = subst (IsLocal s w n v) (sym e) (inr (inr (inr (inr (inr (inr (inl ((x, _, refl)))))))), (j, j, inr (inl (kind, inl (x, bit, refl))), inl refl, inl refl, (inl refl, inr (inl (_, refl)), inl refl, inr (inl (_, refl)), inl refl, inl refl)))

@@ -8,7 +8,7 @@ use Rattle.mesh_words.specs.Entries.{HasEntry, Noted}
 use Rattle.mesh_words.specs.Functions.{update}
 use Rattle.mesh_words.specs.Places.{member_of, child_place}
 use Rattle.mesh_words.specs.Words.{Node, Words}
-use Rattle.mesh_words.specs.Views.{Views, Work, Read, Plan, Still, At, Past, unread, unsure}
+use Rattle.mesh_words.specs.Views.{Views, Work, Read, Plan, Still, At, Past, unread, unsure, Worker, Reader, is_reader, FirstHalf, SecondHalf, Closing, Kind, Vacant, Owner, order}
 use Rattle.mesh_words.specs.Sums.{one_where}
 use Rattle.mesh_words.proofs.Functions.{update_same, update_at, update_other}
 use Rattle.mesh_words.proofs.Entries.{entry_right}
@@ -24,6 +24,8 @@ use Rattle.mesh_steps.specs.WalkSteps.{WorkNext, ReadNext}
 use Rattle.mesh_steps.proofs.StepsKeep.{next_named}
 use Rattle.mesh_state.specs.Owner.{is_early}
 use Rattle.mesh_state.proofs.Known.{early_one}
+use Rattle.mesh_names.specs.Names.{digit}
+use Rattle.mesh_words.proofs.SeatKinds.{reader_is}
 
 -- a fact of the new value of the function
 pub here : {A : Type 0} (P : A → Type 0) (f : ℕ → A) (j : ℕ) (a : A) → P a → P (update f j a j)
@@ -42,7 +44,7 @@ none_or_block l = by l.block refl
     by (suc b) e = inr (b, omega arith)
 
 module _ (s : Setup) (w : Words) (n : ℕ) (v : Views) where
-  module _ (j : ℕ) (kind : v.kind j ≡ 1) where
+  module _ (j : ℕ) (kind : v.kind j ≡ Worker) where
     ends : (x k : ℕ) (l : Node) → WorkNext s w (v.work j) x k l → (l.block ≡ 0) ⊎ ((0 < l.died) × (l.died < (v.work j).round)) → Onward s w n v (λ b. ((b.views.work j).walk ≡ Still) × HasEntry (b.views.work j).absent k)
     ends x k l next how = (_, ByWorkEnds (j, kind, x, k, l, next, how, refl), here (λ (u : Work). (u.walk ≡ Still) × HasEntry u.absent k) v.work j _ (refl, inl refl))
 
@@ -52,13 +54,13 @@ module _ (s : Setup) (w : Words) (n : ℕ) (v : Views) where
     passes : (x k c : ℕ) (t : Bool) → (v.work j).walk ≡ At x k c t → (w.born c ≡ 0) ⊎ ((v.work j).round ≤ w.born c) → Onward s w n v (λ b. (b.views.work j).walk ≡ Past x k c t)
     passes x k c t at how = (_, ByWorkPasses (j, kind, x, k, c, t, at, how, _, inl refl, refl), here (λ (u : Work). u.walk ≡ Past x k c t) v.work j _ refl)
 
-    finds : (x k c : ℕ) (t : Bool) → (v.work j).walk ≡ At x k c t → (v.work j).half ≡ 1 → 0 < w.born c → Onward s w n v (λ b. ((b.views.work j).walk ≡ Still) × HasEntry (b.views.work j).known k × HasChildren s (b.views.work j).found k c t)
+    finds : (x k c : ℕ) (t : Bool) → (v.work j).walk ≡ At x k c t → (v.work j).half ≡ FirstHalf → 0 < w.born c → Onward s w n v (λ b. ((b.views.work j).walk ≡ Still) × HasEntry (b.views.work j).known k × HasChildren s (b.views.work j).found k c t)
     finds x k c t at one born = (_, ByWorkFinds (j, kind, one, x, k, c, t, at, born, refl), here (λ (u : Work). (u.walk ≡ Still) × HasEntry u.known k × HasChildren s u.found k c t) v.work j _ (refl, inl refl, children s (v.work j).found k c t))
 
-    had : (x k c : ℕ) (t : Bool) → (v.work j).walk ≡ At x k c t → (v.work j).half ≡ 2 → 0 < w.born c → w.born c < (v.work j).round → Onward s w n v (λ b. ((b.views.work j).walk ≡ Still) × HasEntry (b.views.work j).had (c, k) × HasChildren s (b.views.work j).stood k c t)
+    had : (x k c : ℕ) (t : Bool) → (v.work j).walk ≡ At x k c t → (v.work j).half ≡ SecondHalf → 0 < w.born c → w.born c < (v.work j).round → Onward s w n v (λ b. ((b.views.work j).walk ≡ Still) × HasEntry (b.views.work j).had (c, k) × HasChildren s (b.views.work j).stood k c t)
     had x k c t at two born early = (_, ByWorkHad (j, kind, x, k, c, t, at, two, born, early, refl), here (λ (u : Work). (u.walk ≡ Still) × HasEntry u.had (c, k) × HasChildren s u.stood k c t) v.work j _ (refl, inl refl, children s (v.work j).stood k c t))
 
-  module _ (j q : ℕ) (kind : v.kind j ≡ 2) (pin : (v.read j).pin ≡ q + 1) where
+  module _ (j q : ℕ) (kind : v.kind j ≡ Reader) (pin : (v.read j).pin ≡ q + 1) where
     read_ends : (x k : ℕ) (l : Node) → ReadNext s w (v.read j) x k l → (l.block ≡ 0) ⊎ ((0 < l.died) × (l.died ≤ q)) → Onward s w n v (λ b. ((b.views.read j).walk ≡ Still) × HasEntry (b.views.read j).notes record { round = q; name = k; bisected = false })
     read_ends x k l next how = (_, ByReadEnds (j, q, kind, pin, x, k, l, next, how, refl), here (λ (u : Read). (u.walk ≡ Still) × HasEntry u.notes record { round = q; name = k; bisected = false }) v.read j _ (refl, inl refl))
 
@@ -87,8 +89,8 @@ workers_go_on s w n v (g, r) j x k kind = (onward, arrived)
         (none_or_block l)
 
     arrived : (c : ℕ) (t : Bool) → (v.work j).walk ≡ At x k c t →
-        (((w.born c ≡ 0) ⊎ (((v.work j).half ≡ 2) × (w.born c ≡ w.round + 1))) × Onward s w n v (λ b. (b.views.work j).walk ≡ Past x k c t))
-        ⊎ (((v.work j).half ≡ 1) × Onward s w n v (λ b. ((b.views.work j).walk ≡ Still) × HasEntry (b.views.work j).known k × HasChildren s (b.views.work j).found k c t))
+        (((w.born c ≡ 0) ⊎ (((v.work j).half ≡ SecondHalf) × (w.born c ≡ w.round + 1))) × Onward s w n v (λ b. (b.views.work j).walk ≡ Past x k c t))
+        ⊎ (((v.work j).half ≡ FirstHalf) × Onward s w n v (λ b. ((b.views.work j).walk ≡ Still) × HasEntry (b.views.work j).known k × HasChildren s (b.views.work j).found k c t))
         ⊎ Onward s w n v (λ b. ((b.views.work j).walk ≡ Still) × HasEntry (b.views.work j).had (c, k) × HasChildren s (b.views.work j).stood k c t)
     arrived c t at = let same = (r.walks j).half kind in let now = (r.walks j).at_work kind in let low = r.chains.borns c in
         dite (ℕ_discrete (w.born c) 0)
@@ -146,21 +148,21 @@ pins_fit mesh across l passes w n v lawful = (
 )
 
 -- a worker's pass is made
-made : (s : Setup) (w : Words) (n : ℕ) (v : Views) (number : ℕ) → (v.ruling.phase ≡ 1) ⊎ (v.ruling.phase ≡ 2) → (lone : ℕ)
-    → ((◌≡◌ {A = ℕ} 1 2 ⊎ (v.ruling.phase ≡ 2)) × (lone ≡ v.ruling.lone)) ⊎ ((number ≡ 0) × (v.ruling.workers ≡ 0) × ((x m : ℕ) (p : Progress) → HasEntry (v.claims 0) (claim x m p) → (b : ℕ) × (p ≡ Living b)) × (lone ≡ 1)) ⊎ ((0 < number) × (v.ruling.lone ≡ 0) × (lone ≡ 0))
-    → Onward s w n v (λ b. (b.views.kind n ≡ 1) × ((b.views.work n).number ≡ number) × ((b.views.work n).plan ≡ v.ruling.plan) × ((b.views.read n).told ≡ v.ruling.history))
+made : (s : Setup) (w : Words) (n : ℕ) (v : Views) (number : ℕ) → (v.ruling.phase ≡ FirstHalf) ⊎ (v.ruling.phase ≡ SecondHalf) → (lone : ℕ)
+    → (((Worker ≡ Reader) ⊎ (v.ruling.phase ≡ SecondHalf)) × (lone ≡ v.ruling.lone)) ⊎ ((number ≡ 0) × (v.ruling.workers ≡ 0) × ((x m : ℕ) (p : Progress) → HasEntry (v.claims 0) (claim x m p) → (b : ℕ) × (p ≡ Living b)) × (lone ≡ 1)) ⊎ ((0 < number) × (v.ruling.lone ≡ 0) × (lone ≡ 0))
+    → Onward s w n v (λ b. (b.views.kind n ≡ Worker) × ((b.views.work n).number ≡ number) × ((b.views.work n).plan ≡ v.ruling.plan) × ((b.views.read n).told ≡ v.ruling.history))
 made s w n v number half lone how = (
   _,
-  BySplitStep (1, v.ruling.workers + 1, v.ruling.readers, inl (refl, half, refl, refl), number, lone, how, [], (λ k h. absurd h), refl),
-  (update_same v.kind n 1, here (λ (u : Work). u.number ≡ number) v.work n _ refl, here (λ (u : Work). u.plan ≡ v.ruling.plan) v.work n _ refl, here (λ (u : Read). u.told ≡ v.ruling.history) v.read n _ refl),
+  BySplitStep (Worker, v.ruling.workers + 1, v.ruling.readers, inl (refl, half, refl, refl), number, lone, how, [], (λ k h. absurd h), refl),
+  (update_same v.kind n Worker, here (λ (u : Work). u.number ≡ number) v.work n _ refl, here (λ (u : Work). u.plan ≡ v.ruling.plan) v.work n _ refl, here (λ (u : Read). u.told ≡ v.ruling.history) v.read n _ refl),
 )
 
 pub passes_made : PassesMade
 passes_made s w n v (g, r) = (
   (λ few. (
     _,
-    BySplitStep (2, v.ruling.workers, v.ruling.readers + 1, inr (refl, few, refl, refl), 1, v.ruling.lone, inl (inl refl, refl), [], (λ k h. absurd h), refl),
-    (update_same v.kind n 2, here (λ (u : Read). u.told ≡ v.ruling.history) v.read n _ refl, here (λ (u : Read). u.seen ≡ w.round) v.read n _ r.stock.finished),
+    BySplitStep (Reader, v.ruling.workers, v.ruling.readers + 1, inr (refl, few, refl, refl), 1, v.ruling.lone, inl (inl refl, refl), [], (λ k h. absurd h), refl),
+    (update_same v.kind n Reader, here (λ (u : Read). u.told ≡ v.ruling.history) v.read n _ refl, here (λ (u : Read). u.seen ≡ w.round) v.read n _ r.stock.finished),
   )),
   λ number how. ⊎_elim
       (λ two. made s w n v number (inr two) v.ruling.lone (inl (inr two, refl)))
@@ -179,34 +181,34 @@ pub passes_joined : PassesJoined
 passes_joined s w n v (g, r) j = (
   (λ kind none. (
     _,
-    ByJoinReader (j, other 2 (omega arith) kind, kind, none, (some_reader kind).0, (some_early kind).0, (some_reader kind).1, (some_early kind).1, refl),
-    ((update_same v.kind j 0, update_same (update v.read 0 (record (v.read 0) { notes = (v.read 0).notes ++ (v.read j).notes })) j unread, update_same v.sure j unsure), λ k h. first_of (λ (u : Read). HasEntry u.notes k) v.read j _ _ (other 2 (omega arith) kind) (entry_right (v.read 0).notes (v.read j).notes k h)),
+    ByJoinReader (j, other Reader (λ z. cc) kind, kind, none, (some_reader kind).0, (some_early kind).0, (some_reader kind).1, (some_early kind).1, refl),
+    ((update_same v.kind j Vacant, update_same (update v.read 0 (record (v.read 0) { notes = (v.read 0).notes ++ (v.read j).notes })) j unread, update_same v.sure j unsure), λ k h. first_of (λ (u : Read). HasEntry u.notes k) v.read j _ _ (other Reader (λ z. cc) kind) (entry_right (v.read 0).notes (v.read j).notes k h)),
   )),
   λ kind. (
     _,
-    ByJoinWorker (j, other 1 (omega arith) kind, kind, (before v.ruling.workers (some_worker s w n v g r j kind)).0, (before v.ruling.workers (some_worker s w n v g r j kind)).1, refl),
+    ByJoinWorker (j, other Worker (λ z. cc) kind, kind, (before v.ruling.workers (some_worker s w n v g r j kind)).0, (before v.ruling.workers (some_worker s w n v g r j kind)).1, refl),
     (
-      (update_same v.kind j 0, update_same v.read j unread, update_same (update v.sure 0 unsure) j unsure),
+      (update_same v.kind j Vacant, update_same v.read j unread, update_same (update v.sure 0 unsure) j unsure),
       refl,
-      (λ c h. first_of (λ (cs : List Claim). HasEntry cs c) v.claims j _ _ (other 1 (omega arith) kind) (entry_right (v.claims 0) (v.claims j) c h)),
+      (λ c h. first_of (λ (cs : List Claim). HasEntry cs c) v.claims j _ _ (other Worker (λ z. cc) kind) (entry_right (v.claims 0) (v.claims j) c h)),
       λ k. (
-        (λ h. first_of (λ (u : Work). HasEntry u.known k) v.work j _ _ (other 1 (omega arith) kind) (entry_right (v.work 0).known (v.work j).known k h)),
-        (λ h. first_of (λ (u : Work). HasEntry u.open_ k) v.work j _ _ (other 1 (omega arith) kind) (entry_right (v.work 0).open_ (v.work j).open_ k h)),
-        λ h. first_of (λ (u : Work). HasEntry u.retired k) v.work j _ _ (other 1 (omega arith) kind) (entry_right (v.work 0).retired (v.work j).retired k h),
+        (λ h. first_of (λ (u : Work). HasEntry u.known k) v.work j _ _ (other Worker (λ z. cc) kind) (entry_right (v.work 0).known (v.work j).known k h)),
+        (λ h. first_of (λ (u : Work). HasEntry u.open_ k) v.work j _ _ (other Worker (λ z. cc) kind) (entry_right (v.work 0).open_ (v.work j).open_ k h)),
+        λ h. first_of (λ (u : Work). HasEntry u.retired k) v.work j _ _ (other Worker (λ z. cc) kind) (entry_right (v.work 0).retired (v.work j).retired k h),
       ),
     ),
   ),
 )
   where
-    other : (k : ℕ) → k < 3 → v.kind j ≡ k → j ≡ 0 → ⊥
-    other k low kind e = let a = r.rules.owner.0 in let b : v.kind j ≡ v.kind 0 = ap v.kind e in omega arith
+    other : (k : Kind) → (k ≡ Owner → ⊥) → v.kind j ≡ k → j ≡ 0 → ⊥
+    other k low kind e = let a = r.rules.owner.0 in let b : v.kind j ≡ v.kind 0 = ap v.kind e in low (cc)
 
     before : (k : ℕ) → 0 < k → (i : ℕ) × (k ≡ i + 1)
     before zero l = absurd (omega arith)
     before (suc i) l = (i, omega arith)
 
     -- the pass is counted among the early ones where it is one
-    some_early : v.kind j ≡ 2 → (i : ℕ) × ((((v.read j).made < v.ruling.finished) × (v.ruling.early ≡ i + 1)) ⊎ ((v.ruling.finished ≤ (v.read j).made) × (v.ruling.early ≡ i)))
+    some_early : v.kind j ≡ Reader → (i : ℕ) × ((((v.read j).made < v.ruling.finished) × (v.ruling.early ≡ i + 1)) ⊎ ((v.ruling.finished ≤ (v.read j).made) × (v.ruling.early ≡ i)))
     some_early kind = elim (dec_lt (v.read j).made v.ruling.finished) [
       | yes l ↦ (let t = some l in (t.0, inl (l, t.1)))
       | no o ↦ (v.ruling.early, inr (omega arith, refl))
@@ -215,13 +217,13 @@ passes_joined s w n v (g, r) j = (
         some : (v.read j).made < v.ruling.finished → (i : ℕ) × (v.ruling.early ≡ i + 1)
         some l = elim (dec_lt j n) [
           | yes k ↦ let a = summand n (λ i. is_early w.round (v.kind i) (v.read i)) j k in let f = r.stock.finished in let b = early_one w.round (v.kind j) (v.read j) kind (omega arith) in let e = r.early in before v.ruling.early (omega arith)
-          | no o ↦ let z = r.pins.few j (omega arith) in absurd (omega arith)
+          | no o ↦ let z = r.pins.few j (omega arith) in absurd (cc)
         ]
 
-    some_reader : v.kind j ≡ 2 → (i : ℕ) × (v.ruling.readers ≡ i + 1)
+    some_reader : v.kind j ≡ Reader → (i : ℕ) × (v.ruling.readers ≡ i + 1)
     some_reader kind = elim (dec_lt j n) [
-      | yes l ↦ let a = summand n (λ i. one_where (v.kind i) 2) j l in let b : one_where (v.kind j) 2 ≡ 1 = one_if (v.kind j) 2 kind in let e = r.rules.readers in before v.ruling.readers (omega arith)
-      | no o ↦ let z = r.pins.few j (omega arith) in absurd (omega arith)
+      | yes l ↦ let a = summand n (λ i. digit (is_reader (v.kind i))) j l in let b : digit (is_reader (v.kind j)) ≡ 1 = reader_is (v.kind j) kind in let e = r.rules.readers in before v.ruling.readers (omega arith)
+      | no o ↦ let z = r.pins.few j (omega arith) in absurd (cc)
     ]
 
 pub claims_go_on : ClaimsGoOn
@@ -286,5 +288,5 @@ claims_go_back s w n v (g, r) x m c four = (
     gone : (i : ℕ) (p : Progress) → HasEntry (ended (v.claims 0) x) (claim x i p) → ⊥
     gone i p h = (ended_has (v.claims 0) x x i p h).0 refl
 
-    unclaims : (p : Progress) → HasEntry (v.claims 0) (claim x m p) → ((b : ℕ) → block_of p ≡ b + 1 → p ≡ Living b) → ((b : ℕ) → p ≡ Living b → (v.ruling.phase ≡ 3 → ⊥) → ⊥) → Onward s w n v (λ b. IsEnded b x)
-    unclaims p mine lives dead = (_, ByUnclaimStep (((λ e. omega arith), λ e. omega arith), (λ l. omega arith), x, m, p, mine, lives, dead, refl), gone)
+    unclaims : (p : Progress) → HasEntry (v.claims 0) (claim x m p) → ((b : ℕ) → block_of p ≡ b + 1 → p ≡ Living b) → ((b : ℕ) → p ≡ Living b → (v.ruling.phase ≡ Closing → ⊥) → ⊥) → Onward s w n v (λ b. IsEnded b x)
+    unclaims p mine lives dead = (_, ByUnclaimStep (((λ e. cc), λ e. cc), (λ l. omega (arith, ap order four)), x, m, p, mine, lives, dead, refl), gone)

@@ -4,7 +4,7 @@ use Rattle.mesh_words.specs.Setup.{Setup}
 use Rattle.mesh_words.specs.Claims.{Half, Whole, Living, Claim, claim}
 use Rattle.mesh_words.specs.Entries.{HasEntry, EntryAt, Noted}
 use Rattle.mesh_words.specs.Places.{member_of, child_place}
-use Rattle.mesh_words.specs.Views.{Work, Sure, Plan, Past}
+use Rattle.mesh_words.specs.Views.{Work, Sure, Plan, Past, SecondHalf, order}
 use Rattle.mesh_words.specs.Words.{node}
 use Rattle.mesh_steps.specs.Onward.{Onward, HasChildren}
 use Rattle.mesh_steps.proofs.SecondHalf.{side}
@@ -71,7 +71,7 @@ retiring_goes_on s w n v (g, r) j c k kind two = (
   ),
 )
   where
-    half : (v.work j).half ≡ 2
+    half : (v.work j).half ≡ SecondHalf
     half = (r.walks j).half kind ∙ two
 
     more : (names : List ℕ) × ((i : ℕ) → HasEntry names i → HasEntry (v.work j).open_ i ⊎ IsMember s k i) × ((i : ℕ) → IsMember s k i → HasEntry names i)
@@ -87,7 +87,7 @@ rounds_go_on s w n v (g, r) = (
   (λ none two open_. (_, ByCloseStep (open_, two, none, refl), refl)),
   (λ x m c three mine. (
     _,
-    ByUnclaimStep (((λ e. omega arith), λ e. omega arith), (λ l. omega arith), x, m, Living c, mine, (λ b e. ap Living (let z : c + 1 ≡ b + 1 = e in omega arith)), (λ b e f. f three), refl),
+    ByUnclaimStep (((λ e. cc), λ e. cc), (λ l. omega (arith, ap order three)), x, m, Living c, mine, (λ b e. ap Living (let z : c + 1 ≡ b + 1 = e in omega arith)), (λ b e f. f three), refl),
     λ i p h. (ended_has (v.claims 0) x x i p h).0 refl,
   )),
   λ four none. (_, ByRestoreStep (four, none, refl), refl),
@@ -122,7 +122,7 @@ grown_goes_on s w n v (g, r) j x k kind two = (
   λ mine. by (w.head x).block (w.head x).died refl refl mine,
 )
   where
-    half : (v.work j).half ≡ 2
+    half : (v.work j).half ≡ SecondHalf
     half = (r.walks j).half kind ∙ two
 
     late : {c : ℕ} → w.born c ≡ w.round + 1 → (v.work j).round ≤ w.born c

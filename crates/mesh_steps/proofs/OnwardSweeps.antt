@@ -36,11 +36,11 @@ module _ (s : Setup) (w : Words) (n : ℕ) (v : Views) (g : Ghost) (r : Rule s w
 
 pub sweeps_go_on : SweepsGoOn
 sweeps_go_on s w n v (g, r) x b e f = (
-  (λ three place at last. let home = r.rules.halves (λ z. omega arith) (λ z. omega arith) in let own = owner_sure s w n v (g, r) home in let d = (own.3 b e).1 f in
+  (λ three place at last. let home = r.rules.halves (λ z. cc) (λ z. cc) in let own = owner_sure s w n v (g, r) home in let d = (own.3 b e).1 f in
       let head = own.0 x (node (b + 1) 0) at in let t = found s w n v g r x b (link_words s w n v (g, r) x b (is_place s w n v g r x place) (ap (λ (l : Node). l.block) head)).0 (omega arith) in
       let now : e ≡ v.ruling.finished + 1 = let k = r.stock.finished in omega arith in
       (_, ByStampStep (three, x, b, t.1, t.2, t.0, t.3, t.4, t.5, at, subst (Noted (v.sure 0).died b) now f, refl), update_same w.head x (node (b + 1) (v.ruling.finished + 1)) ∙ ap (λ (i : ℕ). node (b + 1) i) (sym now))),
-  λ rest p clear. let home = r.rules.halves (λ z. omega arith) (λ z. omega arith) in let own = owner_sure s w n v (g, r) home in let d = (own.3 b e).1 f in (
+  λ rest p clear. let home = r.rules.halves (λ z. cc) (λ z. cc) in let own = owner_sure s w n v (g, r) home in let d = (own.3 b e).1 f in (
     (λ place at. let head = own.0 x (node (b + 1) e) at in let t = found s w n v g r x b (link_words s w n v (g, r) x b (is_place s w n v g r x place) (ap (λ (l : Node). l.block) head)).0 (omega arith) in
         (t.0, λ l h. (_, ByCutLink (rest, x, b, e, t.1, t.2, t.0, l, at, f, h, p, clear, t.3, t.4, t.5, refl), update_same w.head x l))),
     λ a z i u from st at. let word = own.1 a u (node (b + 1) e) at in let t = found s w n v g r x b (history_words s w n v (g, r) a b x u (noted_stands s w n v g r a z i u x from st) (ap (λ (l : Node). l.block) word)).0 (omega arith) in

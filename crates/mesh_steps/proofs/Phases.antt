@@ -7,7 +7,7 @@ use Rattle.mesh_words.specs.Setup.{Setup, places}
 use Rattle.mesh_words.specs.Functions.{update}
 use Rattle.mesh_words.specs.Sums.{one_where, sum_below}
 use Rattle.mesh_words.specs.Words.{Words, Node}
-use Rattle.mesh_words.specs.Views.{Plan, no_plan, Walk, Views}
+use Rattle.mesh_words.specs.Views.{Plan, no_plan, Walk, Views, Worker, Reader, is_reader, Resting, FirstHalf, SecondHalf, Closing, RollingBack, Precedes, Phase, Vacant, order}
 use Rattle.mesh_words.specs.Claims.{Progress, Living, Claim, claim}
 use Rattle.mesh_words.specs.Places.{member_of}
 use Rattle.mesh_words.specs.Entries.{HasEntry, EntryAt, Noted}
@@ -32,6 +32,8 @@ use Rattle.mesh_words.proofs.Sums.{sum_same, one_if, none_if}
 use Rattle.mesh_state.specs.Owner.{is_early}
 use Rattle.mesh_state.proofs.Known.{early_one, early_none, retireds_on}
 use Rattle.mesh_state.specs.Work.{GrownRule}
+use Rattle.mesh_words.proofs.SeatKinds.{kind_discrete, reader_is, reader_not}
+use Rattle.mesh_names.specs.Names.{digit}
 
 module _ (s : Setup) (w : Words) (n : ℕ) (v : Views) (g : Ghost) (r : Rule s w n v g) where
   abbrev d : ℕ
@@ -41,7 +43,7 @@ module _ (s : Setup) (w : Words) (n : ℕ) (v : Views) (g : Ghost) (r : Rule s w
   abbrev pub Home : Type 0
   Home = v.ruling.workers ≡ 0
 
-  not_work : Home → (j : ℕ) → v.kind j ≡ 1 → ⊥
+  not_work : Home → (j : ℕ) → v.kind j ≡ Worker → ⊥
   not_work h j k = let a = some_worker s w n v g r j k in omega arith
 
   pub home_claims : Home → (x j m : ℕ) (p : Progress) → g.stage x ≡ Held j m p → j ≡ 0
@@ -55,7 +57,7 @@ module _ (s : Setup) (w : Words) (n : ℕ) (v : Views) (g : Ghost) (r : Rule s w
       by Open e = e
       by (Held j m p) e = let z = home_claims h x j m p e in absurd (subst (λ (cs : List Claim). HasEntry cs (claim x m p)) none (subst (λ (i : ℕ). HasEntry (v.claims i) (claim x m p)) z (r.claims.holds j x m p e)))
 
-  idle_works : Home → (round p : ℕ) (name born died : ℕ → ℕ) (life : ℕ → Life) (who : ℕ → ℕ) (j : ℕ) → WorkRule s round p name born died life who (v.kind j) j (update v.work 0 idle j)
+  idle_works : Home → (round : ℕ) (p : Phase) (name born died : ℕ → ℕ) (life : ℕ → Life) (who : ℕ → ℕ) (j : ℕ) → WorkRule s round p name born died life who (v.kind j) j (update v.work 0 idle j)
   idle_works h round p name born died life who = update_cases (λ j u. WorkRule s round p name born died life who (v.kind j) j u) v.work 0 idle
       record { only = λ _ _. (refl, refl, refl, refl); found = λ x i f. absurd f; known = λ i f. absurd f; open_ = λ i f. absurd f; given = λ b i f. absurd f }
       (λ j ne. let e = (r.works j).only (not_work h j) ne in record {
@@ -66,9 +68,9 @@ module _ (s : Setup) (w : Words) (n : ℕ) (v : Views) (g : Ghost) (r : Rule s w
         given = λ b i f. absurd (subst (λ l. HasEntry l (b, i)) e.3 f);
       })
 
-  idle_walks : Home → (round p : ℕ) (name : ℕ → ℕ) (hist : ℕ → Node) (born died : ℕ → ℕ) (life : ℕ → Life) (who : ℕ → ℕ → ℕ) (j : ℕ) → WalkRule s round p name hist born died life who (v.kind j) j (update v.work 0 idle j)
+  idle_walks : Home → (round : ℕ) (p : Phase) (name : ℕ → ℕ) (hist : ℕ → Node) (born died : ℕ → ℕ) (life : ℕ → Life) (who : ℕ → ℕ → ℕ) (j : ℕ) → WalkRule s round p name hist born died life who (v.kind j) j (update v.work 0 idle j)
   idle_walks h round p name hist born died life who = update_cases (λ j u. WalkRule s round p name hist born died life who (v.kind j) j u) v.work 0 idle
-      (walks_idle s round p name hist born died life who (v.kind 0) 0 0 0 0 no_plan (λ e. absurd (not_work h 0 e)) (λ e. absurd (not_work h 0 e)))
+      (walks_idle s round p name hist born died life who (v.kind 0) 0 Resting 0 0 no_plan (λ e. absurd (not_work h 0 e)) (λ e. absurd (not_work h 0 e)))
       (λ j ne. let k = r.walks j in let e = k.still (not_work h j) in let f = k.only (not_work h j) ne in record {
         still = k.still;
         only = k.only;
@@ -83,16 +85,16 @@ module _ (s : Setup) (w : Words) (n : ℕ) (v : Views) (g : Ghost) (r : Rule s w
         sided = λ x n b t h. absurd (still_not x n b t (⊎_elim (λ z. inl (sym e.1 ∙ z)) (λ z. inr (sym e.1 ∙ z)) h));
       })
 
-  idle_grows : Home → (round p : ℕ) (name born : ℕ → ℕ) (who : ℕ → ℕ) (j : ℕ) → GrownRule s round p name born who (v.kind j) j (update v.work 0 idle j)
+  idle_grows : Home → (round : ℕ) (p : Phase) (name born : ℕ → ℕ) (who : ℕ → ℕ) (j : ℕ) → GrownRule s round p name born who (v.kind j) j (update v.work 0 idle j)
   idle_grows h round p name born who = update_cases (λ j u. GrownRule s round p name born who (v.kind j) j u) v.work 0 idle record { only = λ _ _. refl; grown = λ x i f. absurd f }
       (λ j ne. let e = (r.grows j).only (not_work h j) ne in record { only = (r.grows j).only; grown = λ x i f. absurd (subst (λ (l : List (ℕ × ℕ)). HasEntry l (x, i)) e f) })
 
   -- no pass at work, and the owner's draws forgotten: there is none
-  idle_drawn : Home → (p cursor free : ℕ) (row : ℕ → ℕ) → DrawnRule p cursor free row v.kind (update v.work 0 idle)
+  idle_drawn : Home → (p : Phase) (cursor free : ℕ) (row : ℕ → ℕ) → DrawnRule p cursor free row v.kind (update v.work 0 idle)
   idle_drawn h p cursor free row = none_drawn p cursor free row v.kind (update v.work 0 idle) (update_cases (λ _ u. u.drawn ≡ []) v.work 0 idle refl (λ j ne. r.drawn.only j (not_work h j) ne))
 
   -- the owner goes on to another phase of the same round, and forgets what held in this one
-  pub rephases : Home → (p : ℕ) (who : ℕ → ℕ → ℕ) (cursor : ℕ) (retired : List ℕ) (plan : Plan) → (0 < p → w.round < s.rounds) → (p ≡ 1 → v.ruling.phase ≡ 0) → PlanRule s w.round p who (λ _. 0) v.work plan → RetiredKnown w.round w.died g.life (update v.work 0 idle) retired → ((b : ℕ) → HasEntry retired b → ((j : ℕ) × HasEntry (v.work j).retired b) ⊎ HasEntry v.ruling.retired b) → ((k : ℕ) → cursor ≡ k + 1 → (p ≡ 1 → ⊥) × (w.cursor ≡ k)) → ((q : ℕ) → q ≤ w.round → who q ≡ g.who q)
+  pub rephases : Home → (p : Phase) (who : ℕ → ℕ → ℕ) (cursor : ℕ) (retired : List ℕ) (plan : Plan) → (Precedes Resting p → w.round < s.rounds) → (p ≡ FirstHalf → v.ruling.phase ≡ Resting) → PlanRule s w.round p who (λ _. Vacant) v.work plan → RetiredKnown w.round w.died g.life (update v.work 0 idle) retired → ((b : ℕ) → HasEntry retired b → ((j : ℕ) × HasEntry (v.work j).retired b) ⊎ HasEntry v.ruling.retired b) → ((k : ℕ) → cursor ≡ k + 1 → (p ≡ FirstHalf → ⊥) × (w.cursor ≡ k)) → ((q : ℕ) → q ≤ w.round → who q ≡ g.who q)
       → ClaimsRule s w.round w.cursor w.free p w.row w.claimed w.head w.born g.life g.stage v.claims → Labels s w.round p w.name g.stage who plan.target → NamesRule s w.round p w.name w.head w.hist w.born w.died g.life who v.read → InsideRule s w.free w.row g.life g.stage v.ruling.hand retired
       → Rule s w n (record v { work = update v.work 0 idle; ruling = record v.ruling { phase = p; cursor = cursor; retired = retired; plan = plan } }) (record g { who = who })
   rephases h p who cursor retired plan room early lists known from sure old claims labels names inside = record {
@@ -110,7 +112,7 @@ module _ (s : Setup) (w : Words) (n : ℕ) (v : Views) (g : Ghost) (r : Rule s w
     stock = record { finished = r.stock.finished; cursor_is = sure; free_is = r.stock.free_is; left = r.stock.left };
     note = record { undone = r.note.undone; all = r.note.all; placed = r.note.placed; seen = r.note.seen; quiet = r.note.quiet };
     retired = known;
-    plan = plan_on s w.round p who (λ _. 0) v.kind v.work (update v.work 0 idle) plan (λ j k. absurd (not_work h j k)) lists;
+    plan = plan_on s w.round p who (λ _. Vacant) v.kind v.work (update v.work 0 idle) plan (λ j k. absurd (not_work h j k)) lists;
     history = history_who w.round g.who who v.read v.ruling.history old r.history;
     drawn = idle_drawn h p w.cursor w.free w.row;
     draws = λ x j m q e h. absurd (not_open j m q (sym h ∙ r.claims.none x (early e)));
@@ -133,7 +135,7 @@ module _ (s : Setup) (w : Words) (n : ℕ) (v : Views) (g : Ghost) (r : Rule s w
   zero_total (suc k) f z = let a = zero_total k f z in let b = z k in omega arith
 
   -- claims do not read the phase but where they say so
-  claims_phase : (p : ℕ) → ((p ≡ 3 → ⊥) → v.ruling.phase ≡ 3 → ⊥) → (p ≡ 1 → w.cursor ≡ sum_below (places s) (λ x. draws_of (g.stage x))) → ((x j m : ℕ) (q : Progress) → g.stage x ≡ Held j m q → p ≡ 2 → (b : ℕ) × (q ≡ Living b)) → ((x : ℕ) → p ≡ 0 → g.stage x ≡ Open)
+  claims_phase : (p : Phase) → ((p ≡ Closing → ⊥) → v.ruling.phase ≡ Closing → ⊥) → (p ≡ FirstHalf → w.cursor ≡ sum_below (places s) (λ x. draws_of (g.stage x))) → ((x j m : ℕ) (q : Progress) → g.stage x ≡ Held j m q → p ≡ SecondHalf → (b : ℕ) × (q ≡ Living b)) → ((x : ℕ) → p ≡ Resting → g.stage x ≡ Open)
       → ClaimsRule s w.round w.cursor w.free p w.row w.claimed w.head w.born g.life g.stage v.claims
   claims_phase p three one two zero_ = record {
     held = r.claims.held;
@@ -151,7 +153,7 @@ module _ (s : Setup) (w : Words) (n : ℕ) (v : Views) (g : Ghost) (r : Rule s w
     none = zero_;
   }
 
-  names_phase : (p : ℕ) → (p < 4 → v.ruling.phase < 4) → (((p ≡ 2 → ⊥) × (p ≡ 3 → ⊥)) → (v.ruling.phase ≡ 2 → ⊥) × (v.ruling.phase ≡ 3 → ⊥)) → (p < 2 → v.ruling.phase < 2) → (p ≡ 0 → v.ruling.phase ≡ 0) → NamesRule s w.round p w.name w.head w.hist w.born w.died g.life g.who v.read
+  names_phase : (p : Phase) → (Precedes p RollingBack → Precedes v.ruling.phase RollingBack) → (((p ≡ SecondHalf → ⊥) × (p ≡ Closing → ⊥)) → (v.ruling.phase ≡ SecondHalf → ⊥) × (v.ruling.phase ≡ Closing → ⊥)) → (Precedes p SecondHalf → Precedes v.ruling.phase SecondHalf) → (p ≡ Resting → v.ruling.phase ≡ Resting) → NamesRule s w.round p w.name w.head w.hist w.born w.died g.life g.who v.read
   names_phase p said calm grows fresh = record {
     fits = λ q k. r.names.fits q (back q k);
     sound = λ q k. r.names.sound q (back q k);
@@ -168,7 +170,7 @@ module _ (s : Setup) (w : Words) (n : ℕ) (v : Views) (g : Ghost) (r : Rule s w
       back q (inr k) = inr (k.0, said k.1)
 
   -- but in the second half and while the round is closed nothing is retired in the round
-  calm_retired : (v.ruling.phase ≡ 2 → ⊥) × (v.ruling.phase ≡ 3 → ⊥) → RetiredKnown w.round w.died g.life (update v.work 0 idle) v.ruling.retired
+  calm_retired : (v.ruling.phase ≡ SecondHalf → ⊥) × (v.ruling.phase ≡ Closing → ⊥) → RetiredKnown w.round w.died g.life (update v.work 0 idle) v.ruling.retired
   calm_retired l b x m u e = let c = r.names.calm b x m l u in absurd (omega arith)
 
   -- with no pass at work the owner knows each block that was retired
@@ -178,49 +180,49 @@ module _ (s : Setup) (w : Words) (n : ℕ) (v : Views) (g : Ghost) (r : Rule s w
       (λ t. entry_right (v.work 0).retired v.ruling.retired b t) (r.retired b x m u e))
 
   -- no lists hold before the round and while it is taken back
-  no_lists : (p : ℕ) (who : ℕ → ℕ → ℕ) → (p ≡ 0) ⊎ (p ≡ 4) → PlanRule s w.round p who (λ _. 0) v.work v.ruling.plan
-  no_lists p who o = record { same = λ j e. absurd (omega arith); aim = λ l m. ⊎_elim (λ e. absurd (omega arith)) (λ e. absurd (omega arith)) o; within = λ i l m. ⊎_elim (λ e. absurd (omega arith)) (λ e. absurd (omega arith)) o; whole = λ i l m. ⊎_elim (λ e. absurd (omega arith)) (λ e. absurd (omega arith)) o; done = λ i e. ⊎_elim (λ f. absurd (omega arith)) (λ f. absurd (omega arith)) o }
+  no_lists : (p : Phase) (who : ℕ → ℕ → ℕ) → (p ≡ Resting) ⊎ (p ≡ RollingBack) → PlanRule s w.round p who (λ _. Vacant) v.work v.ruling.plan
+  no_lists p who o = record { same = λ j e. absurd (cc); aim = λ l m. ⊎_elim (λ e. absurd (omega (arith, ap order e))) (λ e. absurd (omega (arith, ap order e))) o; within = λ i l m. ⊎_elim (λ e. absurd (omega (arith, ap order e))) (λ e. absurd (omega (arith, ap order e))) o; whole = λ i l m. ⊎_elim (λ e. absurd (omega (arith, ap order e))) (λ e. absurd (omega (arith, ap order e))) o; done = λ i e. ⊎_elim (λ f. absurd (cc)) (λ f. absurd (cc)) o }
 
   -- the history tells the last finished round's forest
   last_forest : (names : List ℕ) → EntryAt v.ruling.history v.ruling.finished names → (i : ℕ) → (HasEntry names i → Holds (g.who w.round) i) × (Holds (g.who w.round) i → HasEntry names i)
   last_forest names e i = subst (λ (q : ℕ). (HasEntry names i → Holds (g.who q) i) × (Holds (g.who q) i → HasEntry names i)) r.stock.finished (r.history.forests v.ruling.finished names e i)
 
   -- the first half begins: the lists of the round stand over the last forest of the history
-  pub begins : (plan : Plan) (names : List ℕ) → EntryAt v.ruling.history v.ruling.finished names → IsTarget s (HasEntry names) plan → v.ruling.finished < s.rounds → v.ruling.phase ≡ 0 → v.ruling.cursor ≡ 1 → Rule s w n (record v { work = update v.work 0 idle; ruling = record v.ruling { phase = 1; cursor = 0; plan = plan } }) (record g { who = g.who })
-  begins plan names last aim room z c = rephases (r.rules.halves (λ e. omega arith) (λ e. omega arith)) 1 g.who 0 v.ruling.retired plan (λ _. let f = r.stock.finished in omega arith) (λ _. z)
-      record { same = λ j e. absurd (omega arith); aim = λ _ _. target_on s (HasEntry names) (Holds (g.who w.round)) plan (last_forest names last) aim; within = λ i _ _ h. aim.olds i ((last_forest names last i).1 (h.0, sym (r.names.fresh i z) ∙ h.1)); whole = λ i l. absurd (omega arith); done = λ i e. absurd (omega arith) }
-      (calm_retired ((λ e. omega arith), λ e. omega arith)) (λ _ h. inr h) (λ k e. absurd (omega arith)) (λ _ _. refl)
-      (claims_phase 1 (λ o e. omega arith) (λ _. (r.stock.cursor_is 0 c).1 ∙ sym (zero_total (places s) (λ x. draws_of (g.stage x)) (λ x. ap draws_of (r.claims.none x z)))) (λ x j m q h e. absurd (not_open j m q (sym h ∙ r.claims.none x z))) (λ x e. absurd (omega arith)))
+  pub begins : (plan : Plan) (names : List ℕ) → EntryAt v.ruling.history v.ruling.finished names → IsTarget s (HasEntry names) plan → v.ruling.finished < s.rounds → v.ruling.phase ≡ Resting → v.ruling.cursor ≡ 1 → Rule s w n (record v { work = update v.work 0 idle; ruling = record v.ruling { phase = FirstHalf; cursor = 0; plan = plan } }) (record g { who = g.who })
+  begins plan names last aim room z c = rephases (r.rules.halves (λ e. cc) (λ e. cc)) FirstHalf g.who 0 v.ruling.retired plan (λ _. let f = r.stock.finished in omega arith) (λ _. z)
+      record { same = λ j e. absurd (cc); aim = λ _ _. target_on s (HasEntry names) (Holds (g.who w.round)) plan (last_forest names last) aim; within = λ i _ _ h. aim.olds i ((last_forest names last i).1 (h.0, sym (r.names.fresh i z) ∙ h.1)); whole = λ i l. absurd (omega arith); done = λ i e. absurd (cc) }
+      (calm_retired ((λ e. cc), λ e. cc)) (λ _ h. inr h) (λ k e. absurd (omega arith)) (λ _ _. refl)
+      (claims_phase FirstHalf (λ o e. cc) (λ _. (r.stock.cursor_is 0 c).1 ∙ sym (zero_total (places s) (λ x. draws_of (g.stage x)) (λ x. ap draws_of (r.claims.none x z)))) (λ x j m q h e. absurd (not_open j m q (sym h ∙ r.claims.none x z))) (λ x e. absurd (cc)))
       (λ x j m q h e. absurd (not_open j m q (sym h ∙ r.claims.none x z)))
-      (names_phase 1 (λ _. omega arith) (λ _. ((λ e. omega arith), λ e. omega arith)) (λ _. omega arith) (λ e. absurd (omega arith)))
+      (names_phase FirstHalf (λ _. omega (arith, ap order z)) (λ _. ((λ e. cc), λ e. cc)) (λ _. omega (arith, ap order z)) (λ e. absurd (cc)))
       record { few = r.inside.few; rows = r.inside.rows; blocks = r.inside.blocks; stand_in = r.inside.stand_in; seconds = r.inside.seconds; hand_in = r.inside.hand_in; retired_in = r.inside.retired_in }
 
   -- the second half is planned: by the owner's view each claim has a living block, and each name that the round needs is bisected; so the round in work is the target
-  pub plans : (retire : List ℕ) → ((i : ℕ) → HasEntry v.ruling.plan.needs i → HasEntry (v.work 0).known i) → v.ruling.phase ≡ 1 → Home → ((x m : ℕ) (p : Progress) → HasEntry (v.claims 0) (claim x m p) → (b : ℕ) × (p ≡ Living b)) → Rule s w n (record v { work = update v.work 0 idle; ruling = record v.ruling { phase = 2; plan = record v.ruling.plan { retire = retire } } }) (record g { who = g.who })
-  plans retire known one h lives = rephases h 2 g.who v.ruling.cursor v.ruling.retired (record v.ruling.plan { retire = retire }) (λ _. r.crew.rounds.1 (omega arith)) (λ e. absurd (omega arith))
-      (let t = r.plan.aim (omega arith) (omega arith) in record {
-        same = λ j e. absurd (omega arith);
+  pub plans : (retire : List ℕ) → ((i : ℕ) → HasEntry v.ruling.plan.needs i → HasEntry (v.work 0).known i) → v.ruling.phase ≡ FirstHalf → Home → ((x m : ℕ) (p : Progress) → HasEntry (v.claims 0) (claim x m p) → (b : ℕ) × (p ≡ Living b)) → Rule s w n (record v { work = update v.work 0 idle; ruling = record v.ruling { phase = SecondHalf; plan = record v.ruling.plan { retire = retire } } }) (record g { who = g.who })
+  plans retire known one h lives = rephases h SecondHalf g.who v.ruling.cursor v.ruling.retired (record v.ruling.plan { retire = retire }) (λ _. r.crew.rounds.1 (omega (arith, ap order one))) (λ e. absurd (cc))
+      (let t = r.plan.aim (omega (arith, ap order one)) (omega (arith, ap order one)) in record {
+        same = λ j e. absurd (cc);
         aim = λ _ _. record { closed = t.closed; olds = t.olds; needs = t.needs; least = t.least };
-        within = λ i _ _. r.plan.within i (omega arith) (omega arith);
-        whole = λ i _ _ k. inl (t.least (g.who d) (bisected_closed s w n v g r d (inr (refl, omega arith))) (λ a o. (o.0, r.names.grows a o.0 (omega arith) o.1)) (λ a o. ((r.works 0).known a (known a o)).1) i k);
-        done = λ i e. absurd (omega arith);
+        within = λ i _ _. r.plan.within i (omega (arith, ap order one)) (omega (arith, ap order one));
+        whole = λ i _ _ k. inl (t.least (g.who d) (bisected_closed s w n v g r d (inr (refl, omega (arith, ap order one)))) (λ a o. (o.0, r.names.grows a o.0 (omega (arith, ap order one)) o.1)) (λ a o. ((r.works 0).known a (known a o)).1) i k);
+        done = λ i e. absurd (cc);
       })
-      (calm_retired ((λ e. omega arith), λ e. omega arith)) (λ _ h. inr h) (λ k e. ((λ f. absurd (omega arith)), (r.stock.cursor_is k e).1)) (λ _ _. refl)
-      (claims_phase 2 (λ o e. omega arith) (λ e. absurd (omega arith)) (λ x j m q e _. lives x m q (subst (λ (i : ℕ). HasEntry (v.claims i) (claim x m q)) (home_claims h x j m q e) (r.claims.holds j x m q e))) (λ x e. absurd (omega arith)))
-      (λ x j m q e f. absurd (omega arith)) (names_phase 2 (λ _. omega arith) (λ l. absurd (l.0 refl)) (λ l. absurd (omega arith)) (λ e. absurd (omega arith))) r.inside
+      (calm_retired ((λ e. cc), λ e. cc)) (λ _ h. inr h) (λ k e. ((λ f. absurd (cc)), (r.stock.cursor_is k e).1)) (λ _ _. refl)
+      (claims_phase SecondHalf (λ o e. cc) (λ e. absurd (cc)) (λ x j m q e _. lives x m q (subst (λ (i : ℕ). HasEntry (v.claims i) (claim x m q)) (home_claims h x j m q e) (r.claims.holds j x m q e))) (λ x e. absurd (cc)))
+      (λ x j m q e f. absurd (cc)) (names_phase SecondHalf (λ _. omega (arith, ap order one)) (λ l. absurd (l.0 refl)) (λ l. absurd (omega arith)) (λ e. absurd (cc))) r.inside
 
   -- the round is closed: by the owner's view no listed patch is left
-  pub closes : ((i : ℕ) → IsListed s v.ruling.plan.retire i → HasEntry (v.work 0).open_ i) → v.ruling.phase ≡ 2 → Home → Rule s w n (record v { work = update v.work 0 idle; ruling = record v.ruling { phase = 3; retired = (v.work 0).retired ++ v.ruling.retired } }) (record g { who = g.who })
-  closes gone two h = rephases h 3 g.who v.ruling.cursor ((v.work 0).retired ++ v.ruling.retired) v.ruling.plan (λ _. r.crew.rounds.1 (omega arith)) (λ e. absurd (omega arith))
-      record { same = λ j e. absurd (omega arith); aim = λ _ _. r.plan.aim (omega arith) (omega arith); within = λ i _ _. r.plan.within i (omega arith) (omega arith); whole = λ i _ _. r.plan.whole i (omega arith) (omega arith); done = λ i _ k. ((r.works 0).open_ i (gone i k)).1 }
-      (owner_retired h) (λ b k. ⊎_elim (λ t. inl (0, t)) inr (entry_of_both (v.work 0).retired v.ruling.retired b k)) (λ k e. ((λ f. absurd (omega arith)), (r.stock.cursor_is k e).1)) (λ _ _. refl) (claims_phase 3 (λ o e. o refl) (λ e. absurd (omega arith)) (λ x j m q e f. absurd (omega arith)) (λ x e. absurd (omega arith)))
-      (λ x j m q e f. absurd (omega arith)) (names_phase 3 (λ _. omega arith) (λ l. absurd (l.1 refl)) (λ l. absurd (omega arith)) (λ e. absurd (omega arith)))
+  pub closes : ((i : ℕ) → IsListed s v.ruling.plan.retire i → HasEntry (v.work 0).open_ i) → v.ruling.phase ≡ SecondHalf → Home → Rule s w n (record v { work = update v.work 0 idle; ruling = record v.ruling { phase = Closing; retired = (v.work 0).retired ++ v.ruling.retired } }) (record g { who = g.who })
+  closes gone two h = rephases h Closing g.who v.ruling.cursor ((v.work 0).retired ++ v.ruling.retired) v.ruling.plan (λ _. r.crew.rounds.1 (omega (arith, ap order two))) (λ e. absurd (cc))
+      record { same = λ j e. absurd (cc); aim = λ _ _. r.plan.aim (omega (arith, ap order two)) (omega (arith, ap order two)); within = λ i _ _. r.plan.within i (omega (arith, ap order two)) (omega (arith, ap order two)); whole = λ i _ _. r.plan.whole i (omega (arith, ap order two)) (omega (arith, ap order two)); done = λ i _ k. ((r.works 0).open_ i (gone i k)).1 }
+      (owner_retired h) (λ b k. ⊎_elim (λ t. inl (0, t)) inr (entry_of_both (v.work 0).retired v.ruling.retired b k)) (λ k e. ((λ f. absurd (cc)), (r.stock.cursor_is k e).1)) (λ _ _. refl) (claims_phase Closing (λ o e. o refl) (λ e. absurd (cc)) (λ x j m q e f. absurd (cc)) (λ x e. absurd (cc)))
+      (λ x j m q e f. absurd (cc)) (names_phase Closing (λ _. omega (arith, ap order two)) (λ l. absurd (l.1 refl)) (λ l. absurd (omega arith)) (λ e. absurd (cc)))
       record { few = r.inside.few; rows = r.inside.rows; blocks = r.inside.blocks; stand_in = r.inside.stand_in; seconds = r.inside.seconds; hand_in = r.inside.hand_in; retired_in = λ b t. ⊎_elim ((r.walks 0).retired_in b) (r.inside.retired_in b) (entry_of_both (v.work 0).retired v.ruling.retired b t) }
 
   -- the round is refused
-  pub refuses : v.ruling.phase ≡ 1 → Home → Rule s w n (record v { work = update v.work 0 idle; ruling = record v.ruling { phase = 4 } }) (record g { who = g.who })
-  refuses one h = rephases h 4 g.who v.ruling.cursor v.ruling.retired v.ruling.plan (λ _. r.crew.rounds.1 (omega arith)) (λ e. absurd (omega arith)) (no_lists 4 g.who (inr refl)) (calm_retired ((λ e. omega arith), λ e. omega arith)) (λ _ h. inr h) (λ k e. ((λ f. absurd (omega arith)), (r.stock.cursor_is k e).1)) (λ _ _. refl) (claims_phase 4 (λ o e. omega arith) (λ e. absurd (omega arith)) (λ x j m q e f. absurd (omega arith)) (λ x e. absurd (omega arith)))
-      (λ x j m q e f. absurd (omega arith)) (names_phase 4 (λ l. absurd (omega arith)) (λ _. ((λ e. omega arith), λ e. omega arith)) (λ l. absurd (omega arith)) (λ e. absurd (omega arith))) r.inside
+  pub refuses : v.ruling.phase ≡ FirstHalf → Home → Rule s w n (record v { work = update v.work 0 idle; ruling = record v.ruling { phase = RollingBack } }) (record g { who = g.who })
+  refuses one h = rephases h RollingBack g.who v.ruling.cursor v.ruling.retired v.ruling.plan (λ _. r.crew.rounds.1 (omega (arith, ap order one))) (λ e. absurd (cc)) (no_lists RollingBack g.who (inr refl)) (calm_retired ((λ e. cc), λ e. cc)) (λ _ h. inr h) (λ k e. ((λ f. absurd (cc)), (r.stock.cursor_is k e).1)) (λ _ _. refl) (claims_phase RollingBack (λ o e. cc) (λ e. absurd (cc)) (λ x j m q e f. absurd (cc)) (λ x e. absurd (cc)))
+      (λ x j m q e f. absurd (cc)) (names_phase RollingBack (λ l. absurd (omega arith)) (λ _. ((λ e. cc), λ e. cc)) (λ l. absurd (omega arith)) (λ e. absurd (cc))) r.inside
 
   -- the next round reads as this one, while nothing is born or retired in it
   module _ (q : ℕ) (same_ : (b : ℕ) (t : Bool) (x : ℕ) → chained (g.life b) t ≡ x + 1 → (Covers w.born w.died q b → Covers w.born w.died (q + 1) b) × (Covers w.born w.died (q + 1) b → Covers w.born w.died q b)) (who : ℕ → ℕ) where
@@ -241,9 +243,9 @@ module _ (s : Setup) (w : Words) (n : ℕ) (v : Views) (g : Ghost) (r : Rule s w
   no_unborn h none b x m u z = let t = r.claims.half b x m u z in let o = all_open h none x in ⊎_elim (λ e. not_open _ _ _ (sym e ∙ o)) (λ e. not_open _ _ _ (sym e ∙ o)) t.1
 
   -- the round is taken back: its claims have ended, and the round in work is again as the last
-  pub restores : v.ruling.phase ≡ 4 → v.claims 0 ≡ [] → Rule s w n (record v { work = update v.work 0 idle; ruling = record v.ruling { phase = 0 } }) (record g { who = update g.who d (g.who w.round) })
-  restores four none = rephases home 0 who' v.ruling.cursor v.ruling.retired v.ruling.plan (λ l. absurd (omega arith)) (λ e. absurd (omega arith)) (no_lists 0 who' (inl refl)) (calm_retired ((λ e. omega arith), λ e. omega arith)) (λ _ h. inr h) (λ k e. ((λ f. absurd (omega arith)), (r.stock.cursor_is k e).1)) old
-      (claims_phase 0 (λ o e. omega arith) (λ e. absurd (omega arith)) (λ x j m q e f. absurd (omega arith)) (λ x _. all_open home none x)) (λ x j m q e f. absurd (omega arith))
+  pub restores : v.ruling.phase ≡ RollingBack → v.claims 0 ≡ [] → Rule s w n (record v { work = update v.work 0 idle; ruling = record v.ruling { phase = Resting } }) (record g { who = update g.who d (g.who w.round) })
+  restores four none = rephases home Resting who' v.ruling.cursor v.ruling.retired v.ruling.plan (λ l. absurd (omega arith)) (λ e. absurd (cc)) (no_lists Resting who' (inl refl)) (calm_retired ((λ e. cc), λ e. cc)) (λ _ h. inr h) (λ k e. ((λ f. absurd (cc)), (r.stock.cursor_is k e).1)) old
+      (claims_phase Resting (λ o e. cc) (λ e. absurd (cc)) (λ x j m q e f. absurd (cc)) (λ x _. all_open home none x)) (λ x j m q e f. absurd (cc))
       record {
         fits = λ q k. ⊎_elim (λ e. subst (λ (f : ℕ → ℕ). Fits s w.name w.head w.hist w.born w.died g.life f q) (sym (old q (low s w n v g r q e))) (r.names.fits q (inl e)))
             (λ e. subst (λ (i : ℕ). Fits s w.name w.head w.hist w.born w.died g.life (who' i) i) (sym e.0) (subst (λ (f : ℕ → ℕ). Fits s w.name w.head w.hist w.born w.died g.life f d) (sym (update_same g.who d (g.who w.round))) (refits w.round same_ (g.who w.round) (r.names.fits w.round (inl (inl refl)))))) k;
@@ -251,14 +253,14 @@ module _ (s : Setup) (w : Words) (n : ℕ) (v : Views) (g : Ghost) (r : Rule s w
             (λ e. subst (λ (i : ℕ). IsSound s w.name w.born w.died g.life (who' i) i) (sym e.0) (subst (λ (f : ℕ → ℕ). IsSound s w.name w.born w.died g.life f d) (sym (update_same g.who d (g.who w.round))) (resounds w.round same_ (g.who w.round) (r.names.sound w.round (inl (inl refl)))))) k;
         patch = r.names.patch;
         one = r.names.one;
-        calm = λ b x m l u. r.names.calm b x m ((λ e. omega arith), λ e. omega arith) u;
+        calm = λ b x m l u. r.names.calm b x m ((λ e. cc), λ e. cc) u;
         grows = λ i b l e. ap (λ (f : ℕ → ℕ). f i) (update_same g.who d (g.who w.round)) ∙ (sym (ap (λ (f : ℕ → ℕ). f i) (old w.round (omega arith))) ∙ e);
         either = λ i b l e. inl (ap (λ (f : ℕ → ℕ). f i) (update_same g.who d (g.who w.round)) ∙ (sym (ap (λ (f : ℕ → ℕ). f i) (old w.round (omega arith))) ∙ e));
         fresh = λ i z. ap (λ (f : ℕ → ℕ). f i) (update_same g.who d (g.who w.round)) ∙ sym (ap (λ (f : ℕ → ℕ). f i) (old w.round (omega arith)));
       } r.inside
     where
       home : Home
-      home = r.rules.halves (λ e. omega arith) (λ e. omega arith)
+      home = r.rules.halves (λ e. cc) (λ e. cc)
 
       who' : ℕ → ℕ → ℕ
       who' = update g.who d (g.who w.round)
@@ -267,9 +269,9 @@ module _ (s : Setup) (w : Words) (n : ℕ) (v : Views) (g : Ghost) (r : Rule s w
       old q l = update_other g.who d q (g.who w.round) (λ (e : q ≡ w.round + 1). omega arith)
 
       same_ : (b : ℕ) (t : Bool) (x : ℕ) → chained (g.life b) t ≡ x + 1 → (Covers w.born w.died w.round b → Covers w.born w.died d b) × (Covers w.born w.died d b → Covers w.born w.died w.round b)
-      same_ b t x c = let p = placed (g.life b) t x c in let calm = r.names.calm b p.0 p.1 ((λ e. omega arith), λ e. omega arith) p.2 in (
+      same_ b t x c = let p = placed (g.life b) t x c in let calm = r.names.calm b p.0 p.1 ((λ e. cc), λ e. cc) p.2 in (
         (λ k. let k1 = k.1 in (k.0, omega arith, ⊎_elim inl (λ l. absurd (omega arith)) k.2)),
-        λ k. let k1 = k.1 in (k.0, elim (dec_lt w.round (w.born b)) [ yes l ↦ absurd (let a = r.claims.kept b p.0 p.1 p.2 (omega arith) (λ e. omega arith) in not_open a.0 p.1 (Living b) (sym a.1 ∙ all_open home none p.0)) | no o ↦ omega arith ], ⊎_elim inl (λ l. inr (omega arith)) k.2),
+        λ k. let k1 = k.1 in (k.0, elim (dec_lt w.round (w.born b)) [ yes l ↦ absurd (let a = r.claims.kept b p.0 p.1 p.2 (omega arith) (λ e. cc) in not_open a.0 p.1 (Living b) (sym a.1 ∙ all_open home none p.0)) | no o ↦ omega arith ], ⊎_elim inl (λ l. inr (omega arith)) k.2),
       )
 
   -- the owner is sure of the place's LINK, which names another block or has a retired round
@@ -277,8 +279,8 @@ module _ (s : Setup) (w : Words) (n : ℕ) (v : Views) (g : Ghost) (r : Rule s w
   IsStamped x b = (l : Node) × Noted (v.sure 0).head x l × ((l.block ≡ b + 1 → ⊥) ⊎ (0 < l.died))
 
   -- the round is finished: the history has its forest, the target less the listed patches
-  pub advances : (forest : List ℕ) → ((i : ℕ) → HasEntry forest i → HasEntry v.ruling.plan.target i × (IsListed s v.ruling.plan.retire i → ⊥)) → ((i : ℕ) → HasEntry v.ruling.plan.target i → (IsListed s v.ruling.plan.retire i → ⊥) → HasEntry forest i) → v.ruling.phase ≡ 3 → v.claims 0 ≡ [] → ((b : ℕ) → HasEntry ((v.work 0).retired ++ v.ruling.retired) b → (x : ℕ) × (m : ℕ) × HasEntry v.ruling.placed (b, x, m) × IsStamped x b × ((y : ℕ) → m ≡ y + 1 → IsStamped y b))
-      → Rule s (record w { round = d; taken = 0 }) n (record v { work = update v.work 0 idle; ruling = record v.ruling { phase = 0; finished = v.ruling.finished + 1; early = v.ruling.readers; history = v.ruling.history ++ forest ∷ []; left = (w.round, w.taken) ∷ v.ruling.left; retired = []; kept = ((v.work 0).retired ++ v.ruling.retired) ++ v.ruling.kept; seen = 0; quiet = 0 } }) (record g { who = update g.who (d + 1) (g.who d) })
+  pub advances : (forest : List ℕ) → ((i : ℕ) → HasEntry forest i → HasEntry v.ruling.plan.target i × (IsListed s v.ruling.plan.retire i → ⊥)) → ((i : ℕ) → HasEntry v.ruling.plan.target i → (IsListed s v.ruling.plan.retire i → ⊥) → HasEntry forest i) → v.ruling.phase ≡ Closing → v.claims 0 ≡ [] → ((b : ℕ) → HasEntry ((v.work 0).retired ++ v.ruling.retired) b → (x : ℕ) × (m : ℕ) × HasEntry v.ruling.placed (b, x, m) × IsStamped x b × ((y : ℕ) → m ≡ y + 1 → IsStamped y b))
+      → Rule s (record w { round = d; taken = 0 }) n (record v { work = update v.work 0 idle; ruling = record v.ruling { phase = Resting; finished = v.ruling.finished + 1; early = v.ruling.readers; history = v.ruling.history ++ forest ∷ []; left = (w.round, w.taken) ∷ v.ruling.left; retired = []; kept = ((v.work 0).retired ++ v.ruling.retired) ++ v.ruling.kept; seen = 0; quiet = 0 } }) (record g { who = update g.who (d + 1) (g.who d) })
   advances forest of all three none shown = record {
     names_apart = r.names_apart;
     claims = record {
@@ -292,11 +294,11 @@ module _ (s : Setup) (w : Words) (n : ℕ) (v : Views) (g : Ghost) (r : Rule s w
       half = r.claims.half;
       rows = r.claims.rows;
       apart = r.claims.apart;
-      drawn = λ e. absurd (omega arith);
-      living = λ x j m q e f. absurd (omega arith);
+      drawn = λ e. absurd (cc);
+      living = λ x j m q e f. absurd (cc);
       none = λ x _. open_ x;
     };
-    labels = λ x j m q e f. absurd (omega arith);
+    labels = λ x j m q e f. absurd (cc);
     chains = ends_round (λ _. Unit {0}) (Went w.round w.died v.kind v.work v.read) s.elements w.round w.head w.hist w.born w.died g.life r.chains stamped;
     names = record {
       fits = λ q k. ⊎_elim (λ e. kept_fits q e)
@@ -322,16 +324,16 @@ module _ (s : Setup) (w : Words) (n : ℕ) (v : Views) (g : Ghost) (r : Rule s w
       most = r.pins.most;
       bound = let b = r.pins.bound in omega arith;
     };
-    works = idle_works home d 0 w.name w.born w.died g.life (who' (d + 1));
-    walks = idle_walks home d 0 w.name w.hist w.born w.died g.life who';
+    works = idle_works home d Resting w.name w.born w.died g.life (who' (d + 1));
+    walks = idle_walks home d Resting w.name w.hist w.born w.died g.life who';
     sure = r.sure;
     goes = λ i. let t = goes_who s w.round w.name w.hist w.born w.died g.life g.who who' (λ q l. old q (omega arith)) (v.read i) (λ q e. r.pins.past i q e) (r.goes i) in
         record { went = t.went; walk = t.walk; sided = t.sided; dated = t.dated; places = t.places; yes_notes = λ k q h. let a = t.yes_notes k q h in let a0 = a.0 in (omega arith, a.1); no_notes = λ k q h. let a = t.no_notes k q h in let a0 = a.0 in (omega arith, a.1) };
     rules = record { owner = r.rules.owner; one = r.rules.one; workers = r.rules.workers; readers = r.rules.readers; few_readers = r.rules.few_readers; halves = λ _ _. home; clear = λ q h. let t = r.rules.clear q h in let t0 = t.0 in (omega arith, t.1) };
-    stock = record { finished = ap (λ (i : ℕ). i + 1) r.stock.finished; cursor_is = λ k e. ((λ f. absurd (omega arith)), (r.stock.cursor_is k e).1); free_is = r.stock.free_is; left = λ q k h. ⊎_elim (λ e. let a : q ≡ w.round = ap (λ (t : ℕ × ℕ). t.0) e in let b : k ≡ w.taken = ap (λ (t : ℕ × ℕ). t.1) e in (omega arith, ap g.pins a ∙ r.pins.now ∙ sym b)) (λ t. let u = r.stock.left q k t in let u0 = u.0 in (omega arith, u.1)) h };
+    stock = record { finished = ap (λ (i : ℕ). i + 1) r.stock.finished; cursor_is = λ k e. ((λ f. absurd (cc)), (r.stock.cursor_is k e).1); free_is = r.stock.free_is; left = λ q k h. ⊎_elim (λ e. let a : q ≡ w.round = ap (λ (t : ℕ × ℕ). t.0) e in let b : k ≡ w.taken = ap (λ (t : ℕ × ℕ). t.1) e in (omega arith, ap g.pins a ∙ r.pins.now ∙ sym b)) (λ t. let u = r.stock.left q k t in let u0 = u.0 in (omega arith, u.1)) h };
     note = record { undone = r.note.undone; all = r.note.all; placed = r.note.placed; seen = λ x e. absurd (omega arith); quiet = λ e. absurd (omega arith) };
     retired = λ b x m u e. elim (dec_lt 0 (w.died b)) [ yes p ↦ let t = (r.chains.dieds b x m u p).2 in absurd (omega arith) | no o ↦ absurd (omega arith) ];
-    plan = record { same = λ j k. absurd (not_work home j k); aim = λ l. absurd (omega arith); within = λ i l. absurd (omega arith); whole = λ i l. absurd (omega arith); done = λ i e. absurd (omega arith) };
+    plan = record { same = λ j k. absurd (not_work home j k); aim = λ l. absurd (omega arith); within = λ i l. absurd (omega arith); whole = λ i l. absurd (omega arith); done = λ i e. absurd (cc) };
     history = record {
       rounds = let l = r.history.rounds in let e : length (v.ruling.history ++ forest ∷ []) ≡ length v.ruling.history + 1 = length_more v.ruling.history forest in omega arith;
       forests = λ q names e i. ⊎_elim (λ t. (history_who w.round g.who who' v.read v.ruling.history (λ q l. old q (omega arith)) r.history).forests q names t i)
@@ -342,15 +344,15 @@ module _ (s : Setup) (w : Words) (n : ℕ) (v : Views) (g : Ghost) (r : Rule s w
       seen = λ j. let t = r.history.seen j in let t0 = t.0 in (omega arith, t.1);
       made = r.history.made;
     };
-    drawn = idle_drawn home 0 w.cursor w.free w.row;
-    draws = λ x j m q e. absurd (omega arith);
-    crew = crew_free s d 0 v.kind (update v.work 0 idle) g.stage v.ruling.lone ((let l = r.crew.rounds.1 (omega arith) in omega arith), λ l. absurd (omega arith)) (λ _ j k. absurd (not_work home j k));
+    drawn = idle_drawn home Resting w.cursor w.free w.row;
+    draws = λ x j m q e. absurd (cc);
+    crew = crew_free s d Resting v.kind (update v.work 0 idle) g.stage v.ruling.lone ((let l = r.crew.rounds.1 (omega (arith, ap order three)) in omega arith), λ l. absurd (omega arith)) (λ _ j k. absurd (not_work home j k));
     inside = record { few = r.inside.few; rows = r.inside.rows; blocks = r.inside.blocks; stand_in = r.inside.stand_in; seconds = r.inside.seconds; hand_in = r.inside.hand_in; retired_in = λ b h. absurd h };
     named = r.named;
     once = r.once;
     holders = r.holders;
     hand = r.hand;
-    grows = idle_grows home d 0 w.name w.born (who' (d + 1));
+    grows = idle_grows home d Resting w.name w.born (who' (d + 1));
     retireds = λ b k. absurd (⊎_elim (λ t. idle_retired b t.0 t.1) (λ f. f) k);
     frees = r.frees;
     known = r.known;
@@ -363,15 +365,15 @@ module _ (s : Setup) (w : Words) (n : ℕ) (v : Views) (g : Ghost) (r : Rule s w
           (λ h. let t = r.retireds b (⊎_elim (λ a. inl (0, a)) inr (entry_of_both (v.work 0).retired v.ruling.retired b h)) in let e = t.3 in (t.0, t.1, t.2, omega arith, omega arith))
           (λ h. let t = r.kept.right b h in let l = t.4 in (t.0, t.1, t.2, t.3, omega arith)) (entry_of_both ((v.work 0).retired ++ v.ruling.retired) v.ruling.kept b h);
     };
-    early = r.rules.readers ∙ sym (sum_same n (λ j. one_where (v.kind j) 2) (λ j. is_early d (v.kind j) (v.read j)) (λ j _. early_now j));
+    early = r.rules.readers ∙ sym (sum_same n (λ j. digit (is_reader (v.kind j))) (λ j. is_early d (v.kind j) (v.read j)) (λ j _. early_now j));
   }
     where
       home : Home
-      home = r.rules.halves (λ e. omega arith) (λ e. omega arith)
+      home = r.rules.halves (λ e. cc) (λ e. cc)
 
       -- each reader's pass was made before
-      early_now : (j : ℕ) → is_early d (v.kind j) (v.read j) ≡ one_where (v.kind j) 2
-      early_now j = dite (ℕ_discrete (v.kind j) 2) (λ e. early_one d (v.kind j) (v.read j) e (let a = (r.history.made j).0 in let b = (r.history.seen j).0 in omega arith) ∙ sym (one_if (v.kind j) 2 e)) (λ o. early_none d (v.kind j) (v.read j) o ∙ sym (none_if (v.kind j) 2 o))
+      early_now : (j : ℕ) → is_early d (v.kind j) (v.read j) ≡ digit (is_reader (v.kind j))
+      early_now j = dite (kind_discrete (v.kind j) Reader) (λ e. early_one d (v.kind j) (v.read j) e (let a = (r.history.made j).0 in let b = (r.history.seen j).0 in omega arith) ∙ sym (reader_is (v.kind j) e)) (λ o. early_none d (v.kind j) (v.read j) o ∙ sym (reader_not (v.kind j) o))
 
       idle_retired : (b j : ℕ) → HasEntry (update v.work 0 idle j).retired b → ⊥
       idle_retired b = update_cases (λ j u. HasEntry u.retired b → ⊥) v.work 0 idle (λ h. h) (λ j ne h. subst (λ (l : List ℕ). HasEntry l b) ((r.walks j).only (not_work home j) ne).3 h)
@@ -384,10 +386,10 @@ module _ (s : Setup) (w : Words) (n : ℕ) (v : Views) (g : Ghost) (r : Rule s w
 
       -- the forest is that of the round in work
       held : (i : ℕ) → HasEntry forest i → Holds (g.who d) i
-      held i h = let t = of i h in ⊎_elim (λ k. k) (λ k. absurd (t.1 k)) (r.plan.whole i (omega arith) (omega arith) t.0)
+      held i h = let t = of i h in ⊎_elim (λ k. k) (λ k. absurd (t.1 k)) (r.plan.whole i (omega (arith, ap order three)) (omega (arith, ap order three)) t.0)
 
       holds_ : (i : ℕ) → Holds (g.who d) i → HasEntry forest i
-      holds_ i h = all i (r.plan.within i (omega arith) (omega arith) h) (λ k. let z = r.plan.done i three k in let y = h.1 in omega arith)
+      holds_ i h = all i (r.plan.within i (omega (arith, ap order three)) (omega (arith, ap order three)) h) (λ k. let z = r.plan.done i three k in let y = h.1 in omega arith)
 
       -- the LINK of a place that names a retired block has its round
       off : (x b : ℕ) → IsStamped x b → (w.head x).block ≡ b + 1 → (w.head x).died ≡ 0 → ⊥
@@ -424,7 +426,7 @@ module _ (s : Setup) (w : Words) (n : ℕ) (v : Views) (g : Ghost) (r : Rule s w
       old q l = update_other g.who (d + 1) q (g.who d) (λ (e : q ≡ w.round + 1 + 1). omega arith)
 
       said : MayRead w.round v.ruling.phase v.read (w.round + 1)
-      said = inr (refl, omega arith)
+      said = inr (refl, omega (arith, ap order three))
 
       kept_fits : (q : ℕ) → IsKept (w.round + 1) v.read q → Fits s w.name w.head w.hist w.born w.died g.life (who' q) q
       kept_fits q (inl e) = subst (λ (i : ℕ). Fits s w.name w.head w.hist w.born w.died g.life (who' i) i) (sym e) (subst (λ (f : ℕ → ℕ). Fits s w.name w.head w.hist w.born w.died g.life f (w.round + 1)) (sym (old (w.round + 1) (omega arith))) (r.names.fits (w.round + 1) said))

@@ -6,7 +6,7 @@ use Rattle.mesh_words.specs.Setup.{Setup}
 use Rattle.mesh_words.specs.Functions.{update}
 use Rattle.mesh_words.specs.Sums.{sum_below, one_where}
 use Rattle.mesh_words.specs.Words.{Words, Node}
-use Rattle.mesh_words.specs.Views.{Views, Walk, Still, At, Past, Note, Read, unread}
+use Rattle.mesh_words.specs.Views.{Views, Walk, Still, At, Past, Note, Read, unread, Vacant, Reader, is_reader}
 use Rattle.mesh_words.specs.Places.{member_of, child_place}
 use Rattle.mesh_words.specs.Entries.{HasEntry}
 use Rattle.mesh_words.proofs.Functions.{update_same, update_at, update_other, update_cases}
@@ -26,6 +26,8 @@ use Rattle.mesh_state.proofs.ChainSteps.{named, older_head, dead_end}
 use Rattle.mesh_state.proofs.Across.{Went, no_pin, zero_or_more, place_one, name_one}
 use Rattle.mesh_state.proofs.Known.{early_on, early_other}
 use Rattle.mesh_state.specs.Owner.{EarlyRule}
+use Rattle.mesh_words.proofs.SeatKinds.{kind_discrete, reader_is}
+use Rattle.mesh_names.specs.Names.{digit}
 
 module _ (s : Setup) (w : Words) (n : ℕ) (v : Views) (g : Ghost) (r : Rule s w n v g) where
   -- what a step of a reader's view is to show
@@ -74,8 +76,8 @@ module _ (s : Setup) (w : Words) (n : ℕ) (v : Views) (g : Ghost) (r : Rule s w
       back q (inl (inl e)) = inl (inl e)
       back q (inl (inr t)) = dite (ℕ_discrete t.0 j) (λ e. inl (kept q (sym (ap (λ (x : Read). x.pin) (update_at v.read j t.0 u e)) ∙ t.1))) (λ o. inl (inr (t.0, sym (ap (λ (x : Read). x.pin) (update_other v.read j t.0 u o)) ∙ t.1)))
 
-  inside : (j : ℕ) → v.kind j ≡ 2 → j < n
-  inside j k = elim (dec_lt j n) [ yes l ↦ l | no o ↦ let z = r.pins.few j (omega arith) in absurd (omega arith) ]
+  inside : (j : ℕ) → v.kind j ≡ Reader → j < n
+  inside j k = elim (dec_lt j n) [ yes l ↦ l | no o ↦ let z = r.pins.few j (omega arith) in absurd (cc) ]
 
   -- sums over the seats, with one view changed
   pin_sum : (j q : ℕ) (u : Read) → j < n → sum_below n (λ i. one_where (update v.read j u i).pin (q + 1)) + one_where (v.read j).pin (q + 1) ≡ sum_below n (λ i. one_where (v.read i).pin (q + 1)) + one_where u.pin (q + 1)
@@ -85,19 +87,19 @@ module _ (s : Setup) (w : Words) (n : ℕ) (v : Views) (g : Ghost) (r : Rule s w
   ready_sum j u l = sum_update n (λ i. (v.read i).ready) (λ i. (update v.read j u i).ready) j l (λ i o. ap (λ (x : Read). x.ready) (update_other v.read j i u o)) ∙ ap (λ (x : Read). sum_below n (λ i. (v.read i).ready) + x.ready) (update_same v.read j u)
 
   -- at most as many views are ready as readers are out
-  few_ready : (f : ℕ → ℕ) → ((i : ℕ) → f i ≤ 1) → ((i : ℕ) → (v.kind i ≡ 2 → ⊥) → f i ≡ 0) → sum_below n f ≤ s.passes + 1
-  few_ready f b z = let a = sum_le n f (λ i. one_where (v.kind i) 2) (λ i. dite (ℕ_discrete (v.kind i) 2) (λ e. let x = b i in let y = one_if (v.kind i) 2 e in omega arith) (λ o. let x = z i o in omega arith)) in let c = r.rules.readers in let e = r.rules.few_readers in omega arith
+  few_ready : (f : ℕ → ℕ) → ((i : ℕ) → f i ≤ 1) → ((i : ℕ) → (v.kind i ≡ Reader → ⊥) → f i ≡ 0) → sum_below n f ≤ s.passes + 1
+  few_ready f b z = let a = sum_le n f (λ i. digit (is_reader (v.kind i))) (λ i. dite (kind_discrete (v.kind i) Reader) (λ e. let x = b i in let y = reader_is (v.kind i) e in omega arith) (λ o. let x = z i o in omega arith)) in let c = r.rules.readers in let e = r.rules.few_readers in omega arith
 
   -- a reader's view in which the pin stays
-  pub same_pin : (j : ℕ) (u : Read) → v.kind j ≡ 2 → u.pin ≡ (v.read j).pin → u.ready ≤ 1 → w.taken + sum_below n (λ i. (update v.read j u i).ready) ≤ s.limit + s.passes + 1 → PinsRule s w.round w.taken w.released n v.kind (update v.read j u) g.pins
+  pub same_pin : (j : ℕ) (u : Read) → v.kind j ≡ Reader → u.pin ≡ (v.read j).pin → u.ready ≤ 1 → w.taken + sum_below n (λ i. (update v.read j u i).ready) ≤ s.limit + s.passes + 1 → PinsRule s w.round w.taken w.released n v.kind (update v.read j u) g.pins
   same_pin j u k e b bound = record {
     now = r.pins.now;
     later = r.pins.later;
     count = λ q. let a = r.pins.count q in let z = pin_sum j q u (inside j k) in let y : one_where u.pin (q + 1) ≡ one_where (v.read j).pin (q + 1) = ap (λ (x : ℕ). one_where x (q + 1)) e in omega arith;
     past = update_cases (λ i x. (q : ℕ) → x.pin ≡ q + 1 → q ≤ w.round) v.read j u (λ q h. r.pins.past j q (sym e ∙ h)) (λ i _. r.pins.past i);
     few = r.pins.few;
-    readers = update_cases (λ i x. (v.kind i ≡ 2 → ⊥) → (x.pin ≡ 0) × (x.ready ≡ 0)) v.read j u (λ o. absurd (o k)) (λ i _. r.pins.readers i);
-    spent = update_cases (λ i x. v.kind i ≡ 0 → x ≡ unread) v.read j u (λ z. absurd (omega arith)) (λ i _. r.pins.spent i);
+    readers = update_cases (λ i x. (v.kind i ≡ Reader → ⊥) → (x.pin ≡ 0) × (x.ready ≡ 0)) v.read j u (λ o. absurd (o k)) (λ i _. r.pins.readers i);
+    spent = update_cases (λ i x. v.kind i ≡ Vacant → x ≡ unread) v.read j u (λ z. absurd (cc)) (λ i _. r.pins.spent i);
     bit = update_cases (λ _ x. x.ready ≤ 1) v.read j u b (λ i _. r.pins.bit i);
     most = r.pins.most;
     bound = bound;
@@ -111,7 +113,7 @@ module _ (s : Setup) (w : Words) (n : ℕ) (v : Views) (g : Ghost) (r : Rule s w
       (⊎_elim (λ e. omega arith) (λ e. omega arith) seen, λ q e. ⊎_elim (λ t. let c = b.1 q t in omega arith) (λ t. omega arith) (pin q e)) h
 
   -- a pass that is no reader's forgets what it was told and has noted
-  pub forgets : (j : ℕ) → (v.kind j ≡ 2 → ⊥) → Rule s w n (record v { read = update v.read j unread }) g
+  pub forgets : (j : ℕ) → (v.kind j ≡ Reader → ⊥) → Rule s w n (record v { read = update v.read j unread }) g
   forgets j o = rereads j w.taken w.released g.pins unread
       record {
         now = r.pins.now;
@@ -119,8 +121,8 @@ module _ (s : Setup) (w : Words) (n : ℕ) (v : Views) (g : Ghost) (r : Rule s w
         count = λ q. r.pins.count q ∙ ap (λ (x : ℕ). w.released q + x) (sym (sum_same n (λ i. one_where (v.read i).pin (q + 1)) (λ i. one_where (update v.read j unread i).pin (q + 1)) (λ i _. ap (λ (x : ℕ). one_where x (q + 1)) (same i))));
         past = update_cases (λ i x. (q : ℕ) → x.pin ≡ q + 1 → q ≤ w.round) v.read j unread (λ q e. absurd (omega arith)) (λ i _. r.pins.past i);
         few = r.pins.few;
-        readers = update_cases (λ i x. (v.kind i ≡ 2 → ⊥) → (x.pin ≡ 0) × (x.ready ≡ 0)) v.read j unread (λ _. (refl, refl)) (λ i _. r.pins.readers i);
-        spent = update_cases (λ i x. v.kind i ≡ 0 → x ≡ unread) v.read j unread (λ _. refl) (λ i _. r.pins.spent i);
+        readers = update_cases (λ i x. (v.kind i ≡ Reader → ⊥) → (x.pin ≡ 0) × (x.ready ≡ 0)) v.read j unread (λ _. (refl, refl)) (λ i _. r.pins.readers i);
+        spent = update_cases (λ i x. v.kind i ≡ Vacant → x ≡ unread) v.read j unread (λ _. refl) (λ i _. r.pins.spent i);
         bit = update_cases (λ _ x. x.ready ≤ 1) v.read j unread (omega arith) (λ i _. r.pins.bit i);
         most = r.pins.most;
         bound = let a = sum_le n (λ i. (update v.read j unread i).ready) (λ i. (v.read i).ready) (update_cases (λ i x. x.ready ≤ (v.read i).ready) v.read j unread (omega arith) (λ _ _. omega arith)) in let b = r.pins.bound in omega arith;
@@ -133,15 +135,15 @@ module _ (s : Setup) (w : Words) (n : ℕ) (v : Views) (g : Ghost) (r : Rule s w
       same = update_cases (λ i x. x.pin ≡ (v.read i).pin) v.read j unread (sym (r.pins.readers j o).0) (λ _ _. refl)
 
   -- ROUND is loaded: the view is ready where fewer pins than the limit were shown
-  pub shows_round : (j : ℕ) → v.kind j ≡ 2 → (ready : ℕ) → ((ready ≡ 1) × (w.taken < s.limit)) ⊎ (ready ≡ 0) → Rule s w n (record v { read = update v.read j (record (v.read j) { ready = ready; seen = w.round }) }) g
+  pub shows_round : (j : ℕ) → v.kind j ≡ Reader → (ready : ℕ) → ((ready ≡ 1) × (w.taken < s.limit)) ⊎ (ready ≡ 0) → Rule s w n (record v { read = update v.read j (record (v.read j) { ready = ready; seen = w.round }) }) g
   shows_round j k ready how = let u : Read = record (v.read j) { ready = ready; seen = w.round } in let g0 = r.goes j in rereads j w.taken w.released g.pins u
       (same_pin j u k refl (⊎_elim (λ t. let e = t.0 in omega arith) (λ e. omega arith) how) (⊎_elim
-      (λ t. let l = t.1 in let e = t.0 in let f = few_ready (λ i. (update v.read j u i).ready) (update_cases (λ _ x. x.ready ≤ 1) v.read j u (omega arith) (λ i _. r.pins.bit i)) (update_cases (λ i x. (v.kind i ≡ 2 → ⊥) → x.ready ≡ 0) v.read j u (λ o. absurd (o k)) (λ i _ o. (r.pins.readers i o).1)) in omega arith)
+      (λ t. let l = t.1 in let e = t.0 in let f = few_ready (λ i. (update v.read j u i).ready) (update_cases (λ _ x. x.ready ≤ 1) v.read j u (omega arith) (λ i _. r.pins.bit i)) (update_cases (λ i x. (v.kind i ≡ Reader → ⊥) → x.ready ≡ 0) v.read j u (λ o. absurd (o k)) (λ i _ o. (r.pins.readers i o).1)) in omega arith)
       (λ e. let a = ready_sum j u (inside j k) in let b = r.pins.bound in omega arith) how))
       r.rules.clear r.stock.left (omega arith) (λ b p h. inr (p, h)) (λ q h. inr (j, h)) record { went = g0.went; walk = g0.walk; sided = g0.sided; dated = g0.dated; places = g0.places; yes_notes = g0.yes_notes; no_notes = g0.no_notes } (told_on j u refl refl (inr refl) (λ q e. inl e)) (early_on w.round n v.kind v.read j u v.ruling.early refl r.early)
 
   -- a pin is taken: the bound holds
-  pub pins : (j : ℕ) → v.kind j ≡ 2 → (v.read j).pin ≡ 0 → (v.read j).ready ≡ 1
+  pub pins : (j : ℕ) → v.kind j ≡ Reader → (v.read j).pin ≡ 0 → (v.read j).ready ≡ 1
       → Rule s (record w { taken = w.taken + 1; released = w.released }) n (record v { read = update v.read j (record (v.read j) { pin = w.round + 1; ready = 0; went = []; walk = Still; places = []; seen = w.round }) }) (record g { pins = update g.pins w.round (g.pins w.round + 1) })
   pins j k none ready = let u : Read = record (v.read j) { pin = w.round + 1; ready = 0; went = []; walk = Still; places = []; seen = w.round } in let p' : ℕ → ℕ = update g.pins w.round (g.pins w.round + 1) in
       rereads j (w.taken + 1) w.released p' u
@@ -153,8 +155,8 @@ module _ (s : Setup) (w : Words) (n : ℕ) (v : Views) (g : Ghost) (r : Rule s w
             (λ o. let x : one_where (w.round + 1) (q + 1) ≡ 0 = none_if (w.round + 1) (q + 1) (λ (e : w.round + 1 ≡ q + 1). o (omega arith)) in let b : p' q ≡ g.pins q = update_other g.pins w.round q (g.pins w.round + 1) o in omega arith);
         past = update_cases (λ i x. (q : ℕ) → x.pin ≡ q + 1 → q ≤ w.round) v.read j u (λ q h. omega arith) (λ i _. r.pins.past i);
         few = r.pins.few;
-        readers = update_cases (λ i x. (v.kind i ≡ 2 → ⊥) → (x.pin ≡ 0) × (x.ready ≡ 0)) v.read j u (λ o. absurd (o k)) (λ i _. r.pins.readers i);
-        spent = update_cases (λ i x. v.kind i ≡ 0 → x ≡ unread) v.read j u (λ z. absurd (omega arith)) (λ i _. r.pins.spent i);
+        readers = update_cases (λ i x. (v.kind i ≡ Reader → ⊥) → (x.pin ≡ 0) × (x.ready ≡ 0)) v.read j u (λ o. absurd (o k)) (λ i _. r.pins.readers i);
+        spent = update_cases (λ i x. v.kind i ≡ Vacant → x ≡ unread) v.read j u (λ z. absurd (cc)) (λ i _. r.pins.spent i);
         bit = update_cases (λ _ x. x.ready ≤ 1) v.read j u (omega arith) (λ i _. r.pins.bit i);
         most = λ q. dite (ℕ_discrete q w.round)
             (λ e. let b : p' q ≡ g.pins w.round + 1 = update_at g.pins w.round q (g.pins w.round + 1) e in let c = r.pins.now in let a = ready_sum j u (inside j k) in let m = r.pins.bound in omega arith)
@@ -166,7 +168,7 @@ module _ (s : Setup) (w : Words) (n : ℕ) (v : Views) (g : Ghost) (r : Rule s w
       (omega arith) (λ b p h. absurd h) (λ q h. inl (omega arith)) record { went = λ q b h m. absurd m; walk = λ q h. tt; sided = λ q x k b t p h. absurd (still_not x k b t h); dated = λ q x k b t p h. absurd (still_not x k b t h); places = λ q x k h m. absurd m; yes_notes = (r.goes j).yes_notes; no_notes = (r.goes j).no_notes } (told_on j u refl refl (inr refl) (λ q e. inr (omega arith))) (early_on w.round n v.kind v.read j u v.ruling.early refl r.early)
 
   -- a pin is given back
-  pub unpins : (j q0 : ℕ) → v.kind j ≡ 2 → (v.read j).pin ≡ q0 + 1
+  pub unpins : (j q0 : ℕ) → v.kind j ≡ Reader → (v.read j).pin ≡ q0 + 1
       → Rule s (record w { taken = w.taken; released = update w.released q0 (w.released q0 + 1) }) n (record v { read = update v.read j (record (v.read j) { pin = 0; went = []; walk = Still; places = [] }) }) (record g { pins = g.pins })
   unpins j q0 k had = let u : Read = record (v.read j) { pin = 0; went = []; walk = Still; places = [] } in let low_ = r.pins.past j q0 had in
       rereads j w.taken (update w.released q0 (w.released q0 + 1)) g.pins u
@@ -178,8 +180,8 @@ module _ (s : Setup) (w : Words) (n : ℕ) (v : Views) (g : Ghost) (r : Rule s w
             (λ o. let x : one_where (v.read j).pin (q + 1) ≡ 0 = none_if (v.read j).pin (q + 1) (λ (e : (v.read j).pin ≡ q + 1). o (omega arith)) in let b : update w.released q0 (w.released q0 + 1) q ≡ w.released q = update_other w.released q0 q (w.released q0 + 1) o in omega arith);
         past = update_cases (λ i x. (q : ℕ) → x.pin ≡ q + 1 → q ≤ w.round) v.read j u (λ q h. absurd (omega arith)) (λ i _. r.pins.past i);
         few = r.pins.few;
-        readers = update_cases (λ i x. (v.kind i ≡ 2 → ⊥) → (x.pin ≡ 0) × (x.ready ≡ 0)) v.read j u (λ o. absurd (o k)) (λ i _. r.pins.readers i);
-        spent = update_cases (λ i x. v.kind i ≡ 0 → x ≡ unread) v.read j u (λ z. absurd (omega arith)) (λ i _. r.pins.spent i);
+        readers = update_cases (λ i x. (v.kind i ≡ Reader → ⊥) → (x.pin ≡ 0) × (x.ready ≡ 0)) v.read j u (λ o. absurd (o k)) (λ i _. r.pins.readers i);
+        spent = update_cases (λ i x. v.kind i ≡ Vacant → x ≡ unread) v.read j u (λ z. absurd (cc)) (λ i _. r.pins.spent i);
         bit = update_cases (λ _ x. x.ready ≤ 1) v.read j u (r.pins.bit j) (λ i _. r.pins.bit i);
         most = r.pins.most;
         bound = let a = ready_sum j u (inside j k) in let b = r.pins.bound in omega arith;
@@ -188,7 +190,7 @@ module _ (s : Setup) (w : Words) (n : ℕ) (v : Views) (g : Ghost) (r : Rule s w
       r.stock.left (omega arith) (λ b p h. absurd h) (λ q h. absurd (omega arith)) record { went = λ q b h m. absurd m; walk = λ q h. absurd (omega arith); sided = λ q x k b t p h. absurd (still_not x k b t h); dated = λ q x k b t p h. absurd (still_not x k b t h); places = λ q x k h m. absurd m; yes_notes = (r.goes j).yes_notes; no_notes = (r.goes j).no_notes } (told_on j u refl refl (inl refl) (λ q e. absurd (omega arith))) (early_on w.round n v.kind v.read j u v.ruling.early refl r.early)
 
   -- a walk goes on: the reader's pin stays
-  module _ (j q0 : ℕ) (kind : v.kind j ≡ 2) (pinned : (v.read j).pin ≡ q0 + 1) where
+  module _ (j q0 : ℕ) (kind : v.kind j ≡ Reader) (pinned : (v.read j).pin ≡ q0 + 1) where
     low_q : q0 ≤ w.round
     low_q = r.pins.past j q0 pinned
 

@@ -5,7 +5,7 @@ use native.Mathlib.Decide.{ℕ_discrete}
 use Rattle.mesh_words.specs.Setup.{Setup}
 use Rattle.mesh_words.specs.Functions.{update}
 use Rattle.mesh_words.specs.Words.{Words, Node}
-use Rattle.mesh_words.specs.Views.{Views}
+use Rattle.mesh_words.specs.Views.{Views, Worker, FirstHalf, order}
 use Rattle.mesh_words.specs.Claims.{Progress, Drawn, Half, Whole, Living, claim, moved_on}
 use Rattle.mesh_words.specs.Places.{member_of}
 use Rattle.mesh_words.specs.Entries.{HasEntry}
@@ -66,16 +66,16 @@ module _ (s : Setup) (w : Words) (n : ℕ) (v : Views) (g : Ghost) (r : Rule s w
   own_place x j m p is y (inr e) z i k q h (inr f) = (r.claims.mates x j y p (is ∙ ap (λ (t : ℕ). Held j t p) e)).1 z i q (h ∙ ap (λ (t : ℕ). Held i t q) f)
 
   -- a member of a claim that has no living block is not bisected
-  pub unmet_member : (x j m : ℕ) (p : Progress) → g.stage x ≡ Held j m p → (is_living p → ⊥) → v.ruling.phase ≡ 1 → (y k : ℕ) → Of x m y → IsPlaceOf s w.name (g.who d) y k → g.who w.round k ≡ 0 → g.who d k ≡ 0
+  pub unmet_member : (x j m : ℕ) (p : Progress) → g.stage x ≡ Held j m p → (is_living p → ⊥) → v.ruling.phase ≡ FirstHalf → (y k : ℕ) → Of x m y → IsPlaceOf s w.name (g.who d) y k → g.who w.round k ≡ 0 → g.who d k ≡ 0
   unmet_member x j m p is not one y k of seen old = unmet s w n v g r one y k seen old (λ z i c a h o. let e = own_place x j m p is y of z i c (Living a) h o in
       not (subst is_living (sym (held_one j i m c p (Living a) (sym is ∙ ap g.stage (sym e) ∙ h)).2) tt))
 
   -- publish: the block of the claim is born in the round
-  module _ (j x m b : ℕ) (mine : HasEntry (v.claims j) (claim x m (Whole b))) (kind : v.kind j ≡ 1) where
+  module _ (j x m b : ℕ) (mine : HasEntry (v.claims j) (claim x m (Whole b))) (kind : v.kind j ≡ Worker) where
     is : g.stage x ≡ Held j m (Whole b)
     is = r.claims.held j x m (Whole b) mine
 
-    one : v.ruling.phase ≡ 1
+    one : v.ruling.phase ≡ FirstHalf
     one = first_half s w n v g r j x m (Whole b) kind is (λ h. h)
 
     shape : Shape w.round w.head w.born g.life x m (Whole b)
@@ -153,15 +153,15 @@ module _ (s : Setup) (w : Words) (n : ℕ) (v : Views) (g : Ghost) (r : Rule s w
             only = λ a. absurd (a kind);
             found = λ y k h. let t = (r.works j).found y k h in (t.0, here y k (seen_stays y k t.1));
             known = λ k h. (one, ⊎_elim (λ t. let u = ((r.works j).known k t).1 in (u.0, now_is k u.0 (stays k u.0 u.1))) (λ t. (b, now_is k b (ap now t.3 ∙ at_member t.0 t.1 t.2))) (right k h));
-            open_ = λ k h. let t = ((r.works j).open_ k h).0 in let e = one in absurd (omega arith);
-            given = λ c i h. let t = ((r.works j).given c i h).0 in let e = one in absurd (omega arith);
+            open_ = λ k h. let t = ((r.works j).open_ k h).0 in let e = one in absurd (cc);
+            given = λ c i h. let t = ((r.works j).given c i h).0 in let e = one in absurd (cc);
           }
           (λ i _. record {
             only = (r.works i).only;
             found = λ y k h. let t = (r.works i).found y k h in (t.0, here y k (seen_stays y k t.1));
             known = λ k h. let t = (r.works i).known k h in (t.0, (t.1.0, now_is k t.1.0 (stays k t.1.0 t.1.1)));
-            open_ = λ k h. let t = ((r.works i).open_ k h).0 in let e = one in absurd (omega arith);
-            given = λ c k h. let t = ((r.works i).given c k h).0 in let e = one in absurd (omega arith);
+            open_ = λ k h. let t = ((r.works i).open_ k h).0 in let e = one in absurd (cc);
+            given = λ c k h. let t = ((r.works i).given c k h).0 in let e = one in absurd (cc);
           });
       walks = update_cases (λ i u. WalkRule s w.round v.ruling.phase w.name w.hist born' w.died g.life who' (v.kind i) i u) v.work j (record (v.work j) { known = known }) (let u = walker j in record { still = u.still; only = u.only; half = u.half; at_work = u.at_work; retired_in = u.retired_in; absent = u.absent; stood = u.stood; had = u.had; went = u.went; walk = u.walk; sided = u.sided }) (λ i _. walker i);
       sure = λ i. sure_on s.elements v.ruling.workers v.ruling.workers w.head w.hist w.head w.hist w.born w.died w.name w.row born' w.died w.name w.row g.stage stage' i (v.sure i)
@@ -179,8 +179,8 @@ module _ (s : Setup) (w : Words) (n : ℕ) (v : Views) (g : Ghost) (r : Rule s w
         same = p.same;
         aim = λ a c. target_on s (Holds (g.who w.round)) (Holds (who' w.round)) v.ruling.plan (λ k. subst (λ (f : ℕ → ℕ). (Holds (g.who w.round) k → Holds f k) × (Holds f k → Holds (g.who w.round) k)) (sym (update_other g.who d w.round now (λ (e : w.round ≡ w.round + 1). omega arith))) ((λ h. h), λ h. h)) (r.plan.aim a c);
         within = λ k a c h. within k h.0 (sym (ap (λ (f : ℕ → ℕ). f k) (update_same g.who d now)) ∙ h.1);
-        whole = λ k a c h. let e = one in absurd (omega arith);
-        done = λ k e h. let z = one in absurd (omega arith);
+        whole = λ k a c h. let e = one in absurd (omega (arith, ap order e));
+        done = λ k e h. let z = one in absurd (cc);
       };
       history = history_who w.round g.who who' v.read v.ruling.history (λ q l. update_other g.who d q now (λ (e : q ≡ w.round + 1). omega arith)) r.history;
       drawn = drawn_update v.ruling.phase w.cursor w.free w.row v.kind v.work j (record (v.work j) { known = known }) refl r.drawn;
@@ -191,7 +191,7 @@ module _ (s : Setup) (w : Words) (n : ℕ) (v : Views) (g : Ghost) (r : Rule s w
       once = update_cases (λ _ cs. ListedOnce cs) v.claims j (moved_on (v.claims j) x (Living b)) (once_moved (v.claims j) x (Living b) (r.once j)) (λ i _. r.once i);
       holders = λ z i k q h. dite (ℕ_discrete z x) (λ f. ⊎_elim (λ e. inl (sym (held_one j i m k (Living b) q (sym (update_at g.stage x z (Held j m (Living b)) f) ∙ h)).0 ∙ e)) (λ e. inr (ap v.kind (sym (held_one j i m k (Living b) q (sym (update_at g.stage x z (Held j m (Living b)) f) ∙ h)).0) ∙ e)) (r.holders x j m (Whole b) is)) (λ o. r.holders z i k q (sym (update_other g.stage x z (Held j m (Living b)) o) ∙ h));
       hand = r.hand;
-      grows = update_cases (λ i u. GrownRule s w.round v.ruling.phase w.name born' (who' d) (v.kind i) i u) v.work j (record (v.work j) { known = known }) (grows_off s w.round v.ruling.phase w.name w.born w.name born' (g.who d) (who' d) (v.kind j) j (v.work j) (record (v.work j) { known = known }) (λ e. let z = one in omega arith) refl (r.grows j)) (λ i _. grows_off s w.round v.ruling.phase w.name w.born w.name born' (g.who d) (who' d) (v.kind i) i (v.work i) (v.work i) (λ e. let z = one in omega arith) refl (r.grows i));
+      grows = update_cases (λ i u. GrownRule s w.round v.ruling.phase w.name born' (who' d) (v.kind i) i u) v.work j (record (v.work j) { known = known }) (grows_off s w.round v.ruling.phase w.name w.born w.name born' (g.who d) (who' d) (v.kind j) j (v.work j) (record (v.work j) { known = known }) (λ e. let z = one in cc) refl (r.grows j)) (λ i _. grows_off s w.round v.ruling.phase w.name w.born w.name born' (g.who d) (who' d) (v.kind i) i (v.work i) (v.work i) (λ e. let z = one in cc) refl (r.grows i));
       retireds = retireds_work w.round w.died g.life v.work v.ruling.retired j (record (v.work j) { known = known }) refl r.retireds;
       frees = frees_on s.pool w.cursor w.free w.row w.born born' g.life g.life v.ruling.hand v.ruling.low v.ruling.high (λ _ e. e) (λ c e. (e, λ z. other_born c (λ (f : c ≡ b). free_not x m (sym e ∙ ap g.life f ∙ at)) ∙ z)) r.frees;
       known = known_goes g.life g.stage v.ruling.placed x j m j (Whole b) (Living b) is refl (λ c e. whole_not c e) r.known;
@@ -213,15 +213,15 @@ module _ (s : Setup) (w : Words) (n : ℕ) (v : Views) (g : Ghost) (r : Rule s w
         aimed false y c = subst (HasEntry v.ruling.plan.target) (sym (label.4 b refl)) label.6
         aimed true y c = let p = r.names.patch b x m at in ⊎_elim
             (λ z. let q : 0 ≡ y + 1 = sym z.0 ∙ c in absurd (omega arith))
-            (λ z. let e : s.mate label.0 ≡ z.1 + 1 = ap s.mate (sym (label.4 b refl)) ∙ z.3 in subst (HasEntry v.ruling.plan.target) (sym (p.1 ∙ z.3)) ((r.plan.aim (let e = one in omega arith) (let e = one in omega arith)).closed.seconds label.0 z.1 e label.6)) p.2
+            (λ z. let e : s.mate label.0 ≡ z.1 + 1 = ap s.mate (sym (label.4 b refl)) ∙ z.3 in subst (HasEntry v.ruling.plan.target) (sym (p.1 ∙ z.3)) ((r.plan.aim (let e = one in omega (arith, ap order one)) (let e = one in omega (arith, ap order one))).closed.seconds label.0 z.1 e label.6)) p.2
 
         within : (k a : ℕ) → now k ≡ a + 1 → HasEntry v.ruling.plan.target k
-        within k a e = ⊎_elim (λ t. subst (HasEntry v.ruling.plan.target) (sym (t.3 ∙ rounds.name_side w.name b t.0)) (aimed t.0 t.1 t.2)) (λ t. r.plan.within k (let e = one in omega arith) (let e = one in omega arith) (a, sym t.0 ∙ e))
+        within k a e = ⊎_elim (λ t. subst (HasEntry v.ruling.plan.target) (sym (t.3 ∙ rounds.name_side w.name b t.0)) (aimed t.0 t.1 t.2)) (λ t. r.plan.within k (let e = one in omega (arith, ap order e)) (let e = one in omega (arith, ap order e)) (a, sym t.0 ∙ e))
             (rounds.marks_cases m x (w.name (member_of b false)) (w.name (member_of b true)) (b + 1) (g.who d) k)
 
         walker : (i : ℕ) → WalkRule s w.round v.ruling.phase w.name w.hist born' w.died g.life who' (v.kind i) i (v.work i)
         walker i = workers_who s w.round v.ruling.phase w.name w.hist born' w.died g.life g.who who' (update_other g.who d w.round now (λ (e : w.round ≡ w.round + 1). omega arith)) (λ _ y k h. here y k (seen_stays y k h)) (v.kind i) i (v.work i)
-            (workers_on s w.name w.name w.head w.hist w.head w.hist w.born w.died born' w.died g.life g.life (λ _ _ _ _ _. refl) w.round v.ruling.phase g.who v.read (IsKept w.round v.read) A step_chains.1 (inl refl) (r.names.fits w.round (inl (inl refl))) (λ e. r.names.fits d (inr (refl, omega arith))) (v.kind i) i (v.work i) (λ c k h x. (inr (i, k, refl, h), x)) (r.walks i))
+            (workers_on s w.name w.name w.head w.hist w.head w.hist w.born w.died born' w.died g.life g.life (λ _ _ _ _ _. refl) w.round v.ruling.phase g.who v.read (IsKept w.round v.read) A step_chains.1 (inl refl) (r.names.fits w.round (inl (inl refl))) (λ e. r.names.fits d (inr (refl, omega (arith, ap order e)))) (v.kind i) i (v.work i) (λ c k h x. (inr (i, k, refl, h), x)) (r.walks i))
 
         now_is : (k a : ℕ) → now k ≡ a + 1 → who' d k ≡ a + 1
         now_is k a e = ap (λ (f : ℕ → ℕ). f k) (update_same g.who d now) ∙ e

@@ -5,7 +5,7 @@ use native.Mathlib.Decide.{ℕ_discrete}
 use Rattle.mesh_words.specs.Setup.{Setup}
 use Rattle.mesh_words.specs.Functions.{update}
 use Rattle.mesh_words.specs.Words.{Words}
-use Rattle.mesh_words.specs.Views.{Plan, Views, Work}
+use Rattle.mesh_words.specs.Views.{Plan, Views, Work, Worker, SecondHalf, order}
 use Rattle.mesh_words.specs.Claims.{Drawn, Half, Living}
 use Rattle.mesh_words.specs.Places.{member_of}
 use Rattle.mesh_words.specs.Entries.{HasEntry}
@@ -36,12 +36,12 @@ module _ (s : Setup) (w : Words) (n : ℕ) (v : Views) (g : Ghost) (r : Rule s w
   abbrev A : ℕ → ℕ → Type 0
   A = Went w.round w.died v.kind v.work v.read
 
-  module _ (j b k : ℕ) (given : HasEntry (v.work j).given (b, k)) (kind : v.kind j ≡ 1) (listed : HasEntry (v.work j).plan.retire k) (zero_ : w.died b ≡ 0)
+  module _ (j b k : ℕ) (given : HasEntry (v.work j).given (b, k)) (kind : v.kind j ≡ Worker) (listed : HasEntry (v.work j).plan.retire k) (zero_ : w.died b ≡ 0)
       (leaves : (c : Bool) → HasEntry (v.work j).open_ (s.child k c)) (mates : (i : ℕ) → s.mate k ≡ i + 1 → (c : Bool) → HasEntry (v.work j).open_ (s.child (i + 1) c)) where
-    entry : (v.ruling.phase ≡ 2) × (w.name (member_of b false) ≡ k) × ((x : ℕ) × (m : ℕ) × (g.life b ≡ Placed x m) × (0 < w.born b) × (w.born b ≤ w.round) × ((w.died b ≡ 0) ⊎ (w.died b ≡ w.round + 1)))
+    entry : (v.ruling.phase ≡ SecondHalf) × (w.name (member_of b false) ≡ k) × ((x : ℕ) × (m : ℕ) × (g.life b ≡ Placed x m) × (0 < w.born b) × (w.born b ≤ w.round) × ((w.died b ≡ 0) ⊎ (w.died b ≡ w.round + 1)))
     entry = (r.works j).given b k given
 
-    two : v.ruling.phase ≡ 2
+    two : v.ruling.phase ≡ SecondHalf
     two = entry.0
 
     abbrev X : ℕ
@@ -57,7 +57,7 @@ module _ (s : Setup) (w : Words) (n : ℕ) (v : Views) (g : Ghost) (r : Rule s w
     covered = let l = entry.2.4 in (entry.2.3, omega arith, inl zero_)
 
     was : (t : Bool) (y : ℕ) → chained (g.life b) t ≡ y + 1 → g.who d (w.name (member_of b t)) ≡ b + 1
-    was t y c = (r.names.sound d (inr (refl, let e = two in omega arith)) b t y c covered).0
+    was t y c = (r.names.sound d (inr (refl, let e = two in omega (arith, ap order two))) b t y c covered).0
 
     leaf : (t c : Bool) (y : ℕ) → chained (g.life b) t ≡ y + 1 → g.who d (s.child (w.name (member_of b t)) c) ≡ 0
     leaf false c y h = ap (λ (i : ℕ). g.who d (s.child i c)) entry.1 ∙ ((r.works j).open_ (s.child k c) (leaves c)).1
@@ -85,22 +85,22 @@ module _ (s : Setup) (w : Words) (n : ℕ) (v : Views) (g : Ghost) (r : Rule s w
       record {
         names_apart = r.names_apart;
         claims = r.claims;
-        labels = λ z i m q h e. let t = two in absurd (omega arith);
+        labels = λ z i m q h e. let t = two in absurd (cc);
         chains = step_chains.0;
         names = rounds.names_retire s r.names_apart w.round v.ruling.phase w.name w.head w.hist w.born w.died g.life g.who v.read r.names (low s w n v g r) b X M at two was leaf A step_chains.1;
         pins = r.pins;
         works = update_cases (λ i u. WorkRule s w.round v.ruling.phase w.name w.born (update w.died b d) g.life (who' d) (v.kind i) i u) v.work j (record (v.work j) { open_ = names; retired = b ∷ (v.work j).retired })
             record {
               only = λ a. absurd (a kind);
-              found = λ y i h. let t = ((r.works j).found y i h).0 in let e = two in absurd (omega arith);
-              known = λ i h. let t = ((r.works j).known i h).0 in let e = two in absurd (omega arith);
+              found = λ y i h. let t = ((r.works j).found y i h).0 in let e = two in absurd (cc);
+              known = λ i h. let t = ((r.works j).known i h).0 in let e = two in absurd (cc);
               open_ = λ i h. (two, now_is i (⊎_elim (λ t. still_open i ((r.works j).open_ i t).1) (λ t. ap now t.3 ∙ marked t.0 t.1 t.2) (right i h)));
               given = λ c i h. on_given c i ((r.works j).given c i h);
             }
             (λ a _. record {
               only = (r.works a).only;
-              found = λ y i h. let t = ((r.works a).found y i h).0 in let e = two in absurd (omega arith);
-              known = λ i h. let t = ((r.works a).known i h).0 in let e = two in absurd (omega arith);
+              found = λ y i h. let t = ((r.works a).found y i h).0 in let e = two in absurd (cc);
+              known = λ i h. let t = ((r.works a).known i h).0 in let e = two in absurd (cc);
               open_ = λ i h. let t = (r.works a).open_ i h in (t.0, now_is i (still_open i t.1));
               given = λ c i h. on_given c i ((r.works a).given c i h);
             });
@@ -122,12 +122,12 @@ module _ (s : Setup) (w : Words) (n : ℕ) (v : Views) (g : Ghost) (r : Rule s w
           aim = λ a c. target_on s (Holds (g.who w.round)) (Holds (who' w.round)) v.ruling.plan (λ i. subst (λ (f : ℕ → ℕ). (Holds (g.who w.round) i → Holds f i) × (Holds f i → Holds (g.who w.round) i)) (sym (update_other g.who d w.round now (λ (e : w.round ≡ w.round + 1). omega arith))) ((λ h. h), λ h. h)) (r.plan.aim a c);
           within = λ i a c h. within i h.0 (sym (ap (λ (f : ℕ → ℕ). f i) (update_same g.who d now)) ∙ h.1);
           whole = λ i a c h. whole i h;
-          done = λ i e h. let z = two in absurd (omega arith);
+          done = λ i e h. let z = two in absurd (cc);
         };
         history = history_who w.round g.who who' v.read v.ruling.history (λ q l. update_other g.who d q now (λ (e : q ≡ w.round + 1). omega arith)) r.history;
         drawn = drawn_update v.ruling.phase w.cursor w.free w.row v.kind v.work j (record (v.work j) { open_ = names; retired = b ∷ (v.work j).retired }) refl r.drawn;
         draws = draws_update v.ruling.phase v.work g.stage j (record (v.work j) { open_ = names; retired = b ∷ (v.work j).retired }) refl r.draws;
-        crew = crew_free s w.round v.ruling.phase v.kind (update v.work j (record (v.work j) { open_ = names; retired = b ∷ (v.work j).retired })) g.stage v.ruling.lone r.crew.rounds (λ e. let z = two in absurd (omega arith));
+        crew = crew_free s w.round v.ruling.phase v.kind (update v.work j (record (v.work j) { open_ = names; retired = b ∷ (v.work j).retired })) g.stage v.ruling.lone r.crew.rounds (λ e. let z = two in absurd (cc));
         inside = r.inside;
         named = r.named;
         once = r.once;
@@ -160,7 +160,7 @@ module _ (s : Setup) (w : Words) (n : ℕ) (v : Views) (g : Ghost) (r : Rule s w
         was_retired c o (inr h) = inr h
 
         within : (i a : ℕ) → now i ≡ a + 1 → HasEntry v.ruling.plan.target i
-        within i a e = ⊎_elim (λ c. let z : 0 ≡ a + 1 = sym c.4 ∙ e in absurd (omega arith)) (λ c. r.plan.within i (let z = two in omega arith) (let z = two in omega arith) (a, sym c.0 ∙ e))
+        within i a e = ⊎_elim (λ c. let z : 0 ≡ a + 1 = sym c.4 ∙ e in absurd (omega arith)) (λ c. r.plan.within i (let z = two in omega (arith, ap order z)) (let z = two in omega (arith, ap order z)) (a, sym c.0 ∙ e))
             (rounds.marks_cases M X (w.name (member_of b false)) (w.name (member_of b true)) 0 (g.who d) i)
 
         on_list : HasEntry v.ruling.plan.retire k
@@ -175,12 +175,12 @@ module _ (s : Setup) (w : Words) (n : ℕ) (v : Views) (g : Ghost) (r : Rule s w
 
         whole : (i : ℕ) → HasEntry v.ruling.plan.target i → Holds (who' d) i ⊎ IsListed s v.ruling.plan.retire i
         whole i h = ⊎_elim (λ c. inr (subst (IsListed s v.ruling.plan.retire) (sym (c.3 ∙ rounds.name_side w.name b c.0)) (of_list c.0 c.1 c.2)))
-            (λ c. ⊎_elim (λ t. inl (t.0, ap (λ (f : ℕ → ℕ). f i) (update_same g.who d now) ∙ c.0 ∙ t.1)) inr (r.plan.whole i (let z = two in omega arith) (let z = two in omega arith) h))
+            (λ c. ⊎_elim (λ t. inl (t.0, ap (λ (f : ℕ → ℕ). f i) (update_same g.who d now) ∙ c.0 ∙ t.1)) inr (r.plan.whole i (let z = two in omega (arith, ap order z)) (let z = two in omega (arith, ap order z)) h))
             (rounds.marks_cases M X (w.name (member_of b false)) (w.name (member_of b true)) 0 (g.who d) i)
 
         walker : (i : ℕ) → WalkRule s w.round v.ruling.phase w.name w.hist w.born (update w.died b d) g.life who' (v.kind i) i (v.work i)
-        walker i = workers_who s w.round v.ruling.phase w.name w.hist w.born (update w.died b d) g.life g.who who' (update_other g.who d w.round now (λ (e : w.round ≡ w.round + 1). omega arith)) (λ e _ _ _. let t = two in absurd (omega arith)) (v.kind i) i (v.work i)
-            (workers_on s w.name w.name w.head w.hist w.head w.hist w.born w.died w.born (update w.died b d) g.life g.life (λ _ _ _ _ _. refl) w.round v.ruling.phase g.who v.read (IsKept w.round v.read) A step_chains.1 (inl refl) (r.names.fits w.round (inl (inl refl))) (λ e. let t = two in absurd (omega arith)) (v.kind i) i (v.work i) (λ c k h x. (inr (i, k, refl, h), x)) (r.walks i))
+        walker i = workers_who s w.round v.ruling.phase w.name w.hist w.born (update w.died b d) g.life g.who who' (update_other g.who d w.round now (λ (e : w.round ≡ w.round + 1). omega arith)) (λ e _ _ _. let t = two in absurd (cc)) (v.kind i) i (v.work i)
+            (workers_on s w.name w.name w.head w.hist w.head w.hist w.born w.died w.born (update w.died b d) g.life g.life (λ _ _ _ _ _. refl) w.round v.ruling.phase g.who v.read (IsKept w.round v.read) A step_chains.1 (inl refl) (r.names.fits w.round (inl (inl refl))) (λ e. let t = two in absurd (cc)) (v.kind i) i (v.work i) (λ c k h x. (inr (i, k, refl, h), x)) (r.walks i))
 
         keeps : (i c : ℕ) → HasEntry (v.work i).retired c → HasEntry (update v.work j (record (v.work j) { open_ = names; retired = b ∷ (v.work j).retired }) i).retired c
         keeps i c h = update_cases (λ a u. a ≡ i → HasEntry u.retired c) v.work j (record (v.work j) { open_ = names; retired = b ∷ (v.work j).retired }) (λ e. inr (subst (λ (a : ℕ). HasEntry (v.work a).retired c) (sym e) h)) (λ a _ e. subst (λ (a : ℕ). HasEntry (v.work a).retired c) (sym e) h) i refl
@@ -191,8 +191,8 @@ module _ (s : Setup) (w : Words) (n : ℕ) (v : Views) (g : Ghost) (r : Rule s w
         marked : (t : Bool) (y : ℕ) → chained (g.life b) t ≡ y + 1 → now (w.name (member_of b t)) ≡ 0
         marked t y c = rounds.marked s r.names_apart w.round v.ruling.phase w.name w.head w.hist w.born w.died g.life g.who v.read r.names (low s w n v g r) b X M at 0 t y c
 
-        on_given : (c i : ℕ) → (v.ruling.phase ≡ 2) × (w.name (member_of c false) ≡ i) × ((x : ℕ) × (m : ℕ) × (g.life c ≡ Placed x m) × (0 < w.born c) × (w.born c ≤ w.round) × ((w.died c ≡ 0) ⊎ (w.died c ≡ w.round + 1)))
-            → (v.ruling.phase ≡ 2) × (w.name (member_of c false) ≡ i) × ((x : ℕ) × (m : ℕ) × (g.life c ≡ Placed x m) × (0 < w.born c) × (w.born c ≤ w.round) × ((update w.died b d c ≡ 0) ⊎ (update w.died b d c ≡ w.round + 1)))
+        on_given : (c i : ℕ) → (v.ruling.phase ≡ SecondHalf) × (w.name (member_of c false) ≡ i) × ((x : ℕ) × (m : ℕ) × (g.life c ≡ Placed x m) × (0 < w.born c) × (w.born c ≤ w.round) × ((w.died c ≡ 0) ⊎ (w.died c ≡ w.round + 1)))
+            → (v.ruling.phase ≡ SecondHalf) × (w.name (member_of c false) ≡ i) × ((x : ℕ) × (m : ℕ) × (g.life c ≡ Placed x m) × (0 < w.born c) × (w.born c ≤ w.round) × ((update w.died b d c ≡ 0) ⊎ (update w.died b d c ≡ w.round + 1)))
         on_given c i t = (t.0, t.1, (t.2.0, t.2.1, t.2.2, t.2.3, t.2.4, dite (ℕ_discrete c b) (λ e. inr (update_at w.died b c d e)) (λ o. subst (λ (y : ℕ). (y ≡ 0) ⊎ (y ≡ w.round + 1)) (sym (update_other w.died b c d o)) t.2.5)))
 
         not_drawn : (c a : ℕ) → Drawn c ≡ Living a → ⊥

@@ -8,7 +8,7 @@ use Rattle.mesh_words.specs.Functions.{update}
 use Rattle.mesh_words.specs.Places.{member_of}
 use Rattle.mesh_words.specs.Setup.{Setup, setup_of}
 use Rattle.mesh_words.specs.Words.{Node, node, Words}
-use Rattle.mesh_words.specs.Views.{Views}
+use Rattle.mesh_words.specs.Views.{Views, Resting}
 use Rattle.mesh_words.proofs.Entries.{entry_of_both}
 use Rattle.mesh_words.proofs.Functions.{update_cases, update_other}
 use Rattle.mesh_words.proofs.PlaceNumbers.{member_one}
@@ -16,7 +16,7 @@ use Rattle.mesh_state.specs.Bisections.{MayRead}
 use Rattle.mesh_reading.specs.Reading.{GoesTo}
 use Rattle.mesh_steps.specs.Reuse.{Spares, StepsSpare}
 use Rattle.mesh_state.specs.Rule.{Lawful}
-use Rattle.mesh_steps.specs.States.{Kind, State}
+use Rattle.mesh_steps.specs.States.{StepKind, State}
 use Rattle.mesh_steps.specs.WorkSteps.{ClaimStep, DrawStep, FullStep, FillHistory, FillName, FillDied, FillChild, LinkFirst, LinkSecond, PublishStep, RetireStep, RetiredStep}
 use Rattle.mesh_steps.specs.WalkSteps.{WorkTop, WorkEnds, WorkGoes, WorkFinds, WorkHad, WorkBoth, WorkPasses, WorkGives, WorkDead, WorkOpen, LoadHead, LoadHistory, LoadBorn, LoadDied, LoadName, LoadRow}
 use Rattle.mesh_steps.specs.PinSteps.{LoadRound, PinStep, UnpinStep, ReadEnds, ReadGoes, ReadFinds, ReadPasses}
@@ -36,7 +36,7 @@ abbrev None : ℕ → List Claim → Type 0
 None c cs = (x m : ℕ) → HasEntry cs (claim x m (Drawn c)) → ⊥
 
 -- so a kind of step spares a block that is in no free row, not free in the owner's hand or stock, and of no claim that has drawn it
-abbrev Spared : Kind → Type 0
+abbrev Spared : StepKind → Type 0
 Spared K = (s : Setup) (w : Words) (n : ℕ) (v : Views) (after : State) → K s w n v after → Lawful s w n v → (q c : ℕ) → MayRead w.round v.ruling.phase v.read q → ((i : ℕ) → w.cursor ≤ i → i < w.free → w.row i ≡ c → ⊥) → (HasEntry v.ruling.hand c ⊎ InRows v.ruling.low v.ruling.high w.row c → ⊥) → ((j : ℕ) → None c (v.claims j)) → Spares q c w after
 
 claimed_not : (c : ℕ) → Claimed ≡ Drawn c → ⊥
@@ -68,9 +68,9 @@ passed s w n v k q may e p l clear b i go = ⊎_elim (λ z. omega arith)
     (λ f. let c = f q low in let g = (clear_rounds s w n v k q 0 c).0 in ⊎_elim (λ y. ⊎_elim (λ z. omega arith) (λ t. (clear_rounds s w n v k q t.0 c).1 t.1) y) (λ y. let z = y.0 in omega arith) may) clear) go.1
 
 -- a block that is in chains between rounds was retired in a finished round, if at all
-retired_low : (s : Setup) (w : Words) (n : ℕ) (v : Views) → Lawful s w n v → v.ruling.phase ≡ 0 → (b e y m : ℕ) → Noted (v.sure 0).died b e → HasEntry v.ruling.placed (b, y, m) → (HasEntry v.ruling.undone b → ⊥) → e ≤ w.round
-retired_low s w n v (g, r) rest b e y m f known fair = let d = (r.sure 0).died_is b e f (inl (refl, r.rules.halves (λ z. omega arith) (λ z. omega arith))) in
-    let c = r.names.calm b y m ((λ z. omega arith), λ z. omega arith) (⊎_elim (λ a. a) (λ a. absurd (fair (r.note.all b y m a))) (r.note.placed b y m known)) in omega arith
+retired_low : (s : Setup) (w : Words) (n : ℕ) (v : Views) → Lawful s w n v → v.ruling.phase ≡ Resting → (b e y m : ℕ) → Noted (v.sure 0).died b e → HasEntry v.ruling.placed (b, y, m) → (HasEntry v.ruling.undone b → ⊥) → e ≤ w.round
+retired_low s w n v (g, r) rest b e y m f known fair = let d = (r.sure 0).died_is b e f (inl (refl, r.rules.halves (λ z. cc) (λ z. cc))) in
+    let c = r.names.calm b y m ((λ z. cc), λ z. cc) (⊎_elim (λ a. a) (λ a. absurd (fair (r.note.all b y m a))) (r.note.placed b y m known)) in omega arith
 
 claim_step : Spared ClaimStep
 claim_step s w n v after (j, x, m, k_, kind, bit, lead, absent, aimed, here, mate, e) k q0 c may rows hand drawn = subst (Spares q0 c w) (sym e) (λ _. refl, λ _. inl refl, rows, update_cases (λ _ cs. None c cs) v.claims j (claim x m Claimed ∷ v.claims j) (λ y i h. ⊎_elim (λ z. claimed_not c (ap (λ (k : Claim). k.progress) (sym z))) (λ z. drawn j y i z) h) (λ i _. drawn i))
@@ -235,7 +235,7 @@ cut_link : Spared CutLink
 cut_link s w n v after (zero_, x, b, e, y, m, t, l, f1, f2, f3, p, clear, known, fair, side, last) k q0 c may rows hand drawn = subst (Spares q0 c w) (sym last) (λ _. refl, λ _. inl refl, rows, drawn)
 
 cut_history : Spared CutHistory
-cut_history s w n v after (zero_, a, z, i, x, b, e, y, m, u, t, l, f1, f2, f3, p, clear, from, stood, known, fair, side, last) k q0 c may rows hand drawn = subst (Spares q0 c w) (sym last) (λ _. refl, λ o. dite (ℕ_discrete (member_of c o) (member_of a u)) (λ z. inr (λ i go. passed s w n v k q0 may e p (retired_low s w n v k zero_ b e y m f2 known fair) clear (b + 1) i (subst (λ (y : Node). GoesTo q0 y i) (ap w.hist z ∙ (owner_sure s w n v k (k.1.rules.halves (λ y. omega arith) (λ y. omega arith))).1 a u (node (b + 1) e) f1) go))) (λ z. inl (update_other w.hist (member_of a u) (member_of c o) l z)), rows, drawn)
+cut_history s w n v after (zero_, a, z, i, x, b, e, y, m, u, t, l, f1, f2, f3, p, clear, from, stood, known, fair, side, last) k q0 c may rows hand drawn = subst (Spares q0 c w) (sym last) (λ _. refl, λ o. dite (ℕ_discrete (member_of c o) (member_of a u)) (λ z. inr (λ i go. passed s w n v k q0 may e p (retired_low s w n v k zero_ b e y m f2 known fair) clear (b + 1) i (subst (λ (y : Node). GoesTo q0 y i) (ap w.hist z ∙ (owner_sure s w n v k (k.1.rules.halves (λ y. cc) (λ y. cc))).1 a u (node (b + 1) e) f1) go))) (λ z. inl (update_other w.hist (member_of a u) (member_of c o) l z)), rows, drawn)
 
 free_step : Spared FreeStep
 free_step s w n v after (zero_, gone, hand_, undone, kept, placed, clear, hands, rests, keeps, stays, e) k q0 c may rows hand drawn = subst (Spares q0 c w) (sym e) (λ _. refl, λ _. inl refl, rows, drawn)
@@ -253,7 +253,7 @@ row_step : Spared RowStep
 row_step s w n v after (zero_, i, b, stopped, out, e) k q0 c may rows hand drawn = subst (Spares q0 c w) (sym e) (λ _. refl, λ _. inl refl, λ i2 a low. absurd (let z = k.1.stock.free_is 0 stopped in omega arith), drawn)
 
 open_step : Spared OpenStep
-open_step s w n v after (zero_, count, hand_, stopped, rewound, below, rows2, one, left, e) k q0 c may rows hand drawn = subst (Spares q0 c w) (sym e) (λ _. refl, λ _. inl refl, λ i a low same. ⊎_elim (λ t. hand (inr (i, t.0, t.1, same))) (λ t. hand (inl (subst (HasEntry v.ruling.hand) (sym ((owner_sure s w n v k (k.1.rules.halves (λ y. omega arith) (λ y. omega arith))).4 i t.0 t.1.2) ∙ same) t.2))) (rows2 i low), drawn)
+open_step s w n v after (zero_, count, hand_, stopped, rewound, below, rows2, one, left, e) k q0 c may rows hand drawn = subst (Spares q0 c w) (sym e) (λ _. refl, λ _. inl refl, λ i a low same. ⊎_elim (λ t. hand (inr (i, t.0, t.1, same))) (λ t. hand (inl (subst (HasEntry v.ruling.hand) (sym ((owner_sure s w n v k (k.1.rules.halves (λ y. cc) (λ y. cc))).4 i t.0 t.1.2) ∙ same) t.2))) (rows2 i low), drawn)
 
 unbear_step : Spared UnbearStep
 unbear_step s w n v after (four, x, m, b, mine, e) k q0 c may rows hand drawn = subst (Spares q0 c w) (sym e) (λ _. refl, λ _. inl refl, rows, update_cases (λ _ cs. None c cs) v.claims 0 (moved_on (v.claims 0) x (Whole b)) (moved (v.claims 0) x (Whole b) c (λ z. whole_not b c z) (drawn 0)) (λ i _. drawn i))

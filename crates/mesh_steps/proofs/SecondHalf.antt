@@ -8,7 +8,7 @@ use Rattle.mesh_words.proofs.PlaceNumbers.{child_one, child_outside}
 use native.Mathlib.Decide.{dec_lt}
 use Rattle.mesh_state.specs.Work.{IsGrown}
 use Rattle.mesh_state.proofs.Known.{grows_same}
-use Rattle.mesh_words.specs.Views.{Views, Work}
+use Rattle.mesh_words.specs.Views.{Views, Work, Worker, SecondHalf, order}
 use Rattle.mesh_words.specs.Places.{member_of, child_place}
 use Rattle.mesh_words.specs.Entries.{HasEntry}
 use Rattle.mesh_state.specs.Ghosts.{Life, Placed, chained, Ghost}
@@ -23,18 +23,18 @@ use Rattle.mesh_state.proofs.Across.{Went, zero_or_more, place_one, name_one}
 use Rattle.mesh_steps.proofs.WorkerWalks.{reworks, first_word}
 use Rattle.mesh_state.proofs.Inside.{label_of, label_one, label_place}
 
-module _ (s : Setup) (w : Words) (n : ℕ) (v : Views) (g : Ghost) (r : Rule s w n v g) (j : ℕ) (kind : v.kind j ≡ 1) (second : (v.work j).half ≡ 2) where
+module _ (s : Setup) (w : Words) (n : ℕ) (v : Views) (g : Ghost) (r : Rule s w n v g) (j : ℕ) (kind : v.kind j ≡ Worker) (second : (v.work j).half ≡ SecondHalf) where
   abbrev d : ℕ
   d = w.round + 1
 
   abbrev u : Work
   u = v.work j
 
-  two : v.ruling.phase ≡ 2
+  two : v.ruling.phase ≡ SecondHalf
   two = sym ((r.walks j).half kind) ∙ second
 
   next : MayRead w.round v.ruling.phase v.read d
-  next = inr (refl, let e = two in omega arith)
+  next = inr (refl, let e = two in omega (arith, ap order two))
 
   now : MayRead w.round v.ruling.phase v.read w.round
   now = inl (inl refl)
@@ -62,7 +62,7 @@ module _ (s : Setup) (w : Words) (n : ℕ) (v : Views) (g : Ghost) (r : Rule s w
         open_ = (r.works j).open_;
         given = λ c' i m. ⊎_elim
             (λ e. let cb : c' ≡ b = ap (λ (z : ℕ × ℕ). z.0) e in let ik : i ≡ k = ap (λ (z : ℕ × ℕ). z.1) e in
-            subst (λ (z : ℕ × ℕ). (v.ruling.phase ≡ 2) × (w.name (member_of z.0 false) ≡ z.1) × ((x : ℕ) × (m : ℕ) × (g.life z.0 ≡ Placed x m) × (0 < w.born z.0) × (w.born z.0 ≤ w.round) × ((w.died z.0 ≡ 0) ⊎ (w.died z.0 ≡ w.round + 1)))) (λ t. (sym cb t, sym ik t))
+            subst (λ (z : ℕ × ℕ). (v.ruling.phase ≡ SecondHalf) × (w.name (member_of z.0 false) ≡ z.1) × ((x : ℕ) × (m : ℕ) × (g.life z.0 ≡ Placed x m) × (0 < w.born z.0) × (w.born z.0 ≤ w.round) × ((w.died z.0 ≡ 0) ⊎ (w.died z.0 ≡ w.round + 1)))) (λ t. (sym cb t, sym ik t))
             (two, first a.0 a.2, (p.0, p.1, p.2, c.0, bo, ⊎_elim inl (λ q. inr (let z = (l (omega arith)).2 in omega arith)) c.2)))
             ((r.works j).given c' i) m;
       }
@@ -78,7 +78,7 @@ module _ (s : Setup) (w : Words) (n : ℕ) (v : Views) (g : Ghost) (r : Rule s w
 
   -- the block is retired: the name is not bisected
   pub opens_dead : (b k : ℕ) → HasEntry u.had (b, k) → 0 < w.died b → Rule s w n (record v { work = update v.work j (record (v.work j) { open_ = k ∷ u.open_ }) }) g
-  opens_dead b k h p = opens k (⊎_elim (λ e. absurd (dead e)) (λ e. e) (r.names.either k b (let e = two in omega arith) ((r.walks j).had b k h)))
+  opens_dead b k h p = opens k (⊎_elim (λ e. absurd (dead e)) (λ e. e) (r.names.either k b (let e = two in omega (arith, ap order e)) ((r.walks j).had b k h)))
     where
       dead : g.who d k ≡ b + 1 → ⊥
       dead e = let f = (r.names.fits d next).found k b e in let c = found_covers w.hist w.born w.died g.life d f.1 b f.5.0 (w.head f.1) f.5.1 in let q = placed (g.life b) f.0 f.1 f.3 in let l = (r.chains.dieds b q.0 q.1 q.2 p).2 in ⊎_elim (λ z. omega arith) (λ z. omega arith) c.2
@@ -90,7 +90,7 @@ module _ (s : Setup) (w : Words) (n : ℕ) (v : Views) (g : Ghost) (r : Rule s w
       -- the place is the name's in the round in work too
       stays : (c : ℕ) → g.who d k ≡ c + 1 → IsPlaceOf s w.name (g.who w.round) x k → IsPlaceOf s w.name (g.who d) x k
       stays c e (inl a) = inl a
-      stays c e (inr a) = let f = (r.names.fits d next).found k c e in ⊎_elim (λ q. inr (a.0, a.1, a.2, a.3, q, a.5)) (λ q. absurd (gone q f.4)) (r.names.either (w.name (member_of a.0 a.1)) a.0 (let z = two in omega arith) a.4)
+      stays c e (inr a) = let f = (r.names.fits d next).found k c e in ⊎_elim (λ q. inr (a.0, a.1, a.2, a.3, q, a.5)) (λ q. absurd (gone q f.4)) (r.names.either (w.name (member_of a.0 a.1)) a.0 (let z = two in omega (arith, ap order z)) a.4)
         where
           gone : g.who d (w.name (member_of a.0 a.1)) ≡ 0 → {y : ℕ} → IsPlaceOf s w.name (g.who d) y k → ⊥
           gone q (inl b) = r.names_apart.top_child _ _ a.2 (sym b.1 ∙ a.5)
@@ -200,7 +200,7 @@ module _ (s : Setup) (w : Words) (n : ℕ) (v : Views) (g : Ghost) (r : Rule s w
     where
       open_at : (t : Bool) (y : ℕ) → chained (g.life b) t ≡ y + 1 → g.who d (w.name (member_of b t)) ≡ 0
       open_at t y c = let a = ((r.works j).given b k h).2 in let bo = a.4 in let was = (r.names.sound w.round now b t y c (a.3, a.4, ⊎_elim inl (λ z. inr (omega arith)) a.5)).0 in
-          ⊎_elim (λ e. absurd (dead (w.name (member_of b t)) e)) (λ e. e) (r.names.either (w.name (member_of b t)) b (let e = two in omega arith) was)
+          ⊎_elim (λ e. absurd (dead (w.name (member_of b t)) e)) (λ e. e) (r.names.either (w.name (member_of b t)) b (let e = two in omega (arith, ap order e)) was)
         where
           dead : (i : ℕ) → g.who d i ≡ b + 1 → ⊥
           dead i e = let f = (r.names.fits d next).found i b e in let c = found_covers w.hist w.born w.died g.life d f.1 b f.5.0 (w.head f.1) f.5.1 in let q = placed (g.life b) f.0 f.1 f.3 in let l = (r.chains.dieds b q.0 q.1 q.2 p).2 in ⊎_elim (λ z. omega arith) (λ z. omega arith) c.2

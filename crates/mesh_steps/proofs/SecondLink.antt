@@ -5,7 +5,7 @@ use native.Mathlib.Decide.{ℕ_discrete}
 use Rattle.mesh_words.specs.Setup.{Setup}
 use Rattle.mesh_words.specs.Functions.{update}
 use Rattle.mesh_words.specs.Words.{Words, Node, node}
-use Rattle.mesh_words.specs.Views.{Views}
+use Rattle.mesh_words.specs.Views.{Views, Worker, FirstHalf, order}
 use Rattle.mesh_words.specs.Claims.{Progress, Drawn, Half, Whole, claim, moved_on}
 use Rattle.mesh_words.specs.Places.{member_of}
 use Rattle.mesh_words.specs.Entries.{HasEntry, Noted}
@@ -40,11 +40,11 @@ module _ (s : Setup) (w : Words) (n : ℕ) (v : Views) (g : Ghost) (r : Rule s w
   Can q = MayRead w.round v.ruling.phase v.read q
 
   -- the second member's head names the block too: its history word has what the head had
-  module _ (j x y b : ℕ) (l : Node) (mine : HasEntry (v.claims j) (claim x (y + 1) (Half b))) (kind : v.kind j ≡ 1) (f1 : Noted (v.sure j).head y l) (f2 : Noted (v.sure j).hist (member_of b true) l) where
+  module _ (j x y b : ℕ) (l : Node) (mine : HasEntry (v.claims j) (claim x (y + 1) (Half b))) (kind : v.kind j ≡ Worker) (f1 : Noted (v.sure j).head y l) (f2 : Noted (v.sure j).hist (member_of b true) l) where
     is : g.stage x ≡ Held j (y + 1) (Half b)
     is = r.claims.held j x (y + 1) (Half b) mine
 
-    one : v.ruling.phase ≡ 1
+    one : v.ruling.phase ≡ FirstHalf
     one = first_half s w n v g r j x (y + 1) (Half b) kind is (λ h. h)
 
     shape : (g.life b ≡ Placed x (y + 1)) × (w.born b ≡ 0) × (w.head x ≡ node (b + 1) 0) × ((z : ℕ) → y + 1 ≡ z + 1 → (w.head z).block ≡ b + 1 → ⊥)
@@ -67,7 +67,7 @@ module _ (s : Setup) (w : Words) (n : ℕ) (v : Views) (g : Ghost) (r : Rule s w
         live_at t.0 t.1
       where
         live_at : (k : ℕ) → IsPlaceOf s w.name (g.who d) y k → IsPlace s.elements g.life y
-        live_at k h = seen_live s w.name w.name w.head w.hist w.head w.hist w.born w.died w.born w.died g.life g.life (λ _ _ _ _ _. refl) (g.who d) d y k (r.names.fits d (inr (refl, let e = one in omega arith))) h
+        live_at k h = seen_live s w.name w.name w.head w.hist w.head w.hist w.born w.died w.born w.died g.life g.life (λ _ _ _ _ _. refl) (g.who d) d y k (r.names.fits d (inr (refl, let e = one in omega (arith, ap order one)))) h
 
     moves : Moves Can A s.elements w.round w.head w.hist head' w.hist w.born w.died w.born w.died g.life g.life
     moves = moves_head Can A s.elements w.round w.head w.hist w.born w.died g.life y (node (b + 1) 0)
@@ -76,7 +76,7 @@ module _ (s : Setup) (w : Words) (n : ℕ) (v : Views) (g : Ghost) (r : Rule s w
     pub links_second : Rule s (record w { head = head' }) n (record v { claims = update v.claims j (moved_on (v.claims j) x (Whole b)) }) (record g { stage = update g.stage x (Held j (y + 1) (Whole b)) })
     links_second = record {
       names_apart = r.names_apart;
-      claims = held.goes s w.round w.cursor w.free v.ruling.phase w.row w.claimed w.head w.born g.life g.stage v.claims r.claims x j (y + 1) (Half b) (Whole b) is refl (λ e. let t = one in absurd (omega arith)) head' w.born g.life
+      claims = held.goes s w.round w.cursor w.free v.ruling.phase w.row w.claimed w.head w.born g.life g.stage v.claims r.claims x j (y + 1) (Half b) (Whole b) is refl (λ e. let t = one in absurd (cc)) head' w.born g.life
           (shape.0, shape.1, update_other w.head y x (node (b + 1) 0) apart ∙ shape.2, λ z e. update_at w.head y z (node (b + 1) 0) (one_more z y (sym e)))
           (λ z i k p h ne t. let a = heads_apart s w.round w.cursor w.free v.ruling.phase w.row w.claimed w.head w.born g.life g.stage v.claims r.claims x z j i (y + 1) k (Half b) p is h ne y (inr refl) in
           shape_on w.round w.head w.born g.life z k head' w.born g.life p (λ _ _. (refl, refl)) (update_other w.head y z (node (b + 1) 0) (λ e. a.0 (sym e))) (λ c e. update_other w.head y c (node (b + 1) 0) (a.1 c e)) t)
@@ -95,7 +95,7 @@ module _ (s : Setup) (w : Words) (n : ℕ) (v : Views) (g : Ghost) (r : Rule s w
           (λ c h. (block_back s.elements v.ruling.workers g.stage x j (y + 1) (Half b) (Whole b) is (λ c e. absurd (not_drawn c e)) (λ c e. absurd (not_half c e)) i c h, (λ _. refl), refl, λ _. refl))
           (λ z e. let t = some_worker s w n v g r j kind in absurd (omega arith))
           (r.sure i);
-      walks = λ i. workers_on s w.name w.name w.head w.hist head' w.hist w.born w.died w.born w.died g.life g.life (λ _ _ _ _ _. refl) w.round v.ruling.phase g.who v.read Can A moves (inl (inl refl)) (r.names.fits w.round (inl (inl refl))) (λ e. r.names.fits d (inr (refl, omega arith))) (v.kind i) i (v.work i) (λ b k h x. (inr (i, k, refl, h), x)) (r.walks i);
+      walks = λ i. workers_on s w.name w.name w.head w.hist head' w.hist w.born w.died w.born w.died g.life g.life (λ _ _ _ _ _. refl) w.round v.ruling.phase g.who v.read Can A moves (inl (inl refl)) (r.names.fits w.round (inl (inl refl))) (λ e. r.names.fits d (inr (refl, omega (arith, ap order e)))) (v.kind i) i (v.work i) (λ b k h x. (inr (i, k, refl, h), x)) (r.walks i);
       goes = λ i. goes_on s w.name w.name w.head w.hist head' w.hist w.born w.died w.born w.died g.life g.life (λ _ _ _ _ _. refl) w.round v.ruling.phase g.who v.read Can A moves (λ a p e. (inl (inr (a, e)), r.pins.past a p e)) (λ a p c e h x. (inl (a, e, h), x)) (λ p t. r.names.fits p t) i (r.goes i);
       rules = r.rules;
       stock = r.stock;
@@ -111,7 +111,7 @@ module _ (s : Setup) (w : Words) (n : ℕ) (v : Views) (g : Ghost) (r : Rule s w
         heads = λ z c t l e ch. dite (ℕ_discrete z y)
             (λ f. let same : c ≡ b = one_more c b (sym e ∙ ap (λ (i : Node). i.block) (update_at w.head y z (node (b + 1) 0) f)) in
             let cb : chained (Placed x (y + 1)) t ≡ y + 1 = sym (ap (λ (i : Life). chained i t) (ap g.life same ∙ shape.0)) ∙ ch ∙ ap (λ (i : ℕ). i + 1) f in
-            let at_y = label_of s w n v g r d (inr (refl, let z = one in omega arith)) y (w.name (member_of b t)) (linked_member s w n v g r x (y + 1) b (Half b) (r.labels x j (y + 1) (Half b) is one) refl (r.names.patch b x (y + 1) shape.0) t y cb).0 in
+            let at_y = label_of s w n v g r d (inr (refl, let z = one in omega (arith, ap order z))) y (w.name (member_of b t)) (linked_member s w n v g r x (y + 1) b (Half b) (r.labels x j (y + 1) (Half b) is one) refl (r.names.patch b x (y + 1) shape.0) t y cb).0 in
             subst (λ (i : ℕ × ℕ). IsLabel s w.name g.life i.0 (w.name (member_of i.1 t))) (λ i. (sym f i, sym same i)) at_y)
             (λ o. r.named.heads z c t l (sym (ap (λ (i : Node). i.block) (update_other w.head y z (node (b + 1) 0) o)) ∙ e) ch);
         hists = r.named.hists;

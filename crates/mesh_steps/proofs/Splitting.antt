@@ -8,7 +8,7 @@ use Rattle.mesh_words.specs.Setup.{Setup}
 use Rattle.mesh_words.specs.Functions.{update}
 use Rattle.mesh_words.specs.Sums.{sum_below, one_where}
 use Rattle.mesh_words.specs.Words.{Words}
-use Rattle.mesh_words.specs.Views.{Views, Work, Sure, unsure, Note, Read}
+use Rattle.mesh_words.specs.Views.{Views, Work, Sure, unsure, Note, Read, Vacant, Worker, Reader, is_reader, FirstHalf, SecondHalf, Kind, is_worker}
 use Rattle.mesh_words.specs.Claims.{Progress, Living, claim}
 use Rattle.mesh_words.specs.Entries.{HasEntry}
 use Rattle.mesh_words.proofs.Functions.{update_same, update_at, update_other, update_cases}
@@ -29,16 +29,18 @@ use Rattle.mesh_state.specs.Owner.{is_early}
 use Rattle.mesh_state.proofs.Known.{early_late, retireds_on}
 use Rattle.mesh_state.specs.Claims.{block_of}
 use Rattle.mesh_state.specs.Work.{GrownRule}
+use Rattle.mesh_names.specs.Names.{digit}
+use Rattle.mesh_words.proofs.SeatKinds.{worker_is, worker_not, reader_true, reader_false, reader_is, reader_not}
 
 module _ (s : Setup) (w : Words) (n : ℕ) (v : Views) (g : Ghost) (r : Rule s w n v g) where
-  new_kind : v.kind n ≡ 0
+  new_kind : v.kind n ≡ Vacant
   new_kind = r.pins.few n (omega arith)
 
   not_first : n ≢ 0
   not_first e = let t = r.rules.owner.1 in omega arith
 
   new_claims : (x m : ℕ) (p : Progress) → g.stage x ≡ Held n m p → ⊥
-  new_claims x m p h = ⊎_elim not_first (λ k. let z = new_kind in omega arith) (r.holders x n m p h)
+  new_claims x m p h = ⊎_elim not_first (λ k. let z = new_kind in cc) (r.holders x n m p h)
 
   -- a sum over one seat more
   one_more_seat : (f f' : ℕ → ℕ) → ((i : ℕ) → i < n → f' i ≡ f i) → sum_below (n + 1) f' ≡ sum_below n f + f' n
@@ -51,8 +53,8 @@ module _ (s : Setup) (w : Words) (n : ℕ) (v : Views) (g : Ghost) (r : Rule s w
           one = omega arith
 
   -- the seat n becomes a pass of the kind 1 or 2
-  module _ (kind workers readers : ℕ) (which : ((kind ≡ 1) × ((v.ruling.phase ≡ 1) ⊎ (v.ruling.phase ≡ 2)) × (workers ≡ v.ruling.workers + 1) × (readers ≡ v.ruling.readers)) ⊎ ((kind ≡ 2) × (v.ruling.readers ≤ s.passes) × (workers ≡ v.ruling.workers) × (readers ≡ v.ruling.readers + 1))) where
-    abbrev kind' : ℕ → ℕ
+  module _ (kind : Kind) (workers readers : ℕ) (which : ((kind ≡ Worker) × ((v.ruling.phase ≡ FirstHalf) ⊎ (v.ruling.phase ≡ SecondHalf)) × (workers ≡ v.ruling.workers + 1) × (readers ≡ v.ruling.readers)) ⊎ ((kind ≡ Reader) × (v.ruling.readers ≤ s.passes) × (workers ≡ v.ruling.workers) × (readers ≡ v.ruling.readers + 1))) where
+    abbrev kind' : ℕ → Kind
     kind' = update v.kind n kind
 
     -- what the new pass knows: a worker's the half, the round and the lists, each the history
@@ -65,22 +67,22 @@ module _ (s : Setup) (w : Words) (n : ℕ) (v : Views) (g : Ghost) (r : Rule s w
     kind_old : (j : ℕ) → j < n → kind' j ≡ v.kind j
     kind_old j l = update_other v.kind n j kind (λ (e : j ≡ n). omega arith)
 
-    counted : (k : ℕ) → sum_below (n + 1) (λ j. one_where (kind' j) k) ≡ sum_below n (λ j. one_where (v.kind j) k) + one_where kind k
-    counted k = one_more_seat (λ j. one_where (v.kind j) k) (λ j. one_where (kind' j) k) (λ i l. ap (λ (x : ℕ). one_where x k) (kind_old i l)) ∙ ap (λ (x : ℕ). sum_below n (λ j. one_where (v.kind j) k) + one_where x k) (update_same v.kind n kind)
+    counted : (k : Kind → Bool) → sum_below (n + 1) (λ j. digit (k (kind' j))) ≡ sum_below n (λ j. digit (k (v.kind j))) + digit (k kind)
+    counted k = one_more_seat (λ j. digit (k (v.kind j))) (λ j. digit (k (kind' j))) (λ i l. ap (λ (x : Kind). digit (k x)) (kind_old i l)) ∙ ap (λ (x : Kind). sum_below n (λ j. digit (k (v.kind j))) + digit (k x)) (update_same v.kind n kind)
 
     -- what the owner stays sure of: all, where the pass is a reader's
     abbrev keep : Sure
-    keep = cond (kind == 2) (v.sure 0) unsure
+    keep = cond (is_reader kind) (v.sure 0) unsure
 
     -- Who may be at work besides: a pass of worker 0 is made in the first half while no other worker's is out and each claim of the owner has its living block, and none is made while it is out
     abbrev pub MayJoin : ℕ → ℕ → Type 0
-    MayJoin number lone = (((kind ≡ 2) ⊎ (v.ruling.phase ≡ 2)) × (lone ≡ v.ruling.lone))
+    MayJoin number lone = (((kind ≡ Reader) ⊎ (v.ruling.phase ≡ SecondHalf)) × (lone ≡ v.ruling.lone))
         ⊎ ((number ≡ 0) × (v.ruling.workers ≡ 0) × ((x m : ℕ) (p : Progress) → HasEntry (v.claims 0) (claim x m p) → (b : ℕ) × (p ≡ Living b)) × (lone ≡ 1))
         ⊎ ((0 < number) × (v.ruling.lone ≡ 0) × (lone ≡ 0))
 
     -- A pass is made: the owner is no longer sure of any word, where it is a pass at work
     pub splits : (number lone : ℕ) → MayJoin number lone → (notes : List Note) → ((k : Note) → HasEntry notes k → HasEntry (v.read 0).notes k)
-        → Rule s w (n + 1) (record v { kind = kind'; claims = update v.claims n []; work = update v.work n (record idle { half = v.ruling.phase; round = v.ruling.finished + 1; number = number; plan = v.ruling.plan }); sure = update (update v.sure 0 (cond (kind == 2) (v.sure 0) unsure)) n unsure; read = update v.read n (record (blank notes) { told = v.ruling.history; seen = v.ruling.finished; made = v.ruling.finished }); ruling = record v.ruling { workers = workers; readers = readers; lone = lone } }) g
+        → Rule s w (n + 1) (record v { kind = kind'; claims = update v.claims n []; work = update v.work n (record idle { half = v.ruling.phase; round = v.ruling.finished + 1; number = number; plan = v.ruling.plan }); sure = update (update v.sure 0 (cond (is_reader kind) (v.sure 0) unsure)) n unsure; read = update v.read n (record (blank notes) { told = v.ruling.history; seen = v.ruling.finished; made = v.ruling.finished }); ruling = record v.ruling { workers = workers; readers = readers; lone = lone } }) g
     splits number lone may notes told = record {
       names_apart = r.names_apart;
       claims = record {
@@ -109,7 +111,7 @@ module _ (s : Setup) (w : Words) (n : ℕ) (v : Views) (g : Ghost) (r : Rule s w
         few = λ j l. update_other v.kind n j kind (λ (e : j ≡ n). omega arith) ∙ r.pins.few j (omega arith);
         readers = λ j o. dite (ℕ_discrete j n) (λ e. let u = update_at v.read n j (new_read notes) e in (ap (λ (x : Read). x.pin) u, ap (λ (x : Read). x.ready) u))
             (λ f. subst (λ (x : Read). (x.pin ≡ 0) × (x.ready ≡ 0)) (sym (update_other v.read n j (new_read notes) f)) (r.pins.readers j (λ k. o (update_other v.kind n j kind f ∙ k))));
-        spent = λ j e. dite (ℕ_discrete j n) (λ f. let z = update_at v.kind n j kind f in absurd (⊎_elim (λ t. let y = t.0 in omega arith) (λ t. let y = t.0 in omega arith) which))
+        spent = λ j e. dite (ℕ_discrete j n) (λ f. let z = update_at v.kind n j kind f in absurd (⊎_elim (λ t. let y = t.0 in cc) (λ t. let y = t.0 in cc) which))
             (λ f. update_other v.read n j (new_read notes) f ∙ r.pins.spent j (sym (update_other v.kind n j kind f) ∙ e));
         bit = update_cases (λ _ u. u.ready ≤ 1) v.read n (new_read notes) (omega arith) (λ j _. r.pins.bit j);
         most = r.pins.most;
@@ -118,10 +120,10 @@ module _ (s : Setup) (w : Words) (n : ℕ) (v : Views) (g : Ghost) (r : Rule s w
       works = λ j. dite (ℕ_discrete j n)
           (λ e. subst (λ (u : Work). WorkRule s w.round v.ruling.phase w.name w.born w.died g.life (g.who (w.round + 1)) (kind' j) j u) (sym (update_at v.work n j (new_work number) e))
           record { only = λ _ _. (refl, refl, refl, refl); found = λ x i f. absurd f; known = λ i f. absurd f; open_ = λ i f. absurd f; given = λ b i f. absurd f })
-          (λ o. subst (λ (u : Work × ℕ). WorkRule s w.round v.ruling.phase w.name w.born w.died g.life (g.who (w.round + 1)) u.1 j u.0) (λ i. (sym (update_other v.work n j (new_work number) o) i, sym (update_other v.kind n j kind o) i)) (r.works j));
+          (λ o. subst (λ (u : Work × Kind). WorkRule s w.round v.ruling.phase w.name w.born w.died g.life (g.who (w.round + 1)) u.1 j u.0) (λ i. (sym (update_other v.work n j (new_work number) o) i, sym (update_other v.kind n j kind o) i)) (r.works j));
       walks = λ j. dite (ℕ_discrete j n)
           (λ e. subst (λ (u : Work). WalkRule s w.round v.ruling.phase w.name w.hist w.born w.died g.life g.who (kind' j) j u) (sym (update_at v.work n j (new_work number) e)) (walks_idle s w.round v.ruling.phase w.name w.hist w.born w.died g.life g.who (kind' j) j v.ruling.phase (v.ruling.finished + 1) number v.ruling.plan (λ _. refl) (λ _. ap (λ (i : ℕ). i + 1) r.stock.finished)))
-          (λ o. subst (λ (u : Work × ℕ). WalkRule s w.round v.ruling.phase w.name w.hist w.born w.died g.life g.who u.1 j u.0) (λ i. (sym (update_other v.work n j (new_work number) o) i, sym (update_other v.kind n j kind o) i)) (r.walks j));
+          (λ o. subst (λ (u : Work × Kind). WalkRule s w.round v.ruling.phase w.name w.hist w.born w.died g.life g.who u.1 j u.0) (λ i. (sym (update_other v.work n j (new_work number) o) i, sym (update_other v.kind n j kind o) i)) (r.walks j));
       sure = update_cases (λ j u. SureRule s.elements workers w.head w.hist w.born w.died w.name w.row g.stage j u) (update v.sure 0 keep) n unsure
           nothing_sure
           (λ j _. update_cases (λ j u. SureRule s.elements workers w.head w.hist w.born w.died w.name w.row g.stage j u) v.sure 0 keep kept_sure (λ i ne. let t = r.sure i in record {
@@ -137,16 +139,16 @@ module _ (s : Setup) (w : Words) (n : ℕ) (v : Views) (g : Ghost) (r : Rule s w
           (λ j _. r.goes j);
       rules = record {
         owner = (update_other v.kind n 0 kind (λ e. not_first (sym e)) ∙ r.rules.owner.0, omega arith);
-        one = λ j e. dite (ℕ_discrete j n) (λ f. let z = update_at v.kind n j kind f in absurd (⊎_elim (λ t. let t0 = t.0 in omega arith) (λ t. let t0 = t.0 in omega arith) which)) (λ f. r.rules.one j (sym (update_other v.kind n j kind f) ∙ e));
-        workers = let c = counted 1 in let a = r.rules.workers in ⊎_elim (λ t. let b = one_if kind 1 t.0 in let t2 = t.2 in omega arith) (λ t. let t0 = t.0 in let b = none_if kind 1 (λ (e : kind ≡ 1). omega arith) in let t2 = t.2 in omega arith) which;
-        readers = let c = counted 2 in let a = r.rules.readers in ⊎_elim (λ t. let t0 = t.0 in let b = none_if kind 2 (λ (e : kind ≡ 2). omega arith) in let t3 = t.3 in omega arith) (λ t. let b = one_if kind 2 t.0 in let t3 = t.3 in omega arith) which;
+        one = λ j e. dite (ℕ_discrete j n) (λ f. let z = update_at v.kind n j kind f in absurd (⊎_elim (λ t. let t0 = t.0 in cc) (λ t. let t0 = t.0 in cc) which)) (λ f. r.rules.one j (sym (update_other v.kind n j kind f) ∙ e));
+        workers = let c = counted is_worker in let a = r.rules.workers in ⊎_elim (λ t. let b = worker_is kind t.0 in let t2 = t.2 in omega arith) (λ t. let t0 = t.0 in let b = worker_not kind (λ (e : kind ≡ Worker). cc) in let t2 = t.2 in omega arith) which;
+        readers = let c = counted is_reader in let a = r.rules.readers in ⊎_elim (λ t. let t0 = t.0 in let b = reader_not kind (λ (e : kind ≡ Reader). cc) in let t3 = t.3 in omega arith) (λ t. let b = reader_is kind t.0 in let t3 = t.3 in omega arith) which;
         few_readers = let a = r.rules.few_readers in ⊎_elim (λ t. let t3 = t.3 in omega arith) (λ t. let t1 = t.1 in let t3 = t.3 in omega arith) which;
         halves = λ a b. ⊎_elim (λ t. absurd (⊎_elim a b t.1)) (λ t. t.2 ∙ r.rules.halves a b) which;
         clear = r.rules.clear;
       };
       stock = record { finished = r.stock.finished; cursor_is = r.stock.cursor_is; free_is = r.stock.free_is; left = r.stock.left };
       note = record { undone = r.note.undone; all = r.note.all; placed = r.note.placed; seen = λ x e. let t = r.note.seen x e in (t.0, t.1, t.2, λ f. none (t.3 f)); quiet = λ e. none (r.note.quiet e) };
-      retired = λ b x m u e. ⊎_elim (λ t. inl (dite (ℕ_discrete t.0 n) (λ f. absurd (subst (λ (l : List ℕ). HasEntry l b) ((r.walks n).only (λ k. let z = new_kind in omega arith) not_first).3 (subst (λ (i : ℕ). HasEntry (v.work i).retired b) f t.1))) (λ o. (t.0, subst (λ (u : Work). HasEntry u.retired b) (sym (update_other v.work n t.0 (new_work number) o)) t.1)))) inr (r.retired b x m u e);
+      retired = λ b x m u e. ⊎_elim (λ t. inl (dite (ℕ_discrete t.0 n) (λ f. absurd (subst (λ (l : List ℕ). HasEntry l b) ((r.walks n).only (λ k. let z = new_kind in cc) not_first).3 (subst (λ (i : ℕ). HasEntry (v.work i).retired b) f t.1))) (λ o. (t.0, subst (λ (u : Work). HasEntry u.retired b) (sym (update_other v.work n t.0 (new_work number) o)) t.1)))) inr (r.retired b x m u e);
       plan = plan_on s w.round v.ruling.phase g.who v.kind kind' v.work (update v.work n (new_work number)) v.ruling.plan
           (λ j k. dite (ℕ_discrete j n) (λ e. ap (λ (u : Work). u.plan) (update_at v.work n j (new_work number) e)) (λ o. ap (λ (u : Work). u.plan) (update_other v.work n j (new_work number) o) ∙ r.plan.same j (sym (update_other v.kind n j kind o) ∙ k))) r.plan;
       history = history_read w.round g.who v.read v.ruling.history n (new_read notes) ([], sym (append-nil v.ruling.history)) ((let f = r.stock.finished in omega arith), let f = r.stock.finished in let l = r.history.rounds in omega arith) (omega arith, λ q e. absurd (omega arith)) r.history;
@@ -159,14 +161,14 @@ module _ (s : Setup) (w : Words) (n : ℕ) (v : Views) (g : Ghost) (r : Rule s w
       crew = record {
         rounds = r.crew.rounds;
         alone = λ j one k z. dite (ℕ_discrete j n)
-            (λ e. let zero_ = sym (ap (λ (u : Work). u.number) (update_at v.work n j (new_work number) e)) ∙ z in let kj = sym (update_at v.kind n j kind e) ∙ k in ⊎_elim (λ a. absurd (⊎_elim (λ b. omega arith) (λ b. omega arith) a.0)) (⊎_elim
+            (λ e. let zero_ = sym (ap (λ (u : Work). u.number) (update_at v.work n j (new_work number) e)) ∙ z in let kj = sym (update_at v.kind n j kind e) ∙ k in ⊎_elim (λ a. absurd (⊎_elim (λ b. cc) (λ b. cc) a.0)) (⊎_elim
             (λ a. ((λ i b. dite (ℕ_discrete i n) (λ f. f ∙ sym e) (λ o. absurd (no_other a.1 i (sym (update_other v.kind n i kind o) ∙ b)))), λ x i m p h. ⊎_elim (λ f. inr (a.2 x m p (subst (λ (c : ℕ). HasEntry (v.claims c) (claim x m p)) f (r.claims.holds i x m p h)))) (λ f. absurd (no_other a.1 i f)) (r.holders x i m p h)))
             (λ a. let l = a.0 in absurd (omega arith))) may)
             (λ o. let kj = sym (update_other v.kind n j kind o) ∙ k in let zero_ = sym (ap (λ (u : Work). u.number) (update_other v.work n j (new_work number) o)) ∙ z in ⊎_elim
-            (λ a. let t = r.crew.alone j one kj zero_ in ((λ i b. dite (ℕ_discrete i n) (λ f. let c = sym (update_at v.kind n i kind f) ∙ b in absurd (⊎_elim (λ d. omega arith) (λ d. omega arith) a.0)) (λ f. t.0 i (sym (update_other v.kind n i kind f) ∙ b))), t.1))
+            (λ a. let t = r.crew.alone j one kj zero_ in ((λ i b. dite (ℕ_discrete i n) (λ f. let c = sym (update_at v.kind n i kind f) ∙ b in absurd (⊎_elim (λ d. cc) (λ d. cc) a.0)) (λ f. t.0 i (sym (update_other v.kind n i kind f) ∙ b))), t.1))
             (⊎_elim (λ a. absurd (no_other a.1 j kj)) (λ a. absurd (r.crew.none j one a.1 kj zero_))) may);
         none = λ j one l k z. dite (ℕ_discrete j n)
-            (λ e. let zero_ = sym (ap (λ (u : Work). u.number) (update_at v.work n j (new_work number) e)) ∙ z in let kj = sym (update_at v.kind n j kind e) ∙ k in ⊎_elim (λ a. ⊎_elim (λ b. omega arith) (λ b. omega arith) a.0) (⊎_elim (λ a. let c = a.3 in omega arith) (λ a. let c = a.0 in omega arith)) may)
+            (λ e. let zero_ = sym (ap (λ (u : Work). u.number) (update_at v.work n j (new_work number) e)) ∙ z in let kj = sym (update_at v.kind n j kind e) ∙ k in ⊎_elim (λ a. ⊎_elim (λ b. cc) (λ b. cc) a.0) (⊎_elim (λ a. let c = a.3 in omega arith) (λ a. let c = a.0 in omega arith)) may)
             (λ o. let kj = sym (update_other v.kind n j kind o) ∙ k in let zero_ = sym (ap (λ (u : Work). u.number) (update_other v.work n j (new_work number) o)) ∙ z in ⊎_elim (λ a. r.crew.none j one (sym a.1 ∙ l) kj zero_) (⊎_elim (λ a. let c = a.3 in omega arith) (λ a. r.crew.none j one a.1 kj zero_)) may);
       };
       inside = r.inside;
@@ -179,14 +181,14 @@ module _ (s : Setup) (w : Words) (n : ℕ) (v : Views) (g : Ghost) (r : Rule s w
       frees = r.frees;
       known = r.known;
       kept = r.kept;
-      early = let a = one_more_seat (λ j. is_early w.round (v.kind j) (v.read j)) (λ j. is_early w.round (kind' j) (update v.read n (new_read notes) j)) (λ i l. let o : i ≢ n = λ (e : i ≡ n). omega arith in ap (λ (k : ℕ). is_early w.round k (update v.read n (new_read notes) i)) (kind_old i l) ∙ ap (is_early w.round (v.kind i)) (update_other v.read n i (new_read notes) o)) in
+      early = let a = one_more_seat (λ j. is_early w.round (v.kind j) (v.read j)) (λ j. is_early w.round (kind' j) (update v.read n (new_read notes) j)) (λ i l. let o : i ≢ n = λ (e : i ≡ n). omega arith in ap (λ (k : Kind). is_early w.round k (update v.read n (new_read notes) i)) (kind_old i l) ∙ ap (is_early w.round (v.kind i)) (update_other v.read n i (new_read notes) o)) in
           let z : is_early w.round (kind' n) (update v.read n (new_read notes) n) ≡ 0 = ap (is_early w.round (kind' n)) (update_same v.read n (new_read notes)) ∙ early_late w.round (kind' n) (new_read notes) (let f = r.stock.finished in omega arith) in let e = r.early in omega arith;
     }
       where
         drawn_was : (j i b : ℕ) → HasEntry (update v.work n (new_work number) j).drawn (i, b) → HasEntry (v.work j).drawn (i, b)
         drawn_was = update_cases (λ j u. (i b : ℕ) → HasEntry u.drawn (i, b) → HasEntry (v.work j).drawn (i, b)) v.work n (new_work number) (λ i b h. absurd h) (λ j _ i b h. h)
 
-        no_other : v.ruling.workers ≡ 0 → (i : ℕ) → v.kind i ≡ 1 → ⊥
+        no_other : v.ruling.workers ≡ 0 → (i : ℕ) → v.kind i ≡ Worker → ⊥
         no_other z i k = let a = some_worker s w n v g r i k in omega arith
 
         nothing_sure : {j : ℕ} → SureRule s.elements workers w.head w.hist w.born w.died w.name w.row g.stage j unsure
@@ -194,8 +196,8 @@ module _ (s : Setup) (w : Words) (n : ℕ) (v : Views) (g : Ghost) (r : Rule s w
 
         kept_sure : SureRule s.elements workers w.head w.hist w.born w.died w.name w.row g.stage 0 keep
         kept_sure = ⊎_elim
-            (λ t. let k = t.0 in subst (SureRule s.elements workers w.head w.hist w.born w.died w.name w.row g.stage 0) (sym (ap (λ (c : Bool). cond c (v.sure 0) unsure) (ne_eqb kind 2 (λ (e : kind ≡ 2). omega arith)))) nothing_sure)
-            (λ t. subst (SureRule s.elements workers w.head w.hist w.born w.died w.name w.row g.stage 0) (sym (ap (λ (c : Bool). cond c (v.sure 0) unsure) (eq-eqb kind 2 t.0))) (subst (λ (c : ℕ). SureRule s.elements c w.head w.hist w.born w.died w.name w.row g.stage 0 (v.sure 0)) (sym t.2) (r.sure 0)))
+            (λ t. let k = t.0 in subst (SureRule s.elements workers w.head w.hist w.born w.died w.name w.row g.stage 0) (sym (ap (λ (c : Bool). cond c (v.sure 0) unsure) (reader_false kind (λ (e : kind ≡ Reader). cc)))) nothing_sure)
+            (λ t. subst (SureRule s.elements workers w.head w.hist w.born w.died w.name w.row g.stage 0) (sym (ap (λ (c : Bool). cond c (v.sure 0) unsure) (reader_true kind t.0))) (subst (λ (c : ℕ). SureRule s.elements c w.head w.hist w.born w.died w.name w.row g.stage 0 (v.sure 0)) (sym t.2) (r.sure 0)))
             which
 
         sum : (f : Read → ℕ) → f (new_read notes) ≡ 0 → sum_below (n + 1) (λ j. f (update v.read n (new_read notes) j)) ≡ sum_below n (λ j. f (v.read j))

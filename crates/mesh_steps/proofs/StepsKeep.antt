@@ -3,13 +3,13 @@ use Rattle.std.proofs.Common.{◌≡◌, ℕ, ◌+◌, Bool, ◌∷◌, refl, sy
 use Rattle.mesh_words.specs.Setup.{Setup}
 use Rattle.mesh_words.specs.Functions.{update}
 use Rattle.mesh_words.specs.Words.{Node, Words}
-use Rattle.mesh_words.specs.Views.{Views, Work, Read, At}
+use Rattle.mesh_words.specs.Views.{Views, Work, Read, At, order, Vacant}
 use Rattle.mesh_words.specs.Claims.{Progress, Claimed, Failed, Drawn, Half, Whole, Living}
 use Rattle.mesh_words.proofs.Functions.{update_same}
 use Rattle.mesh_state.specs.Ghosts.{chained, Ghost}
 use Rattle.mesh_state.specs.Claims.{block_of}
 use Rattle.mesh_state.specs.Rule.{Lawful, Rule}
-use Rattle.mesh_steps.specs.States.{Kind, State, IsLawful}
+use Rattle.mesh_steps.specs.States.{StepKind, State, IsLawful}
 use Rattle.mesh_steps.specs.WorkSteps.{ClaimStep, DrawStep, FullStep, FillHistory, FillName, FillDied, FillChild, LinkFirst, LinkSecond, PublishStep, RetireStep, RetiredStep}
 use Rattle.mesh_steps.specs.WalkSteps.{WorkTop, WorkEnds, WorkGoes, WorkFinds, WorkHad, WorkBoth, WorkPasses, WorkGives, WorkDead, WorkOpen, LoadHead, LoadHistory, LoadBorn, LoadDied, LoadName, LoadRow}
 use Rattle.mesh_steps.specs.PinSteps.{LoadRound, PinStep, UnpinStep, ReadEnds, ReadGoes, ReadFinds, ReadPasses}
@@ -43,7 +43,7 @@ use Rattle.mesh_steps.proofs.Sweeping as sweeping
 use Rattle.mesh_steps.proofs.TakingBack as back
 
 -- so a kind of step keeps the rule
-abbrev Keeps : Kind → Type 0
+abbrev Keeps : StepKind → Type 0
 Keeps K = (s : Setup) (w : Words) (n : ℕ) (v : Views) (after : State) → K s w n v after → Lawful s w n v → IsLawful s after
 
 block_uses : (p : Progress) (b : ℕ) → uses p ≡ b + 1 → block_of p ≡ b + 1
@@ -56,7 +56,7 @@ block_uses (Living c) b e = e
 
 claim_step : Keeps ClaimStep
 claim_step s w n v after (j, x, m, k, kind, bit, lead, absent, aimed, here, mate, e) (g, r) = let f = (r.works j).found x k here in
-    let low = label_below s w.name w.free w.row g.life g.stage v.ruling.hand v.ruling.retired r.inside x k (label_of s w n v g r (w.round + 1) (inr (refl, let o = f.0 in omega arith)) x k f.1) in
+    let low = label_below s w.name w.free w.row g.life g.stage v.ruling.hand v.ruling.retired r.inside x k (label_of s w n v g r (w.round + 1) (inr (refl, let o = f.0 in omega (arith, ap order o))) x k f.1) in
     subst (IsLawful s) (sym e) (_, claiming.claims s w n v g r j x m k kind bit lead low absent aimed here mate)
 
 -- the view after a walk has gone to a member
@@ -202,7 +202,7 @@ join_worker : Keeps JoinWorker
 join_worker s w n v after (j, far, kind, left, one, e) (g, r) = subst (IsLawful s) (sym e) (_, workers.joins s w n v g r j far kind left one)
 
 join_reader : Keeps JoinReader
-join_reader s w n v after (j, far, kind, none, left, early, one, which, e) (g, r) = subst (IsLawful s) (sym e) (_, empty.empties s w n _ g (readers.leaves s w n v g r j far kind none left early one which) j far (update_same v.kind j 0))
+join_reader s w n v after (j, far, kind, none, left, early, one, which, e) (g, r) = subst (IsLawful s) (sym e) (_, empty.empties s w n _ g (readers.leaves s w n v g r j far kind none left early one which) j far (update_same v.kind j Vacant))
 
 begin_step : Keeps BeginStep
 begin_step s w n v after (plan, names, last, aim, room, zero_, cursor, e) (g, r) = subst (IsLawful s) (sym e) (_, phases.begins s w n v g r plan names last aim room zero_ cursor)
@@ -223,7 +223,7 @@ advance_step : Keeps AdvanceStep
 advance_step s w n v after (forest, of, all, three, none, shown, e) (g, r) = subst (IsLawful s) (sym e) (_, phases.advances s w n v g r forest of all three none shown)
 
 stamp_step : Keeps StampStep
-stamp_step s w n v after (three, x, b, y, m, t, known, fair, side, f1, f2, e) (g, r) = subst (IsLawful s) (sym e) (_, back.stamps_head s w n v g r ((λ e. omega arith), λ e. omega arith) three x b y m t known fair side f1 f2)
+stamp_step s w n v after (three, x, b, y, m, t, known, fair, side, f1, f2, e) (g, r) = subst (IsLawful s) (sym e) (_, back.stamps_head s w n v g r ((λ e. cc), λ e. cc) three x b y m t known fair side f1 f2)
 
 unclaim_step : Keeps UnclaimStep
 unclaim_step s w n v after (quiet, late, x, m, p, mine, lives, dead, e) (g, r) = subst (IsLawful s) (sym e) (_, back.unclaims s w n v g r quiet late x m p mine (λ b u. lives b (block_uses p b u)) dead)
@@ -253,19 +253,19 @@ open_step : Keeps OpenStep
 open_step s w n v after (zero_, k, hand, stopped, rewound, below, rows, one, left, e) (g, r) = subst (IsLawful s) (sym e) (_, sweeping.opens_rows s w n v g r zero_ k hand stopped rewound below rows one left)
 
 unbear_step : Keeps UnbearStep
-unbear_step s w n v after (four, x, m, b, mine, e) (g, r) = subst (IsLawful s) (sym e) (_, back.unborns s w n v g r ((λ e. omega arith), λ e. omega arith) four x m b mine)
+unbear_step s w n v after (four, x, m, b, mine, e) (g, r) = subst (IsLawful s) (sym e) (_, back.unborns s w n v g r ((λ e. cc), λ e. cc) four x m b mine)
 
 unlink_second : Keeps UnlinkSecond
-unlink_second s w n v after (four, x, y, b, l, mine, f, e) (g, r) = subst (IsLawful s) (sym e) (_, back.unlinks_second s w n v g r ((λ e. omega arith), λ e. omega arith) four x y b l mine f)
+unlink_second s w n v after (four, x, y, b, l, mine, f, e) (g, r) = subst (IsLawful s) (sym e) (_, back.unlinks_second s w n v g r ((λ e. cc), λ e. cc) four x y b l mine f)
 
 unlink_first : Keeps UnlinkFirst
-unlink_first s w n v after (four, x, m, b, l, p, mine, how, f, e) (g, r) = subst (IsLawful s) (sym e) (_, back.unlinks_first s w n v g r ((λ e. omega arith), λ e. omega arith) four x m b l p mine how f)
+unlink_first s w n v after (four, x, m, b, l, p, mine, how, f, e) (g, r) = subst (IsLawful s) (sym e) (_, back.unlinks_first s w n v g r ((λ e. cc), λ e. cc) four x m b l p mine how f)
 
 bury_step : Keeps BuryStep
 bury_step s w n v after (quiet, b, known, e) (g, r) = subst (IsLawful s) (sym e) (_, back.buries s w n v g r quiet b known)
 
 undraw_step : Keeps UndrawStep
-undraw_step s w n v after (four, x, m, b, mine, e) (g, r) = subst (IsLawful s) (sym e) (_, back.undraws s w n v g r ((λ e. omega arith), λ e. omega arith) four x m b mine)
+undraw_step s w n v after (four, x, m, b, mine, e) (g, r) = subst (IsLawful s) (sym e) (_, back.undraws s w n v g r ((λ e. cc), λ e. cc) four x m b mine)
 
 -- a member of the block that a chain word of a place names is in the place's chain
 in_chain : (s : Setup) (w : Words) (n : ℕ) (v : Views) (g : Ghost) → Rule s w n v g → (x b : ℕ) (l : Node) → IsHead w.round w.died g.life x l → l.block ≡ b + 1 → (t : Bool) × (chained (g.life b) t ≡ x + 1)

@@ -5,7 +5,7 @@ use native.Mathlib.Decide.{ℕ_discrete, dec_lt}
 use Rattle.mesh_words.specs.Setup.{Setup}
 use Rattle.mesh_words.specs.Functions.{update}
 use Rattle.mesh_words.specs.Words.{Words, Node, node}
-use Rattle.mesh_words.specs.Views.{Views, Sure}
+use Rattle.mesh_words.specs.Views.{Views, Sure, Worker, Resting, FirstHalf, SecondHalf}
 use Rattle.mesh_words.specs.Claims.{Progress, Drawn, Half, Claim}
 use Rattle.mesh_words.specs.Places.{member_of}
 use Rattle.mesh_words.specs.Entries.{HasEntry, Noted}
@@ -41,12 +41,12 @@ module _ (s : Setup) (w : Words) (n : ℕ) (v : Views) (g : Ghost) (r : Rule s w
 
   -- no pass is at work
   abbrev pub Quiet : Type 0
-  Quiet = (v.ruling.phase ≡ 1 → ⊥) × (v.ruling.phase ≡ 2 → ⊥)
+  Quiet = (v.ruling.phase ≡ FirstHalf → ⊥) × (v.ruling.phase ≡ SecondHalf → ⊥)
 
   pub none_out : Quiet → v.ruling.workers ≡ 0
   none_out q = r.rules.halves q.0 q.1
 
-  pub not_work : Quiet → (j : ℕ) → v.kind j ≡ 1 → ⊥
+  pub not_work : Quiet → (j : ℕ) → v.kind j ≡ Worker → ⊥
   not_work q j k = let a = some_worker s w n v g r j k in let b = none_out q in omega arith
 
   -- then each claim is the owner's
@@ -153,9 +153,9 @@ module _ (s : Setup) (w : Words) (n : ℕ) (v : Views) (g : Ghost) (r : Rule s w
       record { undone = r.note.undone; all = r.note.all; placed = r.note.placed; seen = r.note.seen; quiet = r.note.quiet } inside named once frees known (kept_on w.round w.died died g.life g.life v.ruling.kept (λ b x m h _ _. (h, (same b x m h).0)) (λ b x m h _ _. (h, (same b x m h).0)) r.kept) (λ b x m h _. (h, (same b x m h).0))
 
   -- before the round no place is held, so its words are said by the rows alone
-  module _ (zero_ : v.ruling.phase ≡ 0) where
+  module _ (zero_ : v.ruling.phase ≡ Resting) where
     quiet : Quiet
-    quiet = ((λ e. absurd (omega arith)), λ e. absurd (omega arith))
+    quiet = ((λ e. absurd (cc)), λ e. absurd (cc))
 
     own : OwnSure w.head w.hist w.born w.died w.name w.row (v.sure 0)
     own = own_sure quiet
@@ -178,8 +178,8 @@ module _ (s : Setup) (w : Words) (n : ℕ) (v : Views) (g : Ghost) (r : Rule s w
       half = λ b x m u e. let t = back b x m u in r.claims.half b x m t.0 (sym t.1 ∙ e);
       rows = rows;
       apart = apart;
-      drawn = λ e. absurd (omega arith);
-      living = λ x j m p h e. absurd (omega arith);
+      drawn = λ e. absurd (cc);
+      living = λ x j m p h e. absurd (cc);
       none = r.claims.none;
     }
 
@@ -209,7 +209,7 @@ module _ (s : Setup) (w : Words) (n : ℕ) (v : Views) (g : Ghost) (r : Rule s w
         → HasEntry v.ruling.placed (b, y, m) → (HasEntry v.ruling.undone b → ⊥) → chained (Placed y m) t ≡ x + 1
         → Rule s (record w { head = update w.head x l }) n (record v { sure = update v.sure 0 (record (v.sure 0) { head = (x, l) ∷ (v.sure 0).head }) }) g
     cuts_head x b e y m t l f1 f2 f3 p c known fair side = let life_b = in_chains b y m known fair in let at : chained (g.life b) t ≡ x + 1 = ap (λ (i : Life). chained i t) life_b ∙ side in
-        let h = own.heads x (node (b + 1) e) f1 in let dd : w.died b ≡ e = own.dieds b e f2 in let hh = own.hists b t l f3 in let calm = r.names.calm b y m ((λ z. omega arith), λ z. omega arith) life_b in
+        let h = own.heads x (node (b + 1) e) f1 in let dd : w.died b ≡ e = own.dieds b e f2 in let hh = own.hists b t l f3 in let calm = r.names.calm b y m ((λ z. cc), λ z. cc) life_b in
         let k = skips Can A s.elements w.round w.head w.hist w.born w.died g.life r.chains x b t (ap (λ (i : Node). i.block) h) (chained_stands (g.life b) t x at) (not_covers b (omega arith) calm (subst Clear (sym dd) c)) in
         sweeps quiet w.claimed (update w.head x l) w.hist w.born w.died g.stage v.claims (update v.sure 0 (record (v.sure 0) { head = (x, l) ∷ (v.sure 0).head })) v.ruling.hand
         (calm_claims w.cursor w.free w.row (update w.head x l) w.born g.life (λ _ _ _ u. (u, refl)) r.claims.rows r.claims.apart)
@@ -222,7 +222,7 @@ module _ (s : Setup) (w : Words) (n : ℕ) (v : Views) (g : Ghost) (r : Rule s w
         → Rule s (record w { hist = update w.hist (member_of a u) l }) n (record v { sure = update v.sure 0 (record (v.sure 0) { hist = (member_of a u, l) ∷ (v.sure 0).hist }) }) g
     cuts_history a y' m' x b e y m u t l f1 f2 f3 p c from stood known fair side = let life_b = in_chains b y m known fair in let at : chained (g.life b) t ≡ x + 1 = ap (λ (i : Life). chained i t) life_b ∙ side in
         let ua : stands (g.life a) u ≡ x + 1 = ⊎_elim (λ f. ap (λ (i : Life). stands i u) f ∙ stood) (λ f. ap (λ (i : Life). stands i u) f ∙ stood) (r.note.placed a y' m' from) in
-        let h = own.hists a u (node (b + 1) e) f1 in let dd : w.died b ≡ e = own.dieds b e f2 in let hh = own.hists b t l f3 in let calm = r.names.calm b y m ((λ z. omega arith), λ z. omega arith) life_b in
+        let h = own.hists a u (node (b + 1) e) f1 in let dd : w.died b ≡ e = own.dieds b e f2 in let hh = own.hists b t l f3 in let calm = r.names.calm b y m ((λ z. cc), λ z. cc) life_b in
         let k = cuts_hist Can A s.elements w.round w.head w.hist w.born w.died g.life r.chains a b x u t ua (h ∙ ap (node (b + 1)) (sym dd)) at (omega arith) (not_covers b (omega arith) calm (subst Clear (sym dd) c)) in
         sweeps quiet w.claimed w.head (update w.hist (member_of a u) l) w.born w.died g.stage v.claims (update v.sure 0 (record (v.sure 0) { hist = (member_of a u, l) ∷ (v.sure 0).hist })) v.ruling.hand
         (calm_claims w.cursor w.free w.row w.head w.born g.life (λ _ _ _ u. (u, refl)) r.claims.rows r.claims.apart)
@@ -389,7 +389,7 @@ module _ (s : Setup) (w : Words) (n : ℕ) (v : Views) (g : Ghost) (r : Rule s w
             all = λ c y m u p l. let t = left c (Placed y m) (free_not y m) u in ⊎_elim (λ h. h) (λ q. absurd (clash (gone c) q t.0)) ((keeps c).1 (r.kept.all c y m t.1 p l));
             right = λ c h. let a = (keeps c).0 h in let t = r.kept.right c a.0 in (t.0, t.1, gone_not gone c a.1 ∙ t.2, t.3, t.4);
           }
-          (λ c y m u e. let l = r.names.calm c y m ((λ z. omega arith), λ z. omega arith) u in absurd (omega arith))
+          (λ c y m u e. let l = r.names.calm c y m ((λ z. cc), λ z. cc) u in absurd (omega arith))
 
     -- BORN of a free block becomes 0
     pub zeroes : (b : ℕ) → HasEntry v.ruling.hand b → Rule s (record w { born = update w.born b 0 }) n (record v { sure = update v.sure 0 (record (v.sure 0) { born = (b, 0) ∷ (v.sure 0).born }) }) g
@@ -432,7 +432,7 @@ module _ (s : Setup) (w : Words) (n : ℕ) (v : Views) (g : Ghost) (r : Rule s w
     rewinds f = let z = r.stock.free_is 0 f in sweeps_to quiet 0 w.free w.row w.claimed w.head w.hist w.born w.died g.life g.stage v.claims v.sure v.ruling.hand 1 v.ruling.free v.ruling.low v.ruling.high v.ruling.undone v.ruling.kept v.ruling.placed v.ruling.seen v.ruling.quiet
         (calm_claims 0 w.free w.row w.head w.born g.life (λ _ _ _ u. (u, refl)) (λ i a l. absurd (omega arith)) (λ i j a l. absurd (omega arith))) moves_id
         (λ _ _ _ u. (u, refl, λ p. p)) (λ y j k p u. absurd (no_stage y j k p u)) own r.hand
-        record { finished = r.stock.finished; cursor_is = λ k e. ((λ a. absurd (omega arith)), omega arith); free_is = r.stock.free_is; left = r.stock.left } record { undone = r.note.undone; all = r.note.all; placed = r.note.placed; seen = r.note.seen; quiet = r.note.quiet } r.inside r.named r.once
+        record { finished = r.stock.finished; cursor_is = λ k e. ((λ a. absurd (cc)), omega arith); free_is = r.stock.free_is; left = r.stock.left } record { undone = r.note.undone; all = r.note.all; placed = r.note.placed; seen = r.note.seen; quiet = r.note.quiet } r.inside r.named r.once
         record {
           all = λ b l e. ⊎_elim inl (λ t. ⊎_elim (λ t. let t2 = t.2 in absurd (omega arith)) (λ t. inr (inr t)) t) (r.frees.all b l e);
           hand_rows = λ b h t. let t2 = t.2 in absurd (omega arith);

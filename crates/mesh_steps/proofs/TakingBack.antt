@@ -5,7 +5,7 @@ use native.Mathlib.Decide.{ℕ_discrete}
 use Rattle.mesh_words.specs.Setup.{Setup}
 use Rattle.mesh_words.specs.Functions.{update}
 use Rattle.mesh_words.specs.Words.{Words, Node, node}
-use Rattle.mesh_words.specs.Views.{Views}
+use Rattle.mesh_words.specs.Views.{Views, Closing, RollingBack, Precedes, order}
 use Rattle.mesh_words.specs.Claims.{Progress, Claimed, Failed, Drawn, Half, Whole, Living, Claim, claim, moved_on, ended}
 use Rattle.mesh_words.specs.Places.{member_of}
 use Rattle.mesh_words.specs.Entries.{HasEntry, Noted}
@@ -87,7 +87,7 @@ module _ (s : Setup) (w : Words) (n : ℕ) (v : Views) (g : Ghost) (r : Rule s w
     add_head : (x : ℕ) (l : Node) → OwnSure s w n v g r (update w.head x l) w.hist w.born w.died w.name w.row (record (v.sure 0) { head = (x, l) ∷ (v.sure 0).head })
     add_head x l = record { heads = noted_after (v.sure 0).head w.head x l own.heads; hists = own.hists; dieds = own.dieds; names = own.names; borns = own.borns; rows = own.rows }
 
-    stamped_head : v.ruling.phase ≡ 3 → (x b y m : ℕ) (t : Bool) → HasEntry v.ruling.placed (b, y, m) → (HasEntry v.ruling.undone b → ⊥) → chained (Placed y m) t ≡ x + 1 → Noted (v.sure 0).head x (node (b + 1) 0) → Noted (v.sure 0).died b d
+    stamped_head : v.ruling.phase ≡ Closing → (x b y m : ℕ) (t : Bool) → HasEntry v.ruling.placed (b, y, m) → (HasEntry v.ruling.undone b → ⊥) → chained (Placed y m) t ≡ x + 1 → Noted (v.sure 0).head x (node (b + 1) 0) → Noted (v.sure 0).died b d
         → Rule s (record w { head = update w.head x (node (b + 1) d) }) n (record v { sure = update v.sure 0 (record (v.sure 0) { head = (x, node (b + 1) d) ∷ (v.sure 0).head }) }) g
     stamped_head three x b y m t known fair side f1 f2 = let h : w.head x ≡ node (b + 1) 0 = own.heads x (node (b + 1) 0) f1 in let dd : w.died b ≡ d = own.dieds b d f2 in
         let at : chained (g.life b) t ≡ x + 1 = ap (λ (i : Life). chained i t) (⊎_elim (λ e. e) (λ e. absurd (fair (r.note.all b y m e))) (r.note.placed b y m known)) ∙ side in
@@ -127,17 +127,17 @@ module _ (s : Setup) (w : Words) (n : ℕ) (v : Views) (g : Ghost) (r : Rule s w
         shape_at head' o block lives dead z k (Living a) h = (h.0, h.1, o z (λ (e : z ≡ x). lives a z k h.0 h.1 (ap w.head (sym e) ∙ h.2)) ∙ h.2, λ y e. o y (λ (f : y ≡ x). lives a z k h.0 h.1 (ap w.head (sym f) ∙ h.3 y e)) ∙ h.3 y e)
 
     -- the round is stamped on the head of a retired block
-    pub stamps_head : v.ruling.phase ≡ 3 → (x b y m : ℕ) (t : Bool) → HasEntry v.ruling.placed (b, y, m) → (HasEntry v.ruling.undone b → ⊥) → chained (Placed y m) t ≡ x + 1 → Noted (v.sure 0).head x (node (b + 1) 0) → Noted (v.sure 0).died b (v.ruling.finished + 1)
+    pub stamps_head : v.ruling.phase ≡ Closing → (x b y m : ℕ) (t : Bool) → HasEntry v.ruling.placed (b, y, m) → (HasEntry v.ruling.undone b → ⊥) → chained (Placed y m) t ≡ x + 1 → Noted (v.sure 0).head x (node (b + 1) 0) → Noted (v.sure 0).died b (v.ruling.finished + 1)
         → Rule s (record w { head = update w.head x (node (b + 1) (v.ruling.finished + 1)) }) n (record v { sure = update v.sure 0 (record (v.sure 0) { head = (x, node (b + 1) (v.ruling.finished + 1)) ∷ (v.sure 0).head }) }) g
     stamps_head three x b y m t known fair side f1 = subst (λ (q : ℕ). Noted (v.sure 0).died b (q + 1) → Rule s (record w { head = update w.head x (node (b + 1) (q + 1)) }) n (record v { sure = update v.sure 0 (record (v.sure 0) { head = (x, node (b + 1) (q + 1)) ∷ (v.sure 0).head }) }) g) (sym r.stock.finished) (stamped_head three x b y m t known fair side f1)
 
     -- a claim's own facts
-    module _ (late : v.ruling.phase < 3 → ⊥) (x m : ℕ) (p : Progress) (mine : HasEntry (v.claims 0) (claim x m p)) where
+    module _ (late : Precedes v.ruling.phase Closing → ⊥) (x m : ℕ) (p : Progress) (mine : HasEntry (v.claims 0) (claim x m p)) where
       is : g.stage x ≡ Held 0 m p
       is = r.claims.held 0 x m p mine
 
       -- the claim ends, and its words stay
-      pub unclaims : ((b : ℕ) → uses p ≡ b + 1 → p ≡ Living b) → ((b : ℕ) → p ≡ Living b → (v.ruling.phase ≡ 3 → ⊥) → ⊥) → Rule s (record w { claimed = update w.claimed x 0 }) n (record v { claims = update v.claims 0 (ended (v.claims 0) x); ruling = record v.ruling { placed = noted_at v.ruling.placed x m p } }) (record g { stage = update g.stage x Open })
+      pub unclaims : ((b : ℕ) → uses p ≡ b + 1 → p ≡ Living b) → ((b : ℕ) → p ≡ Living b → (v.ruling.phase ≡ Closing → ⊥) → ⊥) → Rule s (record w { claimed = update w.claimed x 0 }) n (record v { claims = update v.claims 0 (ended (v.claims 0) x); ruling = record v.ruling { placed = noted_at v.ruling.placed x m p } }) (record g { stage = update g.stage x Open })
       unclaims lives dead = sweeps_to s w n v g r quiet w.cursor w.free w.row (update w.claimed x 0) w.head w.hist w.born w.died g.life _ (update v.claims 0 (ended (v.claims 0) x)) v.sure v.ruling.hand v.ruling.cursor v.ruling.free v.ruling.low v.ruling.high v.ruling.undone v.ruling.kept (noted_at v.ruling.placed x m p) v.ruling.seen v.ruling.quiet
           (held.ends s w.round w.cursor w.free v.ruling.phase w.row w.claimed w.head w.born g.life g.stage v.claims r.claims x 0 m p p is late w.head w.born g.life (λ z i k q h ne sh. sh)
           (λ b y k u e l. (u, e, λ q. dead b q l))
@@ -163,12 +163,12 @@ module _ (s : Setup) (w : Words) (n : ℕ) (v : Views) (g : Ghost) (r : Rule s w
       stage_own : (q : Progress) (z j k : ℕ) (t : Progress) → update g.stage x (Held 0 m q) z ≡ Held j k t → j ≡ 0
       stage_own q z j k t h = dite (ℕ_discrete z x) (λ e. sym (held_one 0 j m k q t (sym (update_at g.stage x z (Held 0 m q) e) ∙ h)).0) (λ o. back_own z j k t (sym (update_other g.stage x z (Held 0 m q) o) ∙ h))
 
-      low_can : v.ruling.phase ≡ 4 → (q : ℕ) → Can_ q → q ≤ w.round
+      low_can : v.ruling.phase ≡ RollingBack → (q : ℕ) → Can_ q → q ≤ w.round
       low_can four q (inl k) = low s w n v g r q k
-      low_can four q (inr k) = let l = k.1 in absurd (omega arith)
+      low_can four q (inr k) = let l = k.1 in absurd (omega (arith, ap order four))
 
     -- BORN of a claim's block becomes 0: the claim is where it was before it was published
-    pub unborns : v.ruling.phase ≡ 4 → (x m b : ℕ) → HasEntry (v.claims 0) (claim x m (Living b))
+    pub unborns : v.ruling.phase ≡ RollingBack → (x m b : ℕ) → HasEntry (v.claims 0) (claim x m (Living b))
         → Rule s (record w { born = update w.born b 0 }) n (record v { claims = update v.claims 0 (moved_on (v.claims 0) x (Whole b)); sure = update v.sure 0 (record (v.sure 0) { born = (b, 0) ∷ (v.sure 0).born }) }) (record g { stage = update g.stage x (Held 0 m (Whole b)) })
     unborns four x m b mine = let is = r.claims.held 0 x m (Living b) mine in let sh = r.claims.shape x 0 m (Living b) is in let off : (c : ℕ) → c ≢ b → update w.born b 0 c ≡ w.born c = λ c o. update_other w.born b c 0 o in
         sweeps s w n v g r quiet w.claimed w.head w.hist (update w.born b 0) w.died _ (update v.claims 0 (moved_on (v.claims 0) x (Whole b))) (update v.sure 0 (record (v.sure 0) { born = (b, 0) ∷ (v.sure 0).born })) v.ruling.hand
@@ -177,8 +177,8 @@ module _ (s : Setup) (w : Words) (n : ℕ) (v : Views) (g : Ghost) (r : Rule s w
         (λ c y k u e l. dite (ℕ_discrete c b) (λ f. let t : update w.born b 0 c ≡ 0 = update_at w.born b c 0 f in absurd (omega arith)) (λ o. inr (u, sym (off c o) ∙ e, λ (h : b + 1 ≡ c + 1). o (omega arith))))
         (λ c y k u e. dite (ℕ_discrete c b) (λ f. let t = placed_one y k x m (sym u ∙ ap g.life f ∙ sh.0) in inl (t.0, t.1, inr (ap Whole (sym f)))) (λ o. inr (u, sym (off c o) ∙ e, λ (h : b + 1 ≡ c + 1). o (omega arith))))
         (λ c u e. (u, off c (λ (f : c ≡ b). free_not x m (sym u ∙ ap g.life f ∙ sh.0)) ∙ e)))
-        (unbears Can_ A_ s.elements w.round w.head w.hist w.born w.died g.life r.chains b x m sh.0 sh.1 (low_can (λ l. absurd (omega arith)) x m (Living b) mine four))
-        (λ c _ _ _. (refl, born_was c)) (stage_own (λ l. absurd (omega arith)) x m (Living b) mine (Whole b))
+        (unbears Can_ A_ s.elements w.round w.head w.hist w.born w.died g.life r.chains b x m sh.0 sh.1 (low_can (λ l. absurd (omega (arith, ap order four))) x m (Living b) mine four))
+        (λ c _ _ _. (refl, born_was c)) (stage_own (λ l. absurd (omega (arith, ap order four))) x m (Living b) mine (Whole b))
         record { heads = own.heads; hists = own.hists; dieds = own.dieds; names = own.names; borns = noted_after (v.sure 0).born w.born b 0 own.borns; rows = own.rows } r.hand (inside_goes s w.free w.row g.life g.stage v.ruling.hand v.ruling.retired x 0 m (Living b) 0 (Whole b) is r.inside) r.named (once_update v.claims (moved_on (v.claims 0) x (Whole b)) (once_moved (v.claims 0) x (Whole b) (r.once 0)) r.once)
         (frees_on s.pool w.cursor w.free w.row w.born (update w.born b 0) g.life g.life v.ruling.hand v.ruling.low v.ruling.high (λ _ e. e) (λ c e. (e, λ z. dite (ℕ_discrete c b) (λ f. update_at w.born b c 0 f) (λ o. off c o ∙ z))) r.frees)
         (known_goes g.life g.stage v.ruling.placed x 0 m 0 (Living b) (Whole b) is refl (λ c e. living_not c e) r.known)
@@ -198,7 +198,7 @@ module _ (s : Setup) (w : Words) (n : ℕ) (v : Views) (g : Ghost) (r : Rule s w
         (λ o. let same : o.0 ≡ b = one_more o.0 b (sym (ap (λ (l : Node). l.block) o.2) ∙ e) in let dd : w.died o.0 ≡ w.died b = ap w.died same in let p = o.4 in let l = undead Can_ A_ s.elements w.round w.head w.hist w.born w.died g.life r.chains b y k u z in omega arith) (r.chains.hists c t x st)
 
     -- the second member's head gets back what it had
-    pub unlinks_second : v.ruling.phase ≡ 4 → (x y b : ℕ) (l : Node) → HasEntry (v.claims 0) (claim x (y + 1) (Whole b)) → Noted (v.sure 0).hist (member_of b true) l
+    pub unlinks_second : v.ruling.phase ≡ RollingBack → (x y b : ℕ) (l : Node) → HasEntry (v.claims 0) (claim x (y + 1) (Whole b)) → Noted (v.sure 0).hist (member_of b true) l
         → Rule s (record w { head = update w.head y l }) n (record v { claims = update v.claims 0 (moved_on (v.claims 0) x (Half b)); sure = update v.sure 0 (record (v.sure 0) { head = (y, l) ∷ (v.sure 0).head }) }) (record g { stage = update g.stage x (Held 0 (y + 1) (Half b)) })
     unlinks_second four x y b l mine f = let is = r.claims.held 0 x (y + 1) (Whole b) mine in let sh = r.claims.shape x 0 (y + 1) (Whole b) is in let hh = own.hists b true l f in
         let apart : x ≢ y = λ (e : x ≡ y). not_open 0 (y + 1) (Whole b) (sym is ∙ ap g.stage e ∙ (r.claims.mates x 0 y (Whole b) is).0) in
@@ -211,11 +211,11 @@ module _ (s : Setup) (w : Words) (n : ℕ) (v : Views) (g : Ghost) (r : Rule s w
         (λ c z k u e. dite (ℕ_discrete c b) (λ f. let t = placed_one z k x (y + 1) (sym u ∙ ap g.life f ∙ sh.0) in inl (t.0, t.1, inl (ap Half (sym f)))) (λ o. inr (u, e, λ (h : b + 1 ≡ c + 1). o (omega arith))))
         (λ c u e. (u, e)))
         (subst (λ (i : Node). ChainsRule s.elements w.round (update w.head y i) w.hist w.born w.died g.life × Moves Can_ A_ s.elements w.round w.head w.hist (update w.head y i) w.hist w.born w.died w.born w.died g.life g.life) hh m)
-        (λ _ _ _ _. (refl, λ p. p)) (stage_own (λ t. absurd (omega arith)) x (y + 1) (Whole b) mine (Half b)) (add_head y l) r.hand (inside_goes s w.free w.row g.life g.stage v.ruling.hand v.ruling.retired x 0 (y + 1) (Whole b) 0 (Half b) is r.inside) (labels_skip s w.name w.head w.hist g.life y b true l (ap (λ (i : Node). i.block) (sh.3 y refl)) (ap (λ (i : Life). chained i true) sh.0) hh r.named) (once_update v.claims (moved_on (v.claims 0) x (Half b)) (once_moved (v.claims 0) x (Half b) (r.once 0)) r.once) r.frees
+        (λ _ _ _ _. (refl, λ p. p)) (stage_own (λ t. absurd (omega (arith, ap order four))) x (y + 1) (Whole b) mine (Half b)) (add_head y l) r.hand (inside_goes s w.free w.row g.life g.stage v.ruling.hand v.ruling.retired x 0 (y + 1) (Whole b) 0 (Half b) is r.inside) (labels_skip s w.name w.head w.hist g.life y b true l (ap (λ (i : Node). i.block) (sh.3 y refl)) (ap (λ (i : Life). chained i true) sh.0) hh r.named) (once_update v.claims (moved_on (v.claims 0) x (Half b)) (once_moved (v.claims 0) x (Half b) (r.once 0)) r.once) r.frees
         (known_goes g.life g.stage v.ruling.placed x 0 (y + 1) 0 (Whole b) (Half b) is refl (λ c e. whole_not b c e) r.known)
 
     -- the first member's head gets back what it had, and the claim ends
-    pub unlinks_first : v.ruling.phase ≡ 4 → (x m b : ℕ) (l : Node) (p : Progress) → HasEntry (v.claims 0) (claim x m p) → (p ≡ Half b) ⊎ ((p ≡ Whole b) × (m ≡ 0)) → Noted (v.sure 0).hist (member_of b false) l
+    pub unlinks_first : v.ruling.phase ≡ RollingBack → (x m b : ℕ) (l : Node) (p : Progress) → HasEntry (v.claims 0) (claim x m p) → (p ≡ Half b) ⊎ ((p ≡ Whole b) × (m ≡ 0)) → Noted (v.sure 0).hist (member_of b false) l
         → Rule s (record w { head = update w.head x l; claimed = update w.claimed x 0 }) n (record v { claims = update v.claims 0 (ended (v.claims 0) x); sure = update v.sure 0 (record (v.sure 0) { head = (x, l) ∷ (v.sure 0).head }); ruling = record v.ruling { undone = b ∷ v.ruling.undone; placed = (b, x, m) ∷ v.ruling.placed; seen = 0; quiet = 0 } }) (record g { stage = update g.stage x Open; life = update g.life b (Undone x m) })
     unlinks_first four x m b l p mine how f = let is = r.claims.held 0 x m p mine in let up : uses p ≡ b + 1 = ⊎_elim (λ e. ap uses e) (λ e. ap uses e.0) how in
         let sh : (g.life b ≡ Placed x m) × (w.born b ≡ 0) × (w.head x ≡ node (b + 1) 0) × ((y : ℕ) → m ≡ y + 1 → (w.head y).block ≡ b + 1 → ⊥) =
@@ -225,7 +225,7 @@ module _ (s : Setup) (w : Words) (n : ℕ) (v : Views) (g : Ghost) (r : Rule s w
         let mv = undoes Can_ A_ s.elements w.round w.head w.hist w.born w.died g.life r.chains b x m sh.0 sh.1 (ap (λ (i : Node). i.block) sh.2)
         (λ z ne live e. let t = named Can_ A_ s.elements w.round w.head w.hist w.born w.died g.life r.chains z b (w.head z) (r.chains.heads z live) e in ⊎_elim (λ q. ne q) (λ q. sh.3 z q e) (chained_of (g.life b) t.0 x m z sh.0 t.1)) in
         sweeps_to s w n v g r quiet w.cursor w.free w.row (update w.claimed x 0) (update w.head x l) w.hist w.born w.died life' _ (update v.claims 0 (ended (v.claims 0) x)) (update v.sure 0 (record (v.sure 0) { head = (x, l) ∷ (v.sure 0).head })) v.ruling.hand v.ruling.cursor v.ruling.free v.ruling.low v.ruling.high (b ∷ v.ruling.undone) v.ruling.kept ((b, x, m) ∷ v.ruling.placed) 0 0
-        (held.ends s w.round w.cursor w.free v.ruling.phase w.row w.claimed w.head w.born g.life g.stage v.claims r.claims x 0 m p p is (λ t. absurd (omega arith)) (update w.head x l) w.born life'
+        (held.ends s w.round w.cursor w.free v.ruling.phase w.row w.claimed w.head w.born g.life g.stage v.claims r.claims x 0 m p p is (λ t. absurd (omega (arith, ap order four))) (update w.head x l) w.born life'
         (λ z i k q h ne t. let a = apart_heads x z 0 i m k p q is h ne x (inl refl) in shape_on w.round w.head w.born g.life z k (update w.head x l) w.born life' q (λ c u. (off c (λ (e : c ≡ b). ne (one z x 0 m b i k q p h is (u ∙ ap (λ (y : ℕ). y + 1) e) up)), refl)) (update_other w.head x z l ne) (λ c e. update_other w.head x c l (a.1 c e)) t)
         (λ c y k u e i. let t = left c y k u in (t.1, e, λ h. t.0 (one_more c b (sym (ap uses h) ∙ up))))
         (λ c y k u e. let t = left c y k u in (t.1, e, λ h. let q : b + 1 ≡ c + 1 = sym up ∙ h in absurd (t.0 (omega arith))))
@@ -242,7 +242,7 @@ module _ (s : Setup) (w : Words) (n : ℕ) (v : Views) (g : Ghost) (r : Rule s w
         (λ c y k u. dite (ℕ_discrete c b) (λ f. let t = undone_one x m y k (sym (update_at g.life b c (Undone x m) f) ∙ u) in inr (inl (λ i. (f i, sym t.0 i, sym t.1 i)))) (λ o. inl (sym (off c o) ∙ u)))
         (λ c u e. let o : c ≢ b = λ (f : c ≡ b). undone_loose x m u (sym (update_at g.life b c (Undone x m) f) ∙ e) in (sym (off c o) ∙ e, λ q. o (one_more c b (sym (uses_block p c q) ∙ up)))) r.known)
         (kept_on w.round w.died w.died g.life life' v.ruling.kept (λ c y k u _ _. ((left c y k u).1, refl)) (λ c y k u p l. (off c (λ (f : c ≡ b). let z = (r.chains.dieds c y k u p).0 in let e : w.born c ≡ w.born b = ap w.born f in let y = sh.1 in omega arith) ∙ u, refl)) r.kept)
-        (λ c y k u e. let l = r.names.calm c y k ((λ z. omega arith), λ z. omega arith) u in absurd (omega arith))
+        (λ c y k u e. let l = r.names.calm c y k ((λ z. omega arith), λ z. cc) u in absurd (omega arith))
       where
         in_place : g.life b ≡ Placed x m
         in_place = ⊎_elim (λ e. shape_half (subst (Shape w.round w.head w.born g.life x m) e (r.claims.shape x 0 m p (r.claims.held 0 x m p mine)))) (λ e. shape_whole (subst (Shape w.round w.head w.born g.life x m) e.0 (r.claims.shape x 0 m p (r.claims.held 0 x m p mine)))) how
@@ -311,12 +311,12 @@ module _ (s : Setup) (w : Words) (n : ℕ) (v : Views) (g : Ghost) (r : Rule s w
     buries b known = subst (λ (q : ℕ). Rule s (record w { died = update w.died b (q + 1) }) n (record v { sure = update v.sure 0 (record (v.sure 0) { died = (b, q + 1) ∷ (v.sure 0).died }) }) g) (sym r.stock.finished) (buried b known)
 
     -- a claim of a refused round whose block was drawn and not linked ends: the block is free, and the owner knows it
-    pub undraws : v.ruling.phase ≡ 4 → (x m b : ℕ) → HasEntry (v.claims 0) (claim x m (Drawn b))
+    pub undraws : v.ruling.phase ≡ RollingBack → (x m b : ℕ) → HasEntry (v.claims 0) (claim x m (Drawn b))
         → Rule s (record w { claimed = update w.claimed x 0 }) n (record v { claims = update v.claims 0 (ended (v.claims 0) x); ruling = record v.ruling { hand = b ∷ v.ruling.hand } }) (record g { stage = update g.stage x Open; life = update g.life b Free })
     undraws four x m b mine = let is = r.claims.held 0 x m (Drawn b) mine in let sh = r.claims.shape x 0 m (Drawn b) is in let life' : ℕ → Life = update g.life b Free in let off : (c : ℕ) → c ≢ b → life' c ≡ g.life c = λ c o. update_other g.life b c Free o in
         let back : (c y k : ℕ) → life' c ≡ Placed y k → (c ≢ b) × (g.life c ≡ Placed y k) = λ c y k u. dite (ℕ_discrete c b) (λ e. absurd (free_not y k (sym (update_at g.life b c Free e) ∙ u))) (λ o. (o, sym (off c o) ∙ u)) in
         sweeps_to s w n v g r quiet w.cursor w.free w.row (update w.claimed x 0) w.head w.hist w.born w.died life' _ (update v.claims 0 (ended (v.claims 0) x)) v.sure (b ∷ v.ruling.hand) v.ruling.cursor v.ruling.free v.ruling.low v.ruling.high v.ruling.undone v.ruling.kept v.ruling.placed v.ruling.seen v.ruling.quiet
-        (held.ends s w.round w.cursor w.free v.ruling.phase w.row w.claimed w.head w.born g.life g.stage v.claims r.claims x 0 m (Drawn b) (Drawn b) is (λ t. absurd (omega arith)) w.head w.born life'
+        (held.ends s w.round w.cursor w.free v.ruling.phase w.row w.claimed w.head w.born g.life g.stage v.claims r.claims x 0 m (Drawn b) (Drawn b) is (λ t. absurd (omega (arith, ap order four))) w.head w.born life'
         (λ z i k q h ne t. shape_on w.round w.head w.born g.life z k w.head w.born life' q (λ c u. (off c (λ (e : c ≡ b). ne (one z x 0 m b i k q (Drawn b) h is (u ∙ ap (λ (y : ℕ). y + 1) e) refl)), refl)) refl (λ _ _. refl) t)
         (λ c y k u e o. ((back c y k u).1, e, λ h. drawn_living c h)) (λ c y k u e. let t = back c y k u in (t.1, e, λ (h : b + 1 ≡ c + 1). t.0 (omega arith)))
         (λ c u e. (dite (ℕ_discrete c b) (λ f. update_at g.life b c Free f) (λ o. off c o ∙ u), e)))
@@ -348,7 +348,7 @@ module _ (s : Setup) (w : Words) (n : ℕ) (v : Views) (g : Ghost) (r : Rule s w
         (known_ends g.life life' g.stage v.ruling.placed v.ruling.placed x 0 m (Drawn b) is (λ _ h. h) (λ c y k u. let t = back c y k u in (t.1, λ e _ _. absurd (t.0 (one_more c b (sym e))))) (λ c y k u. inl (sym (off c (λ (f : c ≡ b). free_undone y k (sym (update_at g.life b c Free f) ∙ u))) ∙ u))
         (λ c u e. let o : c ≢ b = λ (f : c ≡ b). free_loose u (sym (update_at g.life b c Free f) ∙ e) in (sym (off c o) ∙ e, λ q. o (one_more c b (sym q)))) r.known)
         (kept_on w.round w.died w.died g.life life' v.ruling.kept (λ c y k u _ _. ((back c y k u).1, refl)) (λ c y k u _ _. (off c (λ (f : c ≡ b). loose_not (x + 1) y k (sym sh.0 ∙ ap g.life (sym f) ∙ u)) ∙ u, refl)) r.kept)
-        (λ c y k u e. let l = r.names.calm c y k ((λ z. omega arith), λ z. omega arith) u in absurd (omega arith))
+        (λ c y k u e. let l = r.names.calm c y k ((λ z. omega arith), λ z. cc) u in absurd (omega arith))
       where
         still_free : (c : ℕ) → g.life c ≡ Free → update g.life b Free c ≡ Free
         still_free c e = dite (ℕ_discrete c b) (λ f. update_at g.life b c Free f) (λ o. update_other g.life b c Free o ∙ e)

@@ -3,7 +3,7 @@ use Rattle.std.proofs.Common.{◌≡◌, ℕ, ◌+◌, ◌<◌, ◌≤◌, Bool,
 use Rattle.mesh_words.specs.Setup.{Setup}
 use Rattle.mesh_words.specs.Functions.{update}
 use Rattle.mesh_words.specs.Words.{Words, Node}
-use Rattle.mesh_words.specs.Views.{Views, Work, Walk, Still, At, Past}
+use Rattle.mesh_words.specs.Views.{Views, Work, Walk, Still, At, Past, Worker, FirstHalf, SecondHalf, RollingBack, Precedes, order}
 use Rattle.mesh_words.specs.Places.{member_of, child_place}
 use Rattle.mesh_words.specs.Entries.{HasEntry}
 use Rattle.mesh_words.proofs.Functions.{update_cases}
@@ -66,23 +66,23 @@ module _ (s : Setup) (w : Words) (n : ℕ) (v : Views) (g : Ghost) (r : Rule s w
   now : MayRead w.round v.ruling.phase v.read w.round
   now = inl (inl refl)
 
-  module _ (j : ℕ) (kind : v.kind j ≡ 1) where
-    early : v.ruling.phase < 4
-    early = ⊎_elim (λ e. omega arith) (λ e. omega arith) (half_of s w n v g r j kind)
+  module _ (j : ℕ) (kind : v.kind j ≡ Worker) where
+    early : Precedes v.ruling.phase RollingBack
+    early = ⊎_elim (λ e. omega (arith, ap order e)) (λ e. omega (arith, ap order e)) (half_of s w n v g r j kind)
 
     next : MayRead w.round v.ruling.phase v.read d
     next = inr (refl, early)
 
     -- the places of the last round's elements are theirs in the first half too
-    lifts : v.ruling.phase ≡ 1 → (x k : ℕ) → IsPlaceOf s w.name (g.who w.round) x k → IsPlaceOf s w.name (g.who d) x k
+    lifts : v.ruling.phase ≡ FirstHalf → (x k : ℕ) → IsPlaceOf s w.name (g.who w.round) x k → IsPlaceOf s w.name (g.who d) x k
     lifts one x k (inl a) = inl a
-    lifts one x k (inr c) = inr (c.0, c.1, c.2, c.3, r.names.grows (w.name (member_of c.0 c.1)) c.0 (omega arith) c.4, c.5)
+    lifts one x k (inr c) = inr (c.0, c.1, c.2, c.3, r.names.grows (w.name (member_of c.0 c.1)) c.0 (omega (arith, ap order one)) c.4, c.5)
 
-    first_place : v.ruling.phase ≡ 1 → (x k : ℕ) → IsWorkPlace s w.round v.ruling.phase w.name g.who x k → IsPlaceOf s w.name (g.who d) x k
+    first_place : v.ruling.phase ≡ FirstHalf → (x k : ℕ) → IsWorkPlace s w.round v.ruling.phase w.name g.who x k → IsPlaceOf s w.name (g.who d) x k
     first_place one x k h = ⊎_elim (λ t. t.1) (lifts one x k) h
 
-    second_place : v.ruling.phase ≡ 2 → (x k : ℕ) → IsWorkPlace s w.round v.ruling.phase w.name g.who x k → IsPlaceOf s w.name (g.who w.round) x k
-    second_place two x k h = ⊎_elim (λ t. let e = t.0 in absurd (omega arith)) (λ t. t) h
+    second_place : v.ruling.phase ≡ SecondHalf → (x k : ℕ) → IsWorkPlace s w.round v.ruling.phase w.name g.who x k → IsPlaceOf s w.name (g.who w.round) x k
+    second_place two x k h = ⊎_elim (λ t. let e = t.0 in absurd (cc)) (λ t. t) h
 
     -- the place of an element that the pass found, or a macro element's
     work_place : (x k : ℕ) → HasEntry (v.work j).found (x, k) ⊎ HasEntry (v.work j).stood (x, k) ⊎ ((x < s.elements) × (k ≡ s.top x)) → IsWorkPlace s w.round v.ruling.phase w.name g.who x k
@@ -138,7 +138,7 @@ module _ (s : Setup) (w : Words) (n : ℕ) (v : Views) (g : Ghost) (r : Rule s w
     abbrev pub learned : List ℕ → Walk → List (ℕ × ℕ) → List ℕ → List ℕ → List (ℕ × ℕ) → List (ℕ × ℕ) → Work
     learned went walk found known absent stood had = record (v.work j) { went = went; walk = walk; found = found; known = known; absent = absent; stood = stood; had = had }
 
-    relearns : (went : List ℕ) (walk : Walk) (found : List (ℕ × ℕ)) (known absent : List ℕ) (stood had : List (ℕ × ℕ)) → ((x i : ℕ) → HasEntry found (x, i) → (v.ruling.phase ≡ 1) × IsPlaceOf s w.name (g.who d) x i) → ((i : ℕ) → HasEntry known i → (v.ruling.phase ≡ 1) × ((b : ℕ) × (g.who d i ≡ b + 1)))
+    relearns : (went : List ℕ) (walk : Walk) (found : List (ℕ × ℕ)) (known absent : List ℕ) (stood had : List (ℕ × ℕ)) → ((x i : ℕ) → HasEntry found (x, i) → (v.ruling.phase ≡ FirstHalf) × IsPlaceOf s w.name (g.who d) x i) → ((i : ℕ) → HasEntry known i → (v.ruling.phase ≡ FirstHalf) × ((b : ℕ) × (g.who d i ≡ b + 1)))
         → ((i : ℕ) → HasEntry absent i → g.who w.round i ≡ 0) → ((x i : ℕ) → HasEntry stood (x, i) → IsPlaceOf s w.name (g.who w.round) x i) → ((b i : ℕ) → HasEntry had (b, i) → g.who w.round i ≡ b + 1)
         → ((b : ℕ) → HasEntry went b → ((t : Bool) × (x : ℕ) × (stands (g.life b) t ≡ x + 1)) × ((w.died b ≡ 0) ⊎ (w.round < w.died b))) → WorkWalks s w.round v.ruling.phase w.name w.hist w.born w.died g.life g.who went walk → ((x i b : ℕ) (t : Bool) → (walk ≡ At x i b t) ⊎ (walk ≡ Past x i b t) → w.name (member_of b t) ≡ i)
         → Rule s w n (record v { work = update v.work j (learned went walk found known absent stood had) }) g
@@ -151,7 +151,7 @@ module _ (s : Setup) (w : Words) (n : ℕ) (v : Views) (g : Ghost) (r : Rule s w
     u = v.work j
 
     -- a macro element stands at its place
-    pub notes_top : u.half ≡ 1 → (x : ℕ) → x < s.elements → Rule s w n (record v { work = update v.work j (learned u.went u.walk ((x, s.top x) ∷ u.found) u.known u.absent u.stood u.had) }) g
+    pub notes_top : u.half ≡ FirstHalf → (x : ℕ) → x < s.elements → Rule s w n (record v { work = update v.work j (learned u.went u.walk ((x, s.top x) ∷ u.found) u.known u.absent u.stood u.had) }) g
     notes_top first x l = relearns u.went u.walk ((x, s.top x) ∷ u.found) u.known u.absent u.stood u.had
         (λ y i m. ⊎_elim (λ f. let a : y ≡ x = ap (λ (z : ℕ × ℕ). z.0) f in (sym ((r.walks j).half kind) ∙ first, inl (subst (λ (z : ℕ). z < s.elements) (sym a) l, ap (λ (z : ℕ × ℕ). z.1) f ∙ ap s.top (sym a)))) ((r.works j).found y i) m)
         (r.works j).known (r.walks j).absent (r.walks j).stood (r.walks j).had (r.walks j).went (r.walks j).walk (r.walks j).sided
@@ -191,9 +191,9 @@ module _ (s : Setup) (w : Words) (n : ℕ) (v : Views) (g : Ghost) (r : Rule s w
     kid_at who b k t bis is c y i f = inr (b, t, c, ap (λ (z : ℕ × ℕ). z.0) f, bis, ap (λ (z : ℕ × ℕ). z.1) f ∙ ap (λ (z : ℕ). s.child z c) (sym is))
 
     -- BORN of the block in the first half: the name is bisected, and its children stand at the block
-    pub finds_first : u.half ≡ 1 → (x k b : ℕ) (t : Bool) → u.walk ≡ At x k b t → 0 < w.born b → Rule s w n (record v { work = update v.work j (learned u.went Still ((child_place s.elements b t false, s.child k false) ∷ (child_place s.elements b t true, s.child k true) ∷ u.found) (k ∷ u.known) u.absent u.stood u.had) }) g
+    pub finds_first : u.half ≡ FirstHalf → (x k b : ℕ) (t : Bool) → u.walk ≡ At x k b t → 0 < w.born b → Rule s w n (record v { work = update v.work j (learned u.went Still ((child_place s.elements b t false, s.child k false) ∷ (child_place s.elements b t true, s.child k true) ∷ u.found) (k ∷ u.known) u.absent u.stood u.had) }) g
     finds_first first x k b t at p =
-        let one : v.ruling.phase ≡ 1 = sym ((r.walks j).half kind) ∙ first in let h = at_block x k b t at p in let l = r.chains.borns b in let pl = placed (g.life b) t x h.1 in let calm = r.names.calm b pl.0 pl.1 ((λ z. omega arith), λ z. omega arith) pl.2 in
+        let one : v.ruling.phase ≡ FirstHalf = sym ((r.walks j).half kind) ∙ first in let h = at_block x k b t at p in let l = r.chains.borns b in let pl = placed (g.life b) t x h.1 in let calm = r.names.calm b pl.0 pl.1 ((λ z. cc), λ z. cc) pl.2 in
         let q = r.names.sound d next b t x h.1 (p, l, ⊎_elim inl (λ m. absurd (omega arith)) ((r.walks j).went b h.0).1) in
         let e = name_one s w n v g r d x (w.name (member_of b t)) k q.1 (first_place one x k h.2) in
         relearns u.went Still ((child_place s.elements b t false, s.child k false) ∷ (child_place s.elements b t true, s.child k true) ∷ u.found) (k ∷ u.known) u.absent u.stood u.had
@@ -202,10 +202,10 @@ module _ (s : Setup) (w : Words) (n : ℕ) (v : Views) (g : Ghost) (r : Rule s w
         (r.walks j).absent (r.walks j).stood (r.walks j).had (r.walks j).went tt (λ y i b t z. absurd (still_not y i b t z))
 
     -- BORN of a finished round: the last finished round has the name
-    pub finds_last : (x k b : ℕ) (t : Bool) → u.walk ≡ At x k b t → u.half ≡ 2 → 0 < w.born b → w.born b < u.round → Rule s w n (record v { work = update v.work j (learned u.went Still u.found u.known u.absent ((child_place s.elements b t false, s.child k false) ∷ (child_place s.elements b t true, s.child k true) ∷ u.stood) ((b, k) ∷ u.had)) }) g
+    pub finds_last : (x k b : ℕ) (t : Bool) → u.walk ≡ At x k b t → u.half ≡ SecondHalf → 0 < w.born b → w.born b < u.round → Rule s w n (record v { work = update v.work j (learned u.went Still u.found u.known u.absent ((child_place s.elements b t false, s.child k false) ∷ (child_place s.elements b t true, s.child k true) ∷ u.stood) ((b, k) ∷ u.had)) }) g
     finds_last x k b t at second p before =
         let same = in_round in let low : w.born b ≤ w.round = omega arith in
-        let two : v.ruling.phase ≡ 2 = sym ((r.walks j).half kind) ∙ second in let h = at_block x k b t at p in
+        let two : v.ruling.phase ≡ SecondHalf = sym ((r.walks j).half kind) ∙ second in let h = at_block x k b t at p in
         let q = r.names.sound w.round now b t x h.1 (p, low, ((r.walks j).went b h.0).1) in
         let e = name_one s w n v g r w.round x (w.name (member_of b t)) k q.1 (second_place two x k h.2) in
         relearns u.went Still u.found u.known u.absent ((child_place s.elements b t false, s.child k false) ∷ (child_place s.elements b t true, s.child k true) ∷ u.stood) ((b, k) ∷ u.had)
@@ -232,7 +232,7 @@ module _ (s : Setup) (w : Words) (n : ℕ) (v : Views) (g : Ghost) (r : Rule s w
 
     -- or the block is passed by
     -- and where it was born in the round in work, its children's places are known
-    pub passes : (x k b : ℕ) (t : Bool) → u.walk ≡ At x k b t → (w.born b ≡ 0) ⊎ (u.round ≤ w.born b) → (grown : List (ℕ × ℕ)) → (grown ≡ u.grown) ⊎ ((u.half ≡ 2) × (u.round ≤ w.born b) × (grown ≡ (child_place s.elements b t false, s.child k false) ∷ (child_place s.elements b t true, s.child k true) ∷ u.grown))
+    pub passes : (x k b : ℕ) (t : Bool) → u.walk ≡ At x k b t → (w.born b ≡ 0) ⊎ (u.round ≤ w.born b) → (grown : List (ℕ × ℕ)) → (grown ≡ u.grown) ⊎ ((u.half ≡ SecondHalf) × (u.round ≤ w.born b) × (grown ≡ (child_place s.elements b t false, s.child k false) ∷ (child_place s.elements b t true, s.child k true) ∷ u.grown))
         → Rule s w n (record v { work = update v.work j (record (v.work j) { walk = Past x k b t; grown = grown }) }) g
     passes x k b t at not_yet grown how = let same = in_round in let not : (w.born b ≡ 0) ⊎ (w.round < w.born b) = ⊎_elim inl (λ y. inr (omega arith)) not_yet in let h = subst (WorkWalks s w.round v.ruling.phase w.name w.hist w.born w.died g.life g.who u.went) at (r.walks j).walk in
         reworks j (record (v.work j) { walk = Past x k b t; grown = grown })
@@ -253,7 +253,7 @@ module _ (s : Setup) (w : Words) (n : ℕ) (v : Views) (g : Ghost) (r : Rule s w
         record {
           only = λ o. absurd (o kind);
           grown = λ y i m. ⊎_elim (λ e. (r.grows j).grown y i (subst (λ (l : List (ℕ × ℕ)). HasEntry l (y, i)) e m))
-              (λ e. let two : v.ruling.phase ≡ 2 = sym ((r.walks j).half kind) ∙ e.0 in ⊎_elim (λ f. (two, grown_at x k b t at e.1 false y i f)) (λ m2. ⊎_elim (λ f. (two, grown_at x k b t at e.1 true y i f)) (λ m3. (r.grows j).grown y i m3) m2) (subst (λ (l : List (ℕ × ℕ)). HasEntry l (y, i)) e.2 m)) how;
+              (λ e. let two : v.ruling.phase ≡ SecondHalf = sym ((r.walks j).half kind) ∙ e.0 in ⊎_elim (λ f. (two, grown_at x k b t at e.1 false y i f)) (λ m2. ⊎_elim (λ f. (two, grown_at x k b t at e.1 true y i f)) (λ m3. (r.grows j).grown y i m3) m2) (subst (λ (l : List (ℕ × ℕ)). HasEntry l (y, i)) e.2 m)) how;
         }
       where
         grown_at : (x k b : ℕ) (t : Bool) → u.walk ≡ At x k b t → u.round ≤ w.born b → (c : Bool) (y i : ℕ) → ◌≡◌ {A = ℕ × ℕ} (y, i) (child_place s.elements b t c, s.child k c) → IsGrown s w.round w.name w.born (g.who d) y i

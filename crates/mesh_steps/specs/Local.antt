@@ -6,7 +6,7 @@ use Rattle.mesh_words.specs.Functions.{update}
 use Rattle.mesh_words.specs.Places.{member_of, child_place}
 use Rattle.mesh_words.specs.Setup.{Setup}
 use Rattle.mesh_words.specs.Words.{Node, node, Words}
-use Rattle.mesh_words.specs.Views.{resting, first_half, second_half, closing, worker, reader, Views}
+use Rattle.mesh_words.specs.Views.{Resting, FirstHalf, SecondHalf, Closing, Worker, Reader, Views}
 use Rattle.mesh_steps.specs.States.{State}
 use Rattle.mesh_steps.specs.Steps.{Step}
 
@@ -30,19 +30,19 @@ FillsBlock s w c a = ((t : Bool) × (((l : Node) × (a ≡ record w { hist = upd
 
 -- a worker's pass sets a claim bit, draws for its claim, fills the block that it drew, leads the LINK words of its claim's places to it, sets its BORN, and DIED of a block that it found for a patch
 abbrev pub WorkerChanges : Setup → Words → Views → ℕ → Words → Type 0
-WorkerChanges s w v j a = (v.kind j ≡ worker) × (((x : ℕ) × (w.claimed x ≡ 0) × (a ≡ record w { claimed = update w.claimed x 1 })) ⊎ ((x m : ℕ) × HasEntry (v.claims j) (claim x m Claimed) × (a ≡ record w { cursor = w.cursor + 1 }))
+WorkerChanges s w v j a = (v.kind j ≡ Worker) × (((x : ℕ) × (w.claimed x ≡ 0) × (a ≡ record w { claimed = update w.claimed x 1 })) ⊎ ((x m : ℕ) × HasEntry (v.claims j) (claim x m Claimed) × (a ≡ record w { cursor = w.cursor + 1 }))
     ⊎ ((x m c : ℕ) × HasEntry (v.claims j) (claim x m (Drawn c)) × FillsBlock s w c a) ⊎ ((x m c : ℕ) × HasEntry (v.claims j) (claim x m (Drawn c)) × (a ≡ record w { head = update w.head x (node (c + 1) 0) }))
     ⊎ ((x y c : ℕ) × HasEntry (v.claims j) (claim x (y + 1) (Half c)) × (a ≡ record w { head = update w.head y (node (c + 1) 0) })) ⊎ ((x m c : ℕ) × HasEntry (v.claims j) (claim x m (Whole c)) × (a ≡ record w { born = update w.born c (v.work j).round }))
     ⊎ ((c k : ℕ) × HasEntry (v.work j).given (c, k) × (w.died c ≡ 0) × (a ≡ record w { died = update w.died c (v.work j).round })))
 
 -- a reader's pass takes a pin of the round that ROUND shows, and gives its own back
 abbrev pub ReaderChanges : Words → Views → ℕ → Words → Type 0
-ReaderChanges w v j a = (v.kind j ≡ reader) × ((((v.read j).pin ≡ 0) × (a ≡ record w { taken = w.taken + 1 })) ⊎ ((q : ℕ) × ((v.read j).pin ≡ q + 1) × (a ≡ record w { released = update w.released q (w.released q + 1) })))
+ReaderChanges w v j a = (v.kind j ≡ Reader) × ((((v.read j).pin ≡ 0) × (a ≡ record w { taken = w.taken + 1 })) ⊎ ((q : ℕ) × ((v.read j).pin ≡ q + 1) × (a ≡ record w { released = update w.released q (w.released q + 1) })))
 
 -- the owner, in neither half: it ends a closed round; between rounds it changes CURSOR, FREE, rows and HISTORY words; it takes claim bits away, changes LINK words, and sets BORN to 0, and DIED of a block that was taken back
 abbrev pub OwnerChanges : Words → Views → ℕ → Words → Type 0
-OwnerChanges w v j a = (j ≡ 0) × ((v.ruling.phase ≡ first_half → ⊥) × (v.ruling.phase ≡ second_half → ⊥)) × (((v.ruling.phase ≡ closing) × (a ≡ record w { round = w.round + 1; taken = 0 }))
-    ⊎ ((v.ruling.phase ≡ resting) × ((a ≡ record w { cursor = 0 }) ⊎ ((k : ℕ) × (a ≡ record w { free = k })) ⊎ ((i k : ℕ) × (a ≡ record w { row = update w.row i k })) ⊎ ((h : ℕ) × (l : Node) × (a ≡ record w { hist = update w.hist h l }))))
+OwnerChanges w v j a = (j ≡ 0) × ((v.ruling.phase ≡ FirstHalf → ⊥) × (v.ruling.phase ≡ SecondHalf → ⊥)) × (((v.ruling.phase ≡ Closing) × (a ≡ record w { round = w.round + 1; taken = 0 }))
+    ⊎ ((v.ruling.phase ≡ Resting) × ((a ≡ record w { cursor = 0 }) ⊎ ((k : ℕ) × (a ≡ record w { free = k })) ⊎ ((i k : ℕ) × (a ≡ record w { row = update w.row i k })) ⊎ ((h : ℕ) × (l : Node) × (a ≡ record w { hist = update w.hist h l }))))
     ⊎ ((x : ℕ) × (a ≡ record w { claimed = update w.claimed x 0 })) ⊎ ((x : ℕ) × (l : Node) × (a ≡ record w { head = update w.head x l })) ⊎ ((x : ℕ) × (l : Node) × (a ≡ record w { head = update w.head x l; claimed = update w.claimed x 0 }))
     ⊎ ((c : ℕ) × (a ≡ record w { born = update w.born c 0 })) ⊎ ((c : ℕ) × HasEntry v.ruling.undone c × (a ≡ record w { died = update w.died c (v.ruling.finished + 1) })))
 

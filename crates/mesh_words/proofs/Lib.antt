@@ -9,3 +9,4 @@ pub mod PlaceNumbers
 pub mod Writes
 pub mod CodedNames
 pub mod FreshWords
+pub mod SeatKinds

@@ -1,33 +1,48 @@
 -- What the seats of a table know: the parts of a view, each a function of the seat.
-use Rattle.std.specs.Prelude.{ℕ, Bool, List, []}
+use Rattle.std.specs.Prelude.{ℕ, ◌<◌, Bool, true, false, List, []}
 use Rattle.mesh_words.specs.Words.{Node}
 use Rattle.mesh_words.specs.Claims.{Claim}
 
--- the kinds of seat, the owner's the last; one that was joined has the kind 0
-abbrev pub worker : ℕ
-worker = 1
+-- The kinds of seat: a worker's, a reader's and the owner's, which is the seat 0; one that was never made, or that was joined, is vacant
+pub data Kind : Type 0 where
+  Vacant : Kind
+  Worker : Kind
+  Reader : Kind
+  Owner : Kind
 
-abbrev pub reader : ℕ
-reader = 2
+-- a worker's seat
+abbrev pub is_worker : Kind → Bool
+is_worker Vacant = false
+is_worker Worker = true
+is_worker Reader = false
+is_worker Owner = false
 
-abbrev pub ruler : ℕ
-ruler = 3
+-- a reader's seat
+abbrev pub is_reader : Kind → Bool
+is_reader Vacant = false
+is_reader Worker = false
+is_reader Reader = true
+is_reader Owner = false
 
--- the phases of a round: at rest before its first pass, the two halves, while it is closed, and while it is taken back
-abbrev pub resting : ℕ
-resting = 0
+-- The phases of a round: at rest before its first pass, its two halves, while it is closed, and while it is rolled back
+pub data Phase : Type 0 where
+  Resting : Phase
+  FirstHalf : Phase
+  SecondHalf : Phase
+  Closing : Phase
+  RollingBack : Phase
 
-abbrev pub first_half : ℕ
-first_half = 1
+-- where a phase stands in the order in which they are listed
+abbrev pub order : Phase → ℕ
+order Resting = 0
+order FirstHalf = 1
+order SecondHalf = 2
+order Closing = 3
+order RollingBack = 4
 
-abbrev pub second_half : ℕ
-second_half = 2
-
-abbrev pub closing : ℕ
-closing = 3
-
-abbrev pub taking_back : ℕ
-taking_back = 4
+-- the phase p stands before q in that order
+abbrev pub Precedes : Phase → Phase → Type 0
+Precedes p q = order p < order q
 
 -- a walk stands still, has gone to a block's member from the place of an element with this name, or has passed the block by
 pub data Walk : Type 0 where
@@ -47,8 +62,8 @@ no_plan = record { needs = []; target = []; retire = [] }
 
 -- what a worker's pass knows of the round in work
 pub record Work : Type 0 where
-  -- 1 in the first half of the round and 2 in the second
-  pub half : ℕ
+  -- the half of the round in which it works
+  pub half : Phase
   -- the round in work
   pub round : ℕ
   -- its number among the workers
@@ -121,8 +136,7 @@ unread = record { pin = 0; ready = 0; went = []; walk = Still; notes = []; place
 
 -- what the owner knows
 pub record Ruling : Type 0 where
-  -- 0 before the round's first pass, 1 in the first half, 2 in the second half, 3 while the round is closed, 4 while it is taken back
-  pub phase : ℕ
+  pub phase : Phase
   -- the last finished round
   pub finished : ℕ
   -- the forests of the finished rounds, from round 0 on, as lists of names
@@ -159,9 +173,9 @@ pub record Ruling : Type 0 where
   pub seen : ℕ
   pub quiet : ℕ
 
--- The views. The kinds of seat: 0 of one that was joined, 1 a worker's, 2 a reader's, 3 the owner's, whose seat is 0
+-- the views
 pub record Views : Type 0 where
-  pub kind : ℕ → ℕ
+  pub kind : ℕ → Kind
   pub claims : ℕ → List Claim
   pub work : ℕ → Work
   pub sure : ℕ → Sure

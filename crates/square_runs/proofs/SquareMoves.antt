@@ -4,7 +4,7 @@ use Rattle.mesh_words.specs.Claims.{Progress, Claimed, Failed, Drawn, claim, mov
 use Rattle.mesh_words.specs.Functions.{update}
 use Rattle.mesh_words.specs.Places.{child_place}
 use Rattle.mesh_words.specs.Setup.{Setup}
-use Rattle.mesh_words.specs.Views.{Views, Plan, Still, At, Past, unread, unsure}
+use Rattle.mesh_words.specs.Views.{Views, Plan, Still, At, Past, unread, unsure, Vacant, Resting, FirstHalf, SecondHalf, Closing, RollingBack}
 use Rattle.mesh_words.specs.Words.{Node}
 use Rattle.mesh_state.specs.Fresh.{idle, blank}
 use Rattle.mesh_steps.specs.OwnerSteps.{joined_work}
@@ -12,22 +12,22 @@ use Rattle.mesh_steps.specs.SweepSteps.{noted_at}
 
 -- the owner's: a round begins, is planned, closed, advanced, refused and restored
 abbrev pub begun : Plan → Views → Views
-begun plan v = record v { work = update v.work 0 idle; ruling = record v.ruling { phase = 1; cursor = 0; plan = plan } }
+begun plan v = record v { work = update v.work 0 idle; ruling = record v.ruling { phase = FirstHalf; cursor = 0; plan = plan } }
 
 abbrev pub planned : List ℕ → Views → Views
-planned retire v = record v { work = update v.work 0 idle; ruling = record v.ruling { phase = 2; plan = record v.ruling.plan { retire = retire } } }
+planned retire v = record v { work = update v.work 0 idle; ruling = record v.ruling { phase = SecondHalf; plan = record v.ruling.plan { retire = retire } } }
 
 abbrev pub closed : Views → Views
-closed v = record v { work = update v.work 0 idle; ruling = record v.ruling { phase = 3; retired = (v.work 0).retired ++ v.ruling.retired } }
+closed v = record v { work = update v.work 0 idle; ruling = record v.ruling { phase = Closing; retired = (v.work 0).retired ++ v.ruling.retired } }
 
 abbrev pub advanced : List ℕ → ℕ → ℕ → Views → Views
-advanced forest q taken v = record v { work = update v.work 0 idle; ruling = record v.ruling { phase = 0; finished = v.ruling.finished + 1; early = v.ruling.readers; history = v.ruling.history ++ forest ∷ []; left = (q, taken) ∷ v.ruling.left; retired = []; kept = ((v.work 0).retired ++ v.ruling.retired) ++ v.ruling.kept; seen = 0; quiet = 0 } }
+advanced forest q taken v = record v { work = update v.work 0 idle; ruling = record v.ruling { phase = Resting; finished = v.ruling.finished + 1; early = v.ruling.readers; history = v.ruling.history ++ forest ∷ []; left = (q, taken) ∷ v.ruling.left; retired = []; kept = ((v.work 0).retired ++ v.ruling.retired) ++ v.ruling.kept; seen = 0; quiet = 0 } }
 
 abbrev pub refused : Views → Views
-refused v = record v { work = update v.work 0 idle; ruling = record v.ruling { phase = 4 } }
+refused v = record v { work = update v.work 0 idle; ruling = record v.ruling { phase = RollingBack } }
 
 abbrev pub restored : Views → Views
-restored v = record v { work = update v.work 0 idle; ruling = record v.ruling { phase = 0 } }
+restored v = record v { work = update v.work 0 idle; ruling = record v.ruling { phase = Resting } }
 
 -- it makes the passes n and joins a worker's, after which so many are out
 abbrev pub worker_made : ℕ → ℕ → Views → Views
@@ -37,7 +37,7 @@ abbrev pub reader_made : ℕ → Views → Views
 reader_made n v = record v { kind = update v.kind n 2; claims = update v.claims n []; work = update v.work n (record idle { half = v.ruling.phase; round = v.ruling.finished + 1; number = 1; plan = v.ruling.plan }); sure = update (update v.sure 0 (v.sure 0)) n unsure; read = update v.read n (record (blank []) { told = v.ruling.history; seen = v.ruling.finished; made = v.ruling.finished }); ruling = record v.ruling { readers = v.ruling.readers + 1 } }
 
 abbrev pub joined : ℕ → ℕ → Views → Views
-joined j workers v = record v { kind = update v.kind j 0; claims = update (update v.claims 0 (v.claims 0 ++ v.claims j)) j []; work = update (update v.work 0 (joined_work (v.work 0) (v.work j))) j idle; sure = update (update v.sure 0 unsure) j unsure; read = update v.read j unread; ruling = record v.ruling { workers = workers; lone = 0 } }
+joined j workers v = record v { kind = update v.kind j Vacant; claims = update (update v.claims 0 (v.claims 0 ++ v.claims j)) j []; work = update (update v.work 0 (joined_work (v.work 0) (v.work j))) j idle; sure = update (update v.sure 0 unsure) j unsure; read = update v.read j unread; ruling = record v.ruling { workers = workers; lone = 0 } }
 
 -- and notes numbers, blocks and rounds
 abbrev pub cursor_seen : ℕ → Views → Views

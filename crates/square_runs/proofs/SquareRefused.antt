@@ -9,7 +9,7 @@ use Rattle.square_runs.specs.SquareRun.{SquareRefused, unpublished, unlinked1, u
 use Rattle.square_runs.proofs.SquareLists.{first_plan, first_aim}
 use Rattle.square_runs.proofs.SquareNotes.{lt04, en, kids_noted, lt01, lt02, lt12, old_words, past_four}
 use Rattle.mesh_words.specs.Functions.{update}
-use Rattle.mesh_words.specs.Views.{no_plan, Views, Still, unsure, unread}
+use Rattle.mesh_words.specs.Views.{no_plan, Views, Still, unsure, unread, Resting, FirstHalf, RollingBack}
 use Rattle.mesh_steps.specs.OwnerSteps.{LoadReleased, NoteQuiet, RefuseStep, RestoreStep}
 use Rattle.mesh_steps.specs.SweepSteps.{UnbearStep, UnlinkSecond, UnlinkFirst, BuryStep}
 use Rattle.mesh_steps.specs.States.{State, state}
@@ -19,7 +19,7 @@ abbrev pub u0 : Views
 u0 = fresh_views 1
 
 abbrev pub u1 : Views
-u1 = record u0 { work = update u0.work 0 idle; ruling = record u0.ruling { phase = 1; cursor = 0; plan = first_plan } }
+u1 = record u0 { work = update u0.work 0 idle; ruling = record u0.ruling { phase = FirstHalf; cursor = 0; plan = first_plan } }
 
 s1 : Step square_setup (state (fresh_words 1) 1 u0) (state (fresh_words 1) 1 u1)
 s1 = ByBeginStep (first_plan, [], refl, first_aim, lt04, refl, refl, refl)
@@ -151,13 +151,13 @@ s22 : Step square_setup (state linked1 2 u21) (state published 2 u22)
 s22 = ByPublishStep (1, 0, 2, 0, (inl refl), refl, (name0 ∷ []), (λ k h. ⊎_elim (λ e. inr (0, inl refl, inr (inl (ap (λ (i : ℕ). (0, i)) e)))) (λ f. absurd f) h), refl)
 
 abbrev pub u23 : Views
-u23 = record u22 { kind = update u22.kind 1 0; claims = update (update u22.claims 0 (u22.claims 0 ++ u22.claims 1)) 1 []; work = update (update u22.work 0 record { half = 0; round = 0; number = 0; plan = no_plan; drawn = (u22.work 0).drawn ++ (u22.work 1).drawn; found = (u22.work 0).found ++ (u22.work 1).found; known = (u22.work 0).known ++ (u22.work 1).known; open_ = (u22.work 0).open_ ++ (u22.work 1).open_; given = (u22.work 0).given ++ (u22.work 1).given; absent = (u22.work 0).absent ++ (u22.work 1).absent; stood = (u22.work 0).stood ++ (u22.work 1).stood; had = (u22.work 0).had ++ (u22.work 1).had; grown = (u22.work 0).grown ++ (u22.work 1).grown; retired = (u22.work 0).retired ++ (u22.work 1).retired; went = []; walk = Still }) 1 idle; sure = update (update u22.sure 0 unsure) 1 unsure; read = update u22.read 1 unread; ruling = record u22.ruling { workers = 0; lone = 0 } }
+u23 = record u22 { kind = update u22.kind 1 0; claims = update (update u22.claims 0 (u22.claims 0 ++ u22.claims 1)) 1 []; work = update (update u22.work 0 record { half = Resting; round = 0; number = 0; plan = no_plan; drawn = (u22.work 0).drawn ++ (u22.work 1).drawn; found = (u22.work 0).found ++ (u22.work 1).found; known = (u22.work 0).known ++ (u22.work 1).known; open_ = (u22.work 0).open_ ++ (u22.work 1).open_; given = (u22.work 0).given ++ (u22.work 1).given; absent = (u22.work 0).absent ++ (u22.work 1).absent; stood = (u22.work 0).stood ++ (u22.work 1).stood; had = (u22.work 0).had ++ (u22.work 1).had; grown = (u22.work 0).grown ++ (u22.work 1).grown; retired = (u22.work 0).retired ++ (u22.work 1).retired; went = []; walk = Still }) 1 idle; sure = update (update u22.sure 0 unsure) 1 unsure; read = update u22.read 1 unread; ruling = record u22.ruling { workers = 0; lone = 0 } }
 
 s23 : Step square_setup (state published 2 u22) (state published 2 u23)
 s23 = ByJoinWorker (1, (en 1 0 lt01), refl, 0, refl, refl)
 
 abbrev pub u24 : Views
-u24 = record u23 { work = update u23.work 0 idle; ruling = record u23.ruling { phase = 4 } }
+u24 = record u23 { work = update u23.work 0 idle; ruling = record u23.ruling { phase = RollingBack } }
 
 pub k24 : RefuseStep square_setup published 2 u23 (state published 2 u24)
 k24 = (refl, refl, refl)
@@ -214,7 +214,7 @@ s30 : Step square_setup (state unlinked0 2 u29) (state buried 2 u30)
 s30 = ByBuryStep k30
 
 abbrev pub u31 : Views
-u31 = record u30 { work = update u30.work 0 idle; ruling = record u30.ruling { phase = 0 } }
+u31 = record u30 { work = update u30.work 0 idle; ruling = record u30.ruling { phase = Resting } }
 
 pub k31 : RestoreStep square_setup buried 2 u30 (state buried 2 u31)
 k31 = (refl, refl, refl)

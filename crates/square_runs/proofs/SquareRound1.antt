@@ -8,7 +8,7 @@ use Rattle.mesh_words.specs.Places.{member_of, child_place}
 use Rattle.mesh_words.specs.Words.{node}
 use Rattle.mesh_words.specs.Claims.{moved_on, ended}
 use Rattle.mesh_words.specs.Functions.{update}
-use Rattle.mesh_words.specs.Views.{no_plan, Views, Still, unsure, unread}
+use Rattle.mesh_words.specs.Views.{no_plan, Views, Still, unsure, unread, Resting, FirstHalf, SecondHalf, Closing}
 use Rattle.mesh_state.specs.Ghosts.{Open, Held, Loose, Placed, Ghost}
 use Rattle.mesh_state.specs.Fresh.{fresh_words, fresh_views, fresh_ghost, idle, blank}
 use Rattle.mesh_state.proofs.Bisections.{marks}
@@ -40,7 +40,7 @@ pub r0 : Rule square_setup (fresh_words 1) 1 v0 g0
 r0 = fresh_is_lawful square (across_of square) (squares_fit.0).2 record { rounds = 4; elements = 2; pool = 1 } 1
 
 abbrev pub v1 : Views
-v1 = record v0 { work = update v0.work 0 idle; ruling = record v0.ruling { phase = 1; cursor = 0; plan = first_plan } }
+v1 = record v0 { work = update v0.work 0 idle; ruling = record v0.ruling { phase = FirstHalf; cursor = 0; plan = first_plan } }
 
 abbrev pub g1 : Ghost
 g1 = record g0 { who = g0.who }
@@ -190,7 +190,7 @@ pub r22 : Rule square_setup published 2 v22 g22
 r22 = publishes square_setup linked1 2 v21 g21 r21 1 0 2 0 (inl refl) refl (name0 ∷ []) (λ k h. ⊎_elim (λ e. inr (0, inl refl, inr (inl (ap (λ (i : ℕ). (0, i)) e)))) (λ f. absurd f) h)
 
 abbrev pub v23 : Views
-v23 = record v22 { kind = update v22.kind 1 0; claims = update (update v22.claims 0 (v22.claims 0 ++ v22.claims 1)) 1 []; work = update (update v22.work 0 record { half = 0; round = 0; number = 0; plan = no_plan; drawn = (v22.work 0).drawn ++ (v22.work 1).drawn; found = (v22.work 0).found ++ (v22.work 1).found; known = (v22.work 0).known ++ (v22.work 1).known; open_ = (v22.work 0).open_ ++ (v22.work 1).open_; given = (v22.work 0).given ++ (v22.work 1).given; absent = (v22.work 0).absent ++ (v22.work 1).absent; stood = (v22.work 0).stood ++ (v22.work 1).stood; had = (v22.work 0).had ++ (v22.work 1).had; grown = (v22.work 0).grown ++ (v22.work 1).grown; retired = (v22.work 0).retired ++ (v22.work 1).retired; went = []; walk = Still }) 1 idle; sure = update (update v22.sure 0 unsure) 1 unsure; read = update v22.read 1 unread; ruling = record v22.ruling { workers = 0; lone = 0 } }
+v23 = record v22 { kind = update v22.kind 1 0; claims = update (update v22.claims 0 (v22.claims 0 ++ v22.claims 1)) 1 []; work = update (update v22.work 0 record { half = Resting; round = 0; number = 0; plan = no_plan; drawn = (v22.work 0).drawn ++ (v22.work 1).drawn; found = (v22.work 0).found ++ (v22.work 1).found; known = (v22.work 0).known ++ (v22.work 1).known; open_ = (v22.work 0).open_ ++ (v22.work 1).open_; given = (v22.work 0).given ++ (v22.work 1).given; absent = (v22.work 0).absent ++ (v22.work 1).absent; stood = (v22.work 0).stood ++ (v22.work 1).stood; had = (v22.work 0).had ++ (v22.work 1).had; grown = (v22.work 0).grown ++ (v22.work 1).grown; retired = (v22.work 0).retired ++ (v22.work 1).retired; went = []; walk = Still }) 1 idle; sure = update (update v22.sure 0 unsure) 1 unsure; read = update v22.read 1 unread; ruling = record v22.ruling { workers = 0; lone = 0 } }
 
 abbrev pub g23 : Ghost
 g23 = record g22 { stage = λ x. moved 1 (g22.stage x) }
@@ -199,7 +199,7 @@ pub r23 : Rule square_setup published 2 v23 g23
 r23 = joins square_setup published 2 v22 g22 r22 1 (en 1 0 lt01) refl 0 refl
 
 abbrev pub v24 : Views
-v24 = record v23 { work = update v23.work 0 idle; ruling = record v23.ruling { phase = 2; plan = record v23.ruling.plan { retire = [] } } }
+v24 = record v23 { work = update v23.work 0 idle; ruling = record v23.ruling { phase = SecondHalf; plan = record v23.ruling.plan { retire = [] } } }
 
 abbrev pub g24 : Ghost
 g24 = record g23 { who = g23.who }
@@ -208,7 +208,7 @@ pub r24 : Rule square_setup published 2 v24 g24
 r24 = plans square_setup published 2 v23 g23 r23 [] (λ i h. h) refl refl living_claim
 
 abbrev pub v25 : Views
-v25 = record v24 { work = update v24.work 0 idle; ruling = record v24.ruling { phase = 3; retired = (v24.work 0).retired ++ v24.ruling.retired } }
+v25 = record v24 { work = update v24.work 0 idle; ruling = record v24.ruling { phase = Closing; retired = (v24.work 0).retired ++ v24.ruling.retired } }
 
 abbrev pub g25 : Ghost
 g25 = record g24 { who = g24.who }
@@ -232,7 +232,7 @@ pub r27 : Rule square_setup unclaimed 2 v27 g27
 r27 = unclaims square_setup published 2 v26 g25 r26 three not_less 0 2 (Living 0) (inl refl) only_zero not_living
 
 abbrev pub v28 : Views
-v28 = record v27 { work = update v27.work 0 idle; ruling = record v27.ruling { phase = 0; finished = v27.ruling.finished + 1; early = v27.ruling.readers; history = v27.ruling.history ++ both ∷ []; left = (unclaimed.round, unclaimed.taken) ∷ v27.ruling.left; retired = []; kept = ((v27.work 0).retired ++ v27.ruling.retired) ++ v27.ruling.kept; seen = 0; quiet = 0 } }
+v28 = record v27 { work = update v27.work 0 idle; ruling = record v27.ruling { phase = Resting; finished = v27.ruling.finished + 1; early = v27.ruling.readers; history = v27.ruling.history ++ both ∷ []; left = (unclaimed.round, unclaimed.taken) ∷ v27.ruling.left; retired = []; kept = ((v27.work 0).retired ++ v27.ruling.retired) ++ v27.ruling.kept; seen = 0; quiet = 0 } }
 
 abbrev pub g28 : Ghost
 g28 = record g27 { who = update g27.who (unclaimed.round + 1 + 1) (g27.who (unclaimed.round + 1)) }

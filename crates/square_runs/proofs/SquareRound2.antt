@@ -3,7 +3,7 @@ use Rattle.std.proofs.Common.{◌≡◌, ℕ, ◌+◌, ◌++◌, Bool, true, fal
 use Rattle.mesh_words.specs.Places.{child_place}
 use Rattle.mesh_words.specs.Words.{node}
 use Rattle.mesh_words.specs.Functions.{update}
-use Rattle.mesh_words.specs.Views.{no_plan, Views, Still, At, unsure, unread}
+use Rattle.mesh_words.specs.Views.{no_plan, Views, Still, At, unsure, unread, Resting, FirstHalf, SecondHalf, Closing}
 use Rattle.mesh_state.specs.Ghosts.{Ghost}
 use Rattle.mesh_state.specs.Fresh.{idle, blank}
 use Rattle.mesh_state.specs.Rule.{Rule}
@@ -81,7 +81,7 @@ pub r37 : Rule square_setup pinned 3 v37 g37
 r37 = pins square_setup rewound 3 v36 g28 r36 2 refl refl refl
 
 abbrev pub v38 : Views
-v38 = record v37 { work = update v37.work 0 idle; ruling = record v37.ruling { phase = 1; cursor = 0; plan = second_plan } }
+v38 = record v37 { work = update v37.work 0 idle; ruling = record v37.ruling { phase = FirstHalf; cursor = 0; plan = second_plan } }
 
 abbrev pub g38 : Ghost
 g38 = record g37 { who = g37.who }
@@ -90,7 +90,7 @@ pub r38 : Rule square_setup pinned 3 v38 g38
 r38 = begins square_setup pinned 3 v37 g37 r37 second_plan both refl second_aim lt14 refl refl
 
 abbrev pub v39 : Views
-v39 = record v38 { work = update v38.work 0 idle; ruling = record v38.ruling { phase = 2; plan = record v38.ruling.plan { retire = name0 ∷ [] } } }
+v39 = record v38 { work = update v38.work 0 idle; ruling = record v38.ruling { phase = SecondHalf; plan = record v38.ruling.plan { retire = name0 ∷ [] } } }
 
 abbrev pub g39 : Ghost
 g39 = record g38 { who = g38.who }
@@ -192,7 +192,7 @@ pub held1 : who_left 1 name1 ≡ 1
 held1 = (r50.walks 3).had 0 name1 (inl refl)
 
 abbrev pub v51 : Views
-v51 = record v50 { kind = update v50.kind 3 0; claims = update (update v50.claims 0 (v50.claims 0 ++ v50.claims 3)) 3 []; work = update (update v50.work 0 record { half = 0; round = 0; number = 0; plan = no_plan; drawn = (v50.work 0).drawn ++ (v50.work 3).drawn; found = (v50.work 0).found ++ (v50.work 3).found; known = (v50.work 0).known ++ (v50.work 3).known; open_ = (v50.work 0).open_ ++ (v50.work 3).open_; given = (v50.work 0).given ++ (v50.work 3).given; absent = (v50.work 0).absent ++ (v50.work 3).absent; stood = (v50.work 0).stood ++ (v50.work 3).stood; had = (v50.work 0).had ++ (v50.work 3).had; grown = (v50.work 0).grown ++ (v50.work 3).grown; retired = (v50.work 0).retired ++ (v50.work 3).retired; went = []; walk = Still }) 3 idle; sure = update (update v50.sure 0 unsure) 3 unsure; read = update v50.read 3 unread; ruling = record v50.ruling { workers = 0; lone = 0 } }
+v51 = record v50 { kind = update v50.kind 3 0; claims = update (update v50.claims 0 (v50.claims 0 ++ v50.claims 3)) 3 []; work = update (update v50.work 0 record { half = Resting; round = 0; number = 0; plan = no_plan; drawn = (v50.work 0).drawn ++ (v50.work 3).drawn; found = (v50.work 0).found ++ (v50.work 3).found; known = (v50.work 0).known ++ (v50.work 3).known; open_ = (v50.work 0).open_ ++ (v50.work 3).open_; given = (v50.work 0).given ++ (v50.work 3).given; absent = (v50.work 0).absent ++ (v50.work 3).absent; stood = (v50.work 0).stood ++ (v50.work 3).stood; had = (v50.work 0).had ++ (v50.work 3).had; grown = (v50.work 0).grown ++ (v50.work 3).grown; retired = (v50.work 0).retired ++ (v50.work 3).retired; went = []; walk = Still }) 3 idle; sure = update (update v50.sure 0 unsure) 3 unsure; read = update v50.read 3 unread; ruling = record v50.ruling { workers = 0; lone = 0 } }
 
 abbrev pub g51 : Ghost
 g51 = record g50 { stage = λ x. moved 3 (g50.stage x) }
@@ -201,7 +201,7 @@ pub r51 : Rule square_setup retired 4 v51 g51
 r51 = joins square_setup retired 4 v50 g50 r50 3 (en 3 0 lt03) refl 0 refl
 
 abbrev pub v52 : Views
-v52 = record v51 { work = update v51.work 0 idle; ruling = record v51.ruling { phase = 3; retired = (v51.work 0).retired ++ v51.ruling.retired } }
+v52 = record v51 { work = update v51.work 0 idle; ruling = record v51.ruling { phase = Closing; retired = (v51.work 0).retired ++ v51.ruling.retired } }
 
 abbrev pub g52 : Ghost
 g52 = record g51 { who = g51.who }
@@ -240,7 +240,7 @@ pub r57 : Rule square_setup stamped1 4 v57 g52
 r57 = stamps_head square_setup stamped0 4 v56 g52 r56 three refl 1 0 0 2 true (inl refl) (λ h. h) refl (inr (ne 0 1 lt01, inl (refl, refl))) (inl (refl, refl))
 
 abbrev pub v58 : Views
-v58 = record v57 { work = update v57.work 0 idle; ruling = record v57.ruling { phase = 0; finished = v57.ruling.finished + 1; early = v57.ruling.readers; history = v57.ruling.history ++ [] ∷ []; left = (stamped1.round, stamped1.taken) ∷ v57.ruling.left; retired = []; kept = ((v57.work 0).retired ++ v57.ruling.retired) ++ v57.ruling.kept; seen = 0; quiet = 0 } }
+v58 = record v57 { work = update v57.work 0 idle; ruling = record v57.ruling { phase = Resting; finished = v57.ruling.finished + 1; early = v57.ruling.readers; history = v57.ruling.history ++ [] ∷ []; left = (stamped1.round, stamped1.taken) ∷ v57.ruling.left; retired = []; kept = ((v57.work 0).retired ++ v57.ruling.retired) ++ v57.ruling.kept; seen = 0; quiet = 0 } }
 
 abbrev pub g58 : Ghost
 g58 = record g52 { who = update g52.who (stamped1.round + 1 + 1) (g52.who (stamped1.round + 1)) }

@@ -4,7 +4,7 @@ use Rattle.mesh_words.specs.Claims.{Claimed, Drawn, claim}
 use Rattle.mesh_words.specs.Words.{node}
 use Rattle.mesh_words.specs.Claims.{moved_on}
 use Rattle.mesh_words.specs.Functions.{update}
-use Rattle.mesh_words.specs.Views.{Views, Still, unsure}
+use Rattle.mesh_words.specs.Views.{Views, Still, unsure, FirstHalf}
 use Rattle.mesh_state.specs.Ghosts.{Held, Free, Loose, Ghost}
 use Rattle.mesh_state.specs.Fresh.{idle, blank}
 use Rattle.mesh_state.specs.Rule.{Rule}
@@ -125,7 +125,7 @@ pub r74 : Rule square_setup opened 4 v74 g70
 r74 = loads_cursor square_setup opened 4 v73 g70 r73 (ne 0 1 lt01)
 
 abbrev pub v75 : Views
-v75 = record v74 { work = update v74.work 0 idle; ruling = record v74.ruling { phase = 1; cursor = 0; plan = first_plan } }
+v75 = record v74 { work = update v74.work 0 idle; ruling = record v74.ruling { phase = FirstHalf; cursor = 0; plan = first_plan } }
 
 abbrev pub g75 : Ghost
 g75 = record g70 { who = g70.who }

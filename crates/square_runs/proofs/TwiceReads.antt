@@ -5,7 +5,7 @@ use Rattle.mesh_names.specs.Validity.{across_of}
 use Rattle.mesh_names.proofs.Squares.{squares_fit}
 use Rattle.mesh_words.specs.Entries.{HasEntry, EntryAt}
 use Rattle.mesh_words.specs.NameWords.{name_code}
-use Rattle.mesh_words.specs.Views.{Views}
+use Rattle.mesh_words.specs.Views.{Views, Closing}
 use Rattle.mesh_words.specs.Words.{Words}
 use Rattle.mesh_state.specs.Bisections.{IsKept}
 use Rattle.mesh_state.specs.Lists.{IsListed}
@@ -24,7 +24,7 @@ pub reads_kept : (w : Words) (n : ℕ) (v : Views) → RunsTo 2 (state w n v) �
 reads_kept w n v run q kept names at = reads_history square (across_of square) (record { rounds = 4; elements = 2; pool = 2 }) 1 (squares_fit.0).2 w n v (runs_lawful 2 (state w n v) run) q kept names at
 
 -- while the round is closed the round in work has the names of the target, but for the patches of the retire list
-pub reads_closed : (w : Words) (n : ℕ) (v : Views) → RunsTo 2 (state w n v) → v.ruling.phase ≡ 3 → (names : List ℕ) → ((i : ℕ) → HasEntry names i → HasEntry v.ruling.plan.target i × (IsListed pair_setup v.ruling.plan.retire i → ⊥))
+pub reads_closed : (w : Words) (n : ℕ) (v : Views) → RunsTo 2 (state w n v) → v.ruling.phase ≡ Closing → (names : List ℕ) → ((i : ℕ) → HasEntry names i → HasEntry v.ruling.plan.target i × (IsListed pair_setup v.ruling.plan.retire i → ⊥))
     → ((i : ℕ) → HasEntry v.ruling.plan.target i → (IsListed pair_setup v.ruling.plan.retire i → ⊥) → HasEntry names i) → ReadsNames w (w.round + 1) names
 reads_closed w n v run closed names of all name = let t = reads_closing square (across_of square) (record { rounds = 4; elements = 2; pool = 2 }) 1 (squares_fit.0).2 w n v (runs_lawful 2 (state w n v) run) closed name in (
   (λ h. let u = t.0 h in (u.0, all (name_code name) u.1 u.2)),

@@ -3,14 +3,14 @@ use Rattle.std.specs.Prelude.{◌≡◌, ℕ, List, [], ◌∷◌}
 use Rattle.mesh_names.specs.Squares.{square}
 use Rattle.mesh_names.specs.Validity.{across_of}
 use Rattle.mesh_words.specs.Setup.{Setup, setup_of}
-use Rattle.mesh_words.specs.Views.{worker, Views}
+use Rattle.mesh_words.specs.Views.{Worker, Views}
 use Rattle.mesh_state.specs.Fresh.{fresh_words, fresh_views}
 use Rattle.mesh_steps.specs.WorkSteps.{ClaimStep, DrawStep, FullStep, FillHistory, FillName, FillDied, FillChild, LinkFirst, LinkSecond, PublishStep, RetireStep, RetiredStep}
 use Rattle.mesh_steps.specs.WalkSteps.{WorkTop, WorkEnds, WorkGoes, WorkFinds, WorkHad, WorkBoth, WorkPasses, WorkGives, WorkDead, WorkOpen, LoadHead, LoadHistory, LoadBorn, LoadDied, LoadName, LoadRow}
 use Rattle.mesh_steps.specs.PinSteps.{LoadRound, PinStep, UnpinStep, ReadEnds, ReadGoes, ReadFinds, ReadPasses}
 use Rattle.mesh_steps.specs.OwnerSteps.{NoteClear, LoadCursor, LoadFree, NoteFree, LoadReleased, NoteQuiet, NotePlaces, SplitStep, JoinWorker, JoinReader, BeginStep, PlanStep, CloseStep, RefuseStep, RestoreStep, AdvanceStep}
 use Rattle.mesh_steps.specs.SweepSteps.{StampStep, UnclaimStep, CutLink, CutHistory, FreeStep, ZeroStep, StopStep, RewindStep, RowStep, OpenStep, UnbearStep, UnlinkSecond, UnlinkFirst, BuryStep, UndrawStep}
-use Rattle.mesh_steps.specs.States.{Kind, State, state, IsLawful}
+use Rattle.mesh_steps.specs.States.{StepKind, State, state, IsLawful}
 use Rattle.mesh_steps.specs.Steps.{Run, Step}
 use Rattle.mesh_steps.specs.Local.{ChangesWord, MayChange}
 use Rattle.square_runs.specs.SquareRun.{claimed, drawn}
@@ -36,7 +36,7 @@ abbrev pub RunsLawful : Type 0
 RunsLawful = (pool : ℕ) (a : State) → RunsTo pool a → IsLawful (square_with pool) a
 
 -- a run leads to a state from which a step of this kind is taken, which is one of the steps
-abbrev pub Occurs : ℕ → Kind → Type 0
+abbrev pub Occurs : ℕ → StepKind → Type 0
 Occurs pool K = (a b : State) × RunsTo pool a × K (square_with pool) a.words a.seats a.views b × Step (square_with pool) a b
 
 -- the law that a claim and a draw are not one change of a word
@@ -45,7 +45,7 @@ TwoWords = ChangesWord (fresh_words 1) drawn → ⊥
 
 -- the law that the first claim of a run is a change that a worker's pass alone may make
 abbrev pub WorkersClaim : Type 0
-WorkersClaim = (v : Views) (j : ℕ) → MayChange (square_with 1) (fresh_words 1) v j claimed → v.kind j ≡ worker
+WorkersClaim = (v : Views) (j : ℕ) → MayChange (square_with 1) (fresh_words 1) v j claimed → v.kind j ≡ Worker
 
 -- the law that each kind of step occurs, with one block or with two
 pub record KindsOccur : Type 0 where
