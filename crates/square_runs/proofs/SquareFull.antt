@@ -1,7 +1,7 @@
 -- A run on the square in which the pool is full when the patch is claimed, and the round is refused.
 use Rattle.std.proofs.Common.{◌≡◌, ℕ, ◌+◌, ◌<◌, ◌≤◌, List, [], ◌∷◌, refl, subst, inl, inr, arith}
 use Rattle.mesh_words.specs.Claims.{Progress, Claimed, Failed, Drawn, Half, Whole, Living}
-use Rattle.mesh_words.specs.Views.{Views}
+use Rattle.mesh_words.specs.Views.{Views, Worker, FirstHalf, SecondHalf, RollingBack}
 use Rattle.mesh_words.specs.Words.{node}
 use Rattle.mesh_state.specs.Fresh.{fresh_words}
 use Rattle.mesh_steps.specs.WorkSteps.{FullStep}
@@ -12,7 +12,7 @@ use Rattle.square_runs.specs.SquareRun.{square_setup, name0, name1, claimed, dra
 use Rattle.square_runs.specs.SquareFull.{claimed_full, drawn_none, unclaimed_full, SquareFull}
 use Rattle.square_runs.proofs.SquareLists.{first_plan, first_aim}
 use Rattle.square_runs.proofs.SquareMoves.{begun, refused, restored, worker_made, joined, cursor_seen, claims_at, draws_none, unclaims, found_at, finds_absent}
-use Rattle.square_runs.proofs.SquareNotes.{lt01, lt02, lt12, lt24, ne, en}
+use Rattle.square_runs.proofs.SquareNotes.{lt01, lt02, lt12, lt24, ne, en, no_half}
 use Rattle.square_runs.proofs.SquarePair.{lt23}
 use Rattle.square_runs.proofs.SquareRound1.{v1, v2, v3, v4, v5, v6, v7, v8, v9, v10, v11, v12, v13, v14, v15, v16, v17, v18, v19, v20, v21, v22, v23, v24, v25, v26, v27, v28}
 use Rattle.square_runs.proofs.SquareSteps1.{s1, s2, s3, s4, s5, s6, s7, s8, s9, s10, s11, s12, s13, s14, s15, s16, s17, s18, s19, s20, s21, s22, s23, s24, s25, s26, s27, s28}
@@ -27,8 +27,8 @@ is_failed (Half b) = ⊥
 is_failed (Whole b) = ⊥
 is_failed (Living b) = ⊥
 
-far : (◌≡◌ {A = ℕ} 4 1 → ⊥) × (◌≡◌ {A = ℕ} 4 2 → ⊥)
-far = ((λ e. omega arith), λ e. omega arith)
+far : (RollingBack ≡ FirstHalf → ⊥) × (RollingBack ≡ SecondHalf → ⊥)
+far = ((λ e. cc), λ e. cc)
 
 late : (l : 4 < 3) → ⊥
 late l = omega arith
@@ -46,7 +46,7 @@ abbrev pub u59 : Views
 u59 = cursor_seen 0 v58
 
 s59 : Step square_setup (state finished2 4 v58) (state finished2 4 u59)
-s59 = ByLoadCursor (ne 0 1 lt01, refl)
+s59 = ByLoadCursor (no_half, refl)
 
 abbrev pub u60 : Views
 u60 = begun first_plan u59
@@ -58,7 +58,7 @@ abbrev pub u61 : Views
 u61 = worker_made 4 1 u60
 
 s61 : Step square_setup (state finished2 4 u60) (state finished2 5 u61)
-s61 = BySplitStep (1, 1, 1, inl (refl, inl refl, refl, refl), 1, 0, inr (inr (lt01, refl, refl)), [], (λ k h. absurd h), refl)
+s61 = BySplitStep (Worker, 1, 1, inl (refl, inl refl, refl, refl), 1, 0, inr (inr (lt01, refl, refl)), [], (λ k h. absurd h), refl)
 
 abbrev pub u62 : Views
 u62 = found_at 4 0 name0 u61

@@ -4,7 +4,7 @@ use Rattle.mesh_words.specs.Claims.{Progress, Claimed, Failed, Drawn, claim, mov
 use Rattle.mesh_words.specs.Functions.{update}
 use Rattle.mesh_words.specs.Places.{child_place}
 use Rattle.mesh_words.specs.Setup.{Setup}
-use Rattle.mesh_words.specs.Views.{Views, Plan, Still, At, Past, unread, unsure, Vacant, Resting, FirstHalf, SecondHalf, Closing, RollingBack}
+use Rattle.mesh_words.specs.Views.{Views, Plan, Still, At, Past, unread, unsure, Vacant, Resting, FirstHalf, SecondHalf, Closing, RollingBack, Worker, Reader}
 use Rattle.mesh_words.specs.Words.{Node}
 use Rattle.mesh_state.specs.Fresh.{idle, blank}
 use Rattle.mesh_steps.specs.OwnerSteps.{joined_work}
@@ -31,10 +31,10 @@ restored v = record v { work = update v.work 0 idle; ruling = record v.ruling { 
 
 -- it makes the passes n and joins a worker's, after which so many are out
 abbrev pub worker_made : ℕ → ℕ → Views → Views
-worker_made n number v = record v { kind = update v.kind n 1; claims = update v.claims n []; work = update v.work n (record idle { half = v.ruling.phase; round = v.ruling.finished + 1; number = number; plan = v.ruling.plan }); sure = update (update v.sure 0 unsure) n unsure; read = update v.read n (record (blank []) { told = v.ruling.history; seen = v.ruling.finished; made = v.ruling.finished }); ruling = record v.ruling { workers = v.ruling.workers + 1; lone = 0 } }
+worker_made n number v = record v { kind = update v.kind n Worker; claims = update v.claims n []; work = update v.work n (record idle { half = v.ruling.phase; round = v.ruling.finished + 1; number = number; plan = v.ruling.plan }); sure = update (update v.sure 0 unsure) n unsure; read = update v.read n (record (blank []) { told = v.ruling.history; seen = v.ruling.finished; made = v.ruling.finished }); ruling = record v.ruling { workers = v.ruling.workers + 1; lone = 0 } }
 
 abbrev pub reader_made : ℕ → Views → Views
-reader_made n v = record v { kind = update v.kind n 2; claims = update v.claims n []; work = update v.work n (record idle { half = v.ruling.phase; round = v.ruling.finished + 1; number = 1; plan = v.ruling.plan }); sure = update (update v.sure 0 (v.sure 0)) n unsure; read = update v.read n (record (blank []) { told = v.ruling.history; seen = v.ruling.finished; made = v.ruling.finished }); ruling = record v.ruling { readers = v.ruling.readers + 1 } }
+reader_made n v = record v { kind = update v.kind n Reader; claims = update v.claims n []; work = update v.work n (record idle { half = v.ruling.phase; round = v.ruling.finished + 1; number = 1; plan = v.ruling.plan }); sure = update (update v.sure 0 (v.sure 0)) n unsure; read = update v.read n (record (blank []) { told = v.ruling.history; seen = v.ruling.finished; made = v.ruling.finished }); ruling = record v.ruling { readers = v.ruling.readers + 1 } }
 
 abbrev pub joined : ℕ → ℕ → Views → Views
 joined j workers v = record v { kind = update v.kind j Vacant; claims = update (update v.claims 0 (v.claims 0 ++ v.claims j)) j []; work = update (update v.work 0 (joined_work (v.work 0) (v.work j))) j idle; sure = update (update v.sure 0 unsure) j unsure; read = update v.read j unread; ruling = record v.ruling { workers = workers; lone = 0 } }

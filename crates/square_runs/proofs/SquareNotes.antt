@@ -9,6 +9,7 @@ use Rattle.mesh_words.specs.Words.{Node, node}
 use Rattle.mesh_state.specs.Ghosts.{Placed, stands}
 use Rattle.mesh_state.specs.Lists.{IsMember}
 use Rattle.square_runs.specs.SquareRun.{square_setup, name0, name1, pinned}
+use Rattle.mesh_words.specs.Views.{Resting, FirstHalf, SecondHalf, Closing}
 
 pub lt01 : 0 < 1
 lt01 = omega arith
@@ -45,6 +46,10 @@ le22 = omega arith
 
 pub many : 0 < 1048576
 many = omega arith
+
+-- a round at rest is in no half
+pub no_half : Resting ≡ FirstHalf → ⊥
+no_half e = cc
 
 pub ne : (a b : ℕ) → a < b → a ≡ b → ⊥
 ne a b l e = omega arith
@@ -88,8 +93,8 @@ pub living_claim : (x m : ℕ) (p : Progress) → HasEntry (claim 0 2 (Living 0)
 living_claim x m p (inl e) = (0, ap (λ (c : Claim). c.progress) e)
 living_claim x m p (inr h) = absurd h
 
-pub three : (◌≡◌ {A = ℕ} 3 1 → ⊥) × (◌≡◌ {A = ℕ} 3 2 → ⊥)
-three = ((λ e. omega arith), λ e. omega arith)
+pub three : (Closing ≡ FirstHalf → ⊥) × (Closing ≡ SecondHalf → ⊥)
+three = ((λ e. cc), λ e. cc)
 
 pub only_zero : (b : ℕ) → 1 ≡ b + 1 → Living 0 ≡ Living b
 only_zero b e = ap Living (zero_of b e)
@@ -97,7 +102,7 @@ only_zero b e = ap Living (zero_of b e)
 pub no_claim : (x m : ℕ) (p : Progress) → HasEntry [] (claim x m p) → (b : ℕ) × (p ≡ Living b)
 no_claim x m p h = absurd h
 
-pub not_living : (b : ℕ) → Living 0 ≡ Living b → (◌≡◌ {A = ℕ} 3 3 → ⊥) → ⊥
+pub not_living : (b : ℕ) → Living 0 ≡ Living b → (Closing ≡ Closing → ⊥) → ⊥
 not_living b e f = f refl
 
 pub lt04 : 0 < 4

@@ -10,6 +10,7 @@ use Rattle.square_runs.specs.SquareRun.{square_setup, name0, name1}
 use Rattle.square_runs.specs.SquareTwice.{pair_setup}
 use Rattle.square_runs.proofs.SquareLists.{both, both_closed, first_plan, second_plan, first_aim, second_aim}
 use Rattle.square_runs.proofs.SquareNotes.{en, one_of, zero_of}
+use Rattle.mesh_words.specs.Views.{Closing}
 
 pub lt23 : 2 < 3
 lt23 = omega arith
@@ -71,5 +72,5 @@ again_living x m p (inr h) = absurd h
 pub only_one : (b : ℕ) → 2 ≡ b + 1 → Living 1 ≡ Living b
 only_one b e = ap Living (one_of b e)
 
-pub again_not : (b : ℕ) → Living 1 ≡ Living b → (◌≡◌ {A = ℕ} 3 3 → ⊥) → ⊥
+pub again_not : (b : ℕ) → Living 1 ≡ Living b → (Closing ≡ Closing → ⊥) → ⊥
 again_not b e f = f refl

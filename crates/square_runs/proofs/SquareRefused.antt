@@ -9,7 +9,7 @@ use Rattle.square_runs.specs.SquareRun.{SquareRefused, unpublished, unlinked1, u
 use Rattle.square_runs.proofs.SquareLists.{first_plan, first_aim}
 use Rattle.square_runs.proofs.SquareNotes.{lt04, en, kids_noted, lt01, lt02, lt12, old_words, past_four}
 use Rattle.mesh_words.specs.Functions.{update}
-use Rattle.mesh_words.specs.Views.{no_plan, Views, Still, unsure, unread, Resting, FirstHalf, RollingBack}
+use Rattle.mesh_words.specs.Views.{no_plan, Views, Still, unsure, unread, Resting, FirstHalf, RollingBack, Vacant, Worker}
 use Rattle.mesh_steps.specs.OwnerSteps.{LoadReleased, NoteQuiet, RefuseStep, RestoreStep}
 use Rattle.mesh_steps.specs.SweepSteps.{UnbearStep, UnlinkSecond, UnlinkFirst, BuryStep}
 use Rattle.mesh_steps.specs.States.{State, state}
@@ -25,10 +25,10 @@ s1 : Step square_setup (state (fresh_words 1) 1 u0) (state (fresh_words 1) 1 u1)
 s1 = ByBeginStep (first_plan, [], refl, first_aim, lt04, refl, refl, refl)
 
 abbrev pub u2 : Views
-u2 = record u1 { kind = update u1.kind 1 1; claims = update u1.claims 1 []; work = update u1.work 1 (record idle { half = u1.ruling.phase; round = u1.ruling.finished + 1; number = 0; plan = u1.ruling.plan }); sure = update (update u1.sure 0 unsure) 1 unsure; read = update u1.read 1 (record (blank []) { told = u1.ruling.history; seen = u1.ruling.finished; made = u1.ruling.finished }); ruling = record u1.ruling { workers = 1; readers = 0; lone = 1 } }
+u2 = record u1 { kind = update u1.kind 1 Worker; claims = update u1.claims 1 []; work = update u1.work 1 (record idle { half = u1.ruling.phase; round = u1.ruling.finished + 1; number = 0; plan = u1.ruling.plan }); sure = update (update u1.sure 0 unsure) 1 unsure; read = update u1.read 1 (record (blank []) { told = u1.ruling.history; seen = u1.ruling.finished; made = u1.ruling.finished }); ruling = record u1.ruling { workers = 1; readers = 0; lone = 1 } }
 
 s2 : Step square_setup (state (fresh_words 1) 1 u1) (state (fresh_words 1) 2 u2)
-s2 = BySplitStep (1, 1, 0, (inl (refl, inl refl, refl, refl)), 0, 1, (inr (inl (refl, refl, (λ x m p h. absurd h), refl))), [], (λ k h. absurd h), refl)
+s2 = BySplitStep (Worker, 1, 0, (inl (refl, inl refl, refl, refl)), 0, 1, (inr (inl (refl, refl, (λ x m p h. absurd h), refl))), [], (λ k h. absurd h), refl)
 
 abbrev pub u3 : Views
 u3 = record u2 { work = update u2.work 1 (record (u2.work 1) { went = (u2.work 1).went; walk = (u2.work 1).walk; found = (0, square_setup.top 0) ∷ (u2.work 1).found; known = (u2.work 1).known; absent = (u2.work 1).absent; stood = (u2.work 1).stood; had = (u2.work 1).had }) }
@@ -151,7 +151,7 @@ s22 : Step square_setup (state linked1 2 u21) (state published 2 u22)
 s22 = ByPublishStep (1, 0, 2, 0, (inl refl), refl, (name0 ∷ []), (λ k h. ⊎_elim (λ e. inr (0, inl refl, inr (inl (ap (λ (i : ℕ). (0, i)) e)))) (λ f. absurd f) h), refl)
 
 abbrev pub u23 : Views
-u23 = record u22 { kind = update u22.kind 1 0; claims = update (update u22.claims 0 (u22.claims 0 ++ u22.claims 1)) 1 []; work = update (update u22.work 0 record { half = Resting; round = 0; number = 0; plan = no_plan; drawn = (u22.work 0).drawn ++ (u22.work 1).drawn; found = (u22.work 0).found ++ (u22.work 1).found; known = (u22.work 0).known ++ (u22.work 1).known; open_ = (u22.work 0).open_ ++ (u22.work 1).open_; given = (u22.work 0).given ++ (u22.work 1).given; absent = (u22.work 0).absent ++ (u22.work 1).absent; stood = (u22.work 0).stood ++ (u22.work 1).stood; had = (u22.work 0).had ++ (u22.work 1).had; grown = (u22.work 0).grown ++ (u22.work 1).grown; retired = (u22.work 0).retired ++ (u22.work 1).retired; went = []; walk = Still }) 1 idle; sure = update (update u22.sure 0 unsure) 1 unsure; read = update u22.read 1 unread; ruling = record u22.ruling { workers = 0; lone = 0 } }
+u23 = record u22 { kind = update u22.kind 1 Vacant; claims = update (update u22.claims 0 (u22.claims 0 ++ u22.claims 1)) 1 []; work = update (update u22.work 0 record { half = Resting; round = 0; number = 0; plan = no_plan; drawn = (u22.work 0).drawn ++ (u22.work 1).drawn; found = (u22.work 0).found ++ (u22.work 1).found; known = (u22.work 0).known ++ (u22.work 1).known; open_ = (u22.work 0).open_ ++ (u22.work 1).open_; given = (u22.work 0).given ++ (u22.work 1).given; absent = (u22.work 0).absent ++ (u22.work 1).absent; stood = (u22.work 0).stood ++ (u22.work 1).stood; had = (u22.work 0).had ++ (u22.work 1).had; grown = (u22.work 0).grown ++ (u22.work 1).grown; retired = (u22.work 0).retired ++ (u22.work 1).retired; went = []; walk = Still }) 1 idle; sure = update (update u22.sure 0 unsure) 1 unsure; read = update u22.read 1 unread; ruling = record u22.ruling { workers = 0; lone = 0 } }
 
 s23 : Step square_setup (state published 2 u22) (state published 2 u23)
 s23 = ByJoinWorker (1, (en 1 0 lt01), refl, 0, refl, refl)
@@ -208,7 +208,7 @@ abbrev pub u30 : Views
 u30 = record u29 { sure = update u29.sure 0 (record (u29.sure 0) { died = (0, 1) ∷ (u29.sure 0).died }) }
 
 pub k30 : BuryStep square_setup unlinked0 2 u29 (state buried 2 u30)
-k30 = (((λ e. absurd (omega arith)), λ e. absurd (omega arith)), 0, inl refl, refl)
+k30 = (((λ e. absurd (cc)), λ e. absurd (cc)), 0, inl refl, refl)
 
 s30 : Step square_setup (state unlinked0 2 u29) (state buried 2 u30)
 s30 = ByBuryStep k30

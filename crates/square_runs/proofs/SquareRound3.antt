@@ -4,7 +4,7 @@ use Rattle.mesh_words.specs.Claims.{Claimed, Drawn, claim}
 use Rattle.mesh_words.specs.Words.{node}
 use Rattle.mesh_words.specs.Claims.{moved_on}
 use Rattle.mesh_words.specs.Functions.{update}
-use Rattle.mesh_words.specs.Views.{Views, Still, unsure, FirstHalf}
+use Rattle.mesh_words.specs.Views.{Views, Still, unsure, FirstHalf, Worker}
 use Rattle.mesh_state.specs.Ghosts.{Held, Free, Loose, Ghost}
 use Rattle.mesh_state.specs.Fresh.{idle, blank}
 use Rattle.mesh_state.specs.Rule.{Rule}
@@ -18,7 +18,7 @@ use Rattle.mesh_steps.proofs.Draws.{draws_one}
 use Rattle.mesh_steps.proofs.Pinning.{unpins}
 use Rattle.mesh_steps.proofs.Sweeping.{cuts_head, frees_all, zeroes, lays, opens_rows}
 use Rattle.square_runs.proofs.SquareLists.{first_plan, first_aim}
-use Rattle.square_runs.proofs.SquareNotes.{both_clear, clean_places, en, hand_zero, kept_zero, le11, le22, lt01, lt02, lt04, lt06, lt12, lt14, lt24, lt34, ne, none_left, one_laid, one_row, same_below_one}
+use Rattle.square_runs.proofs.SquareNotes.{both_clear, clean_places, en, hand_zero, kept_zero, le11, le22, lt01, lt02, lt04, lt06, lt12, lt14, lt24, lt34, ne, none_left, one_laid, one_row, same_below_one, no_half}
 use Rattle.square_runs.proofs.SquareRound1.{g0, g7, g8, g20, g21, g22, g27, g28, r0, r7, r8, r11, r12, r13, r14, r15, r16, r17, r18, r19, r20, r21, r22, r27, r28, v0, v7, v8, v11, v12, v13, v14, v15, v16, v17, v18, v19, v20, v21, v22, v27, v28}
 use Rattle.square_runs.proofs.SquareRound2.{g37, g50, g52, g58, gone0, gone1, held0, held1, r33, r34, r37, r50, r56, r57, r58, v33, v34, v37, v50, v56, v57, v58}
 
@@ -89,7 +89,7 @@ abbrev pub v69 : Views
 v69 = record v68 { ruling = record v68.ruling { cursor = cut1.cursor + 1 } }
 
 pub r69 : Rule square_setup cut1 4 v69 g59
-r69 = loads_cursor square_setup cut1 4 v68 g59 r68 (ne 0 1 lt01)
+r69 = loads_cursor square_setup cut1 4 v68 g59 r68 no_half
 
 abbrev pub v70 : Views
 v70 = record v69 { ruling = record v69.ruling { hand = 0 ∷ []; undone = []; kept = []; placed = [] } }
@@ -122,7 +122,7 @@ abbrev pub v74 : Views
 v74 = record v73 { ruling = record v73.ruling { cursor = opened.cursor + 1 } }
 
 pub r74 : Rule square_setup opened 4 v74 g70
-r74 = loads_cursor square_setup opened 4 v73 g70 r73 (ne 0 1 lt01)
+r74 = loads_cursor square_setup opened 4 v73 g70 r73 no_half
 
 abbrev pub v75 : Views
 v75 = record v74 { work = update v74.work 0 idle; ruling = record v74.ruling { phase = FirstHalf; cursor = 0; plan = first_plan } }
@@ -134,10 +134,10 @@ pub r75 : Rule square_setup opened 4 v75 g75
 r75 = begins square_setup opened 4 v74 g70 r74 first_plan [] refl first_aim lt24 refl refl
 
 abbrev pub v76 : Views
-v76 = record v75 { kind = update v75.kind 4 1; claims = update v75.claims 4 []; work = update v75.work 4 (record idle { half = v75.ruling.phase; round = v75.ruling.finished + 1; number = 1; plan = v75.ruling.plan }); sure = update (update v75.sure 0 unsure) 4 unsure; read = update v75.read 4 (record (blank []) { told = v75.ruling.history; seen = v75.ruling.finished; made = v75.ruling.finished }); ruling = record v75.ruling { workers = 1; readers = 1; lone = 0 } }
+v76 = record v75 { kind = update v75.kind 4 Worker; claims = update v75.claims 4 []; work = update v75.work 4 (record idle { half = v75.ruling.phase; round = v75.ruling.finished + 1; number = 1; plan = v75.ruling.plan }); sure = update (update v75.sure 0 unsure) 4 unsure; read = update v75.read 4 (record (blank []) { told = v75.ruling.history; seen = v75.ruling.finished; made = v75.ruling.finished }); ruling = record v75.ruling { workers = 1; readers = 1; lone = 0 } }
 
 pub r76 : Rule square_setup opened 5 v76 g75
-r76 = splits square_setup opened 4 v75 g75 r75 1 1 1 (inl (refl, inl refl, refl, refl)) 1 0 (inr (inr (lt01, refl, refl))) [] (λ k h. absurd h)
+r76 = splits square_setup opened 4 v75 g75 r75 Worker 1 1 (inl (refl, inl refl, refl, refl)) 1 0 (inr (inr (lt01, refl, refl))) [] (λ k h. absurd h)
 
 abbrev pub v77 : Views
 v77 = record v76 { work = update v76.work 4 (record (v76.work 4) { went = (v76.work 4).went; walk = (v76.work 4).walk; found = (0, square_setup.top 0) ∷ (v76.work 4).found; known = (v76.work 4).known; absent = (v76.work 4).absent; stood = (v76.work 4).stood; had = (v76.work 4).had }) }

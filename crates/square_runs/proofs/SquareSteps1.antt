@@ -13,6 +13,7 @@ use Rattle.mesh_steps.specs.SweepSteps.{UnclaimStep}
 use Rattle.mesh_steps.specs.States.{state}
 use Rattle.mesh_steps.specs.Steps.{Step, ByAdvanceStep, ByBeginStep, ByClaimStep, ByCloseStep, ByDrawStep, ByFillChild, ByFillDied, ByFillHistory, ByFillName, ByJoinWorker, ByLinkFirst, ByLinkSecond, ByLoadHead, ByNotePlaces, ByPlanStep, ByPublishStep, BySplitStep, ByUnclaimStep, ByWorkEnds, ByWorkTop}
 use Rattle.square_runs.proofs.SquareRound1.{v0, v1, v2, v3, v4, v5, v6, v7, v8, v9, v10, v11, v12, v13, v14, v15, v16, v17, v18, v19, v20, v21, v22, v23, v24, v25, v26, v27, v28}
+use Rattle.mesh_words.specs.Views.{Worker}
 
 pub k1 : BeginStep square_setup (fresh_words 1) 1 v0 (state (fresh_words 1) 1 v1)
 k1 = (first_plan, [], refl, first_aim, lt04, refl, refl, refl)
@@ -21,7 +22,7 @@ pub s1 : Step square_setup (state (fresh_words 1) 1 v0) (state (fresh_words 1) 1
 s1 = ByBeginStep k1
 
 pub k2 : SplitStep square_setup (fresh_words 1) 1 v1 (state (fresh_words 1) 2 v2)
-k2 = (1, 1, 0, (inl (refl, inl refl, refl, refl)), 1, 0, (inr (inr (lt01, refl, refl))), [], (λ k h. absurd h), refl)
+k2 = (Worker, 1, 0, (inl (refl, inl refl, refl, refl)), 1, 0, (inr (inr (lt01, refl, refl))), [], (λ k h. absurd h), refl)
 
 pub s2 : Step square_setup (state (fresh_words 1) 1 v1) (state (fresh_words 1) 2 v2)
 s2 = BySplitStep k2

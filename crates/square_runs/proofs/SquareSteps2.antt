@@ -4,7 +4,7 @@ use Rattle.mesh_words.specs.Places.{child_place}
 use Rattle.mesh_words.specs.Words.{node}
 use Rattle.square_runs.specs.SquareRun.{square_setup, name0, name1, finished1, stopped, rewound, pinned, retired, stamped0, stamped1, finished2}
 use Rattle.square_runs.proofs.SquareLists.{both, second_plan, second_aim, both_open, none_stays}
-use Rattle.square_runs.proofs.SquareNotes.{lt14, both_stamped, children0, children1, en, le00, le01, lt01, lt02, lt03, lt12, many, ne, newly, no_claim, no_head}
+use Rattle.square_runs.proofs.SquareNotes.{lt14, both_stamped, children0, children1, en, le00, le01, lt01, lt02, lt03, lt12, many, ne, newly, no_claim, no_head, no_half}
 use Rattle.mesh_steps.specs.WorkSteps.{RetireStep}
 use Rattle.mesh_steps.specs.WalkSteps.{WorkGoes, WorkHad, WorkBoth, WorkGives, WorkOpen, LoadDied, LoadRow}
 use Rattle.mesh_steps.specs.PinSteps.{LoadRound, PinStep}
@@ -15,9 +15,10 @@ use Rattle.mesh_steps.specs.Steps.{Step, ByAdvanceStep, ByBeginStep, ByCloseStep
 use Rattle.mesh_state.proofs.TableLaws.{walk_sides}
 use Rattle.square_runs.proofs.SquareRound1.{v28}
 use Rattle.square_runs.proofs.SquareRound2.{v29, v30, v31, v32, v33, v34, v35, v36, v37, v38, v39, v40, v41, v42, v43, v44, v45, v46, v47, v48, v49, v50, v51, v52, v53, v54, v55, v56, v57, v58, t41, t43, g39, r41, r43}
+use Rattle.mesh_words.specs.Views.{Worker, Reader}
 
 pub k29 : LoadCursor square_setup finished1 2 v28 (state finished1 2 v29)
-k29 = ((ne 0 1 lt01), refl)
+k29 = (no_half, refl)
 
 pub s29 : Step square_setup (state finished1 2 v28) (state finished1 2 v29)
 s29 = ByLoadCursor k29
@@ -53,7 +54,7 @@ pub s34 : Step square_setup (state stopped 2 v33) (state rewound 2 v34)
 s34 = ByRewindStep k34
 
 pub s35 : Step square_setup (state rewound 2 v34) (state rewound 3 v35)
-s35 = BySplitStep (2, 0, 1, (inr (refl, le01, refl, refl)), 1, 0, (inl (inl refl, refl)), [], (λ k h. absurd h), refl)
+s35 = BySplitStep (Reader, 0, 1, (inr (refl, le01, refl, refl)), 1, 0, (inl (inl refl, refl)), [], (λ k h. absurd h), refl)
 
 pub k36 : LoadRound square_setup rewound 3 v35 (state rewound 3 v36)
 k36 = (2, refl, 1, (inl (refl, many)), refl)
@@ -74,7 +75,7 @@ pub s39 : Step square_setup (state pinned 3 v38) (state pinned 3 v39)
 s39 = ByPlanStep ((name0 ∷ []), (λ i h. h), refl, refl, no_claim, refl)
 
 pub s40 : Step square_setup (state pinned 3 v39) (state pinned 4 v40)
-s40 = BySplitStep (1, 1, 1, (inl (refl, inr refl, refl, refl)), 1, 0, (inl (inr refl, refl)), [], (λ k h. absurd h), refl)
+s40 = BySplitStep (Worker, 1, 1, (inl (refl, inr refl, refl, refl)), 1, 0, (inl (inr refl, refl)), [], (λ k h. absurd h), refl)
 
 pub k41 : WorkGoes square_setup pinned 4 v40 (state pinned 4 v41)
 k41 = (3, refl, 0, name0, 0, (node 1 0), (inl ((inr (inr (lt02, refl))), refl)), refl, (inl refl), t41, ((walk_sides square_setup pinned 4 v41 (g39, r41) 3 0 name0 0 t41).0 refl t41).1 refl, refl)

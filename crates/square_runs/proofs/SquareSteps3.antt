@@ -3,7 +3,7 @@ use Rattle.std.proofs.Common.{◌==◌, true, false, [], ◌∷◌, refl, sym, i
 use Rattle.mesh_words.specs.Words.{node}
 use Rattle.square_runs.specs.SquareRun.{square_setup, name0, name1, finished2, unpinned, cut0, cut1, unborn, laid, opened, claimed_again, drawn_again}
 use Rattle.square_runs.proofs.SquareLists.{first_plan, first_aim}
-use Rattle.square_runs.proofs.SquareNotes.{both_clear, clean_places, en, hand_zero, kept_zero, le11, le22, lt01, lt02, lt12, lt24, ne, none_left, one_laid, one_row, same_below_one}
+use Rattle.square_runs.proofs.SquareNotes.{both_clear, clean_places, en, hand_zero, kept_zero, le11, le22, lt01, lt02, lt12, lt24, ne, none_left, one_laid, one_row, same_below_one, no_half}
 use Rattle.mesh_steps.specs.WalkSteps.{LoadHistory}
 use Rattle.mesh_steps.specs.PinSteps.{UnpinStep}
 use Rattle.mesh_steps.specs.OwnerSteps.{NoteClear}
@@ -12,6 +12,7 @@ use Rattle.mesh_steps.specs.States.{state}
 use Rattle.mesh_steps.specs.Steps.{Step, ByBeginStep, ByClaimStep, ByCutLink, ByDrawStep, ByFreeStep, ByLoadCursor, ByLoadHead, ByLoadHistory, ByNoteClear, ByOpenStep, ByRowStep, BySplitStep, ByUnpinStep, ByWorkEnds, ByWorkTop, ByZeroStep}
 use Rattle.square_runs.proofs.SquareRound2.{v58}
 use Rattle.square_runs.proofs.SquareRound3.{v59, v60, v61, v62, v63, v64, v65, v66, v67, v68, v69, v70, v71, v72, v73, v74, v75, v76, v77, v78, v79, v80, v81, v82}
+use Rattle.mesh_words.specs.Views.{Worker}
 
 pub k59 : UnpinStep square_setup finished2 4 v58 (state unpinned 4 v59)
 k59 = (2, 1, refl, refl, refl)
@@ -56,7 +57,7 @@ pub s68 : Step square_setup (state cut1 4 v67) (state cut1 4 v68)
 s68 = ByLoadHead (0, 4, refl)
 
 pub s69 : Step square_setup (state cut1 4 v68) (state cut1 4 v69)
-s69 = ByLoadCursor (ne 0 1 lt01, refl)
+s69 = ByLoadCursor (no_half, refl)
 
 pub k70 : FreeStep square_setup cut1 4 v69 (state cut1 4 v70)
 k70 = (refl, (λ c. c == 0), (0 ∷ []), [], [], [], (λ c h. inr (2, 0, 2, inl (sym (eqb-true c 0 h), refl), lt02, le22, both_clear, inl (λ i. (eqb-true c 0 h i, 0, 2)), clean_places)), hand_zero, (λ c. ((λ h. absurd h), λ h. absurd h)), kept_zero, none_left, refl)
@@ -83,13 +84,13 @@ pub s73 : Step square_setup (state laid 4 v72) (state opened 4 v73)
 s73 = ByOpenStep k73
 
 pub s74 : Step square_setup (state opened 4 v73) (state opened 4 v74)
-s74 = ByLoadCursor ((ne 0 1 lt01), refl)
+s74 = ByLoadCursor (no_half, refl)
 
 pub s75 : Step square_setup (state opened 4 v74) (state opened 4 v75)
 s75 = ByBeginStep (first_plan, [], refl, first_aim, lt24, refl, refl, refl)
 
 pub s76 : Step square_setup (state opened 4 v75) (state opened 5 v76)
-s76 = BySplitStep (1, 1, 1, (inl (refl, inl refl, refl, refl)), 1, 0, (inr (inr (lt01, refl, refl))), [], (λ k h. absurd h), refl)
+s76 = BySplitStep (Worker, 1, 1, (inl (refl, inl refl, refl, refl)), 1, 0, (inr (inr (lt01, refl, refl))), [], (λ k h. absurd h), refl)
 
 pub s77 : Step square_setup (state opened 5 v76) (state opened 5 v77)
 s77 = ByWorkTop (4, refl, refl, 0, lt02, refl)

@@ -2,7 +2,7 @@
 use Rattle.std.proofs.Common.{true, false, [], ◌∷◌, refl, inl, inr, arith}
 use Rattle.mesh_words.specs.Claims.{Half, Whole, Living}
 use Rattle.mesh_words.specs.Places.{member_of, child_place}
-use Rattle.mesh_words.specs.Views.{Views}
+use Rattle.mesh_words.specs.Views.{Views, Worker}
 use Rattle.mesh_words.specs.Words.{node}
 use Rattle.mesh_state.specs.Fresh.{fresh_words, fresh_views}
 use Rattle.mesh_steps.specs.WalkSteps.{LoadBorn}
@@ -13,7 +13,7 @@ use Rattle.square_runs.specs.SquareRun.{name0, name1}
 use Rattle.square_runs.specs.SquareTwice.{pair_setup, claimed, drawn, history0, history1, undead, named0, named1, child0, child1, child2, child3, linked0, linked1, published, unclaimed, finished1, stopped, rewound, laid, opened}
 use Rattle.square_runs.proofs.SquareLists.{both, first_plan, none_listed, both_stay}
 use Rattle.square_runs.proofs.SquareMoves.{begun, planned, closed, advanced, worker_made, joined, cursor_seen, free_seen, stopped_at, takes_row, opened_at, placed_at, claims_at, draws_for, comes_to, unclaims, sure_head, sure_hist, sure_born, sure_died, sure_name, sure_row, found_at, finds_absent, knows}
-use Rattle.square_runs.proofs.SquareNotes.{lt01, lt02, lt12, le00, le11, one_row, one_laid, ne, en, not_less, same_below_one, kids_noted, past_four, old_words, living_claim, three, only_zero, not_living, lt04}
+use Rattle.square_runs.proofs.SquareNotes.{lt01, lt02, lt12, le00, le11, one_row, one_laid, ne, en, not_less, same_below_one, kids_noted, past_four, old_words, living_claim, three, only_zero, not_living, lt04, no_half}
 use Rattle.square_runs.proofs.SquarePair.{pair_first, bisects_first}
 
 abbrev pub u0 : Views
@@ -30,7 +30,7 @@ abbrev pub u2 : Views
 u2 = worker_made 1 1 u1
 
 pub s2 : Step pair_setup (state (fresh_words 2) 1 u1) (state (fresh_words 2) 2 u2)
-s2 = BySplitStep (1, 1, 0, inl (refl, inl refl, refl, refl), 1, 0, inr (inr (lt01, refl, refl)), [], (λ k h. absurd h), refl)
+s2 = BySplitStep (Worker, 1, 0, inl (refl, inl refl, refl, refl), 1, 0, inr (inr (lt01, refl, refl)), [], (λ k h. absurd h), refl)
 
 abbrev pub u3 : Views
 u3 = found_at 1 0 name0 u2
@@ -193,7 +193,7 @@ abbrev pub u29 : Views
 u29 = cursor_seen 1 u28
 
 pub s29 : Step pair_setup (state finished1 2 u28) (state finished1 2 u29)
-s29 = ByLoadCursor (ne 0 1 lt01, refl)
+s29 = ByLoadCursor (no_half, refl)
 
 abbrev pub u30 : Views
 u30 = sure_row 0 1 1 u29

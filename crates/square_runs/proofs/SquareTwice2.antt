@@ -1,7 +1,7 @@
 -- The run that bisects the patch of the square twice: round 2, and a pin.
 use Rattle.std.proofs.Common.{◌++◌, true, false, [], ◌∷◌, refl, inl, inr, arith}
 use Rattle.mesh_words.specs.Places.{child_place}
-use Rattle.mesh_words.specs.Views.{Views}
+use Rattle.mesh_words.specs.Views.{Views, Worker, Reader}
 use Rattle.mesh_words.specs.Words.{node}
 use Rattle.mesh_steps.specs.WorkSteps.{RetiredStep}
 use Rattle.mesh_steps.specs.WalkSteps.{WorkDead}
@@ -32,7 +32,7 @@ abbrev pub u41 : Views
 u41 = worker_made 2 1 u40
 
 pub s41 : Step pair_setup (state opened 2 u40) (state opened 3 u41)
-s41 = BySplitStep (1, 1, 0, inl (refl, inr refl, refl, refl), 1, 0, inl (inr refl, refl), [], (λ k h. absurd h), refl)
+s41 = BySplitStep (Worker, 1, 0, inl (refl, inr refl, refl, refl), 1, 0, inl (inr refl, refl), [], (λ k h. absurd h), refl)
 
 abbrev pub u42 : Views
 u42 = goes_to 2 0 name0 0 false u41
@@ -98,7 +98,7 @@ abbrev pub u52 : Views
 u52 = worker_made 3 2 u51
 
 pub s52 : Step pair_setup (state retired 3 u51) (state retired 4 u52)
-s52 = BySplitStep (1, 2, 0, inl (refl, inr refl, refl, refl), 2, 0, inl (inr refl, refl), [], (λ k h. absurd h), refl)
+s52 = BySplitStep (Worker, 2, 0, inl (refl, inr refl, refl, refl), 2, 0, inl (inr refl, refl), [], (λ k h. absurd h), refl)
 
 abbrev pub u53 : Views
 u53 = goes_to 3 0 name0 0 false u52
@@ -195,7 +195,7 @@ abbrev pub u67 : Views
 u67 = reader_made 4 u66
 
 pub s67 : Step pair_setup (state finished2 4 u66) (state finished2 5 u67)
-s67 = BySplitStep (2, 0, 1, inr (refl, le01, refl, refl), 1, 0, inl (inl refl, refl), [], (λ k h. absurd h), refl)
+s67 = BySplitStep (Reader, 0, 1, inr (refl, le01, refl, refl), 1, 0, inl (inl refl, refl), [], (λ k h. absurd h), refl)
 
 abbrev pub u68 : Views
 u68 = sees_round 4 1 2 u67

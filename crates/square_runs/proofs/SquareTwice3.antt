@@ -2,7 +2,7 @@
 use Rattle.std.proofs.Common.{true, false, [], ◌∷◌, refl, inl, inr, arith}
 use Rattle.mesh_words.specs.Claims.{Half, Whole, Living}
 use Rattle.mesh_words.specs.Places.{member_of, child_place}
-use Rattle.mesh_words.specs.Views.{Views}
+use Rattle.mesh_words.specs.Views.{Views, Worker}
 use Rattle.mesh_words.specs.Words.{node}
 use Rattle.mesh_steps.specs.WalkSteps.{WorkFinds, WorkPasses, LoadName}
 use Rattle.mesh_steps.specs.PinSteps.{ReadPasses}
@@ -13,7 +13,7 @@ use Rattle.square_runs.specs.SquareRun.{name0, name1}
 use Rattle.square_runs.specs.SquareTwice.{pair_setup, pinned, claimed_again, drawn_again, history2, history3, undead_again, named2, named3, child4, child5, child6, child7, linked2, linked3, published_again, unclaimed_again, finished3, cut0, cut1}
 use Rattle.square_runs.proofs.SquareLists.{both, first_plan, none_listed, both_stay}
 use Rattle.square_runs.proofs.SquareMoves.{begun, planned, closed, advanced, worker_made, joined, cursor_seen, placed_at, cleared, claims_at, draws_for, comes_to, unclaims, sure_head, sure_hist, sure_died, sure_name, found_at, finds_absent, goes_to, passes_by, finds_known, knows, reads_to, reads_by, reads_absent}
-use Rattle.square_runs.proofs.SquareNotes.{lt01, lt02, lt12, lt24, le22, ne, en, not_less, three, lt03, both_clear}
+use Rattle.square_runs.proofs.SquareNotes.{lt01, lt02, lt12, lt24, le22, ne, en, not_less, three, lt03, both_clear, no_half}
 use Rattle.square_runs.proofs.SquarePair.{pair_first, lt23, kids_again, past_again, old_again, bisects_first, first_known, again_living, again_not, only_one}
 use Rattle.square_runs.proofs.SquareTwice2.{u69}
 
@@ -22,7 +22,7 @@ abbrev pub u70 : Views
 u70 = cursor_seen 0 u69
 
 pub s70 : Step pair_setup (state pinned 5 u69) (state pinned 5 u70)
-s70 = ByLoadCursor (ne 0 1 lt01, refl)
+s70 = ByLoadCursor (no_half, refl)
 
 abbrev pub u71 : Views
 u71 = begun first_plan u70
@@ -34,13 +34,13 @@ abbrev pub u72 : Views
 u72 = worker_made 5 1 u71
 
 pub s72 : Step pair_setup (state pinned 5 u71) (state pinned 6 u72)
-s72 = BySplitStep (1, 1, 1, inl (refl, inl refl, refl, refl), 1, 0, inr (inr (lt01, refl, refl)), [], (λ k h. absurd h), refl)
+s72 = BySplitStep (Worker, 1, 1, inl (refl, inl refl, refl, refl), 1, 0, inr (inr (lt01, refl, refl)), [], (λ k h. absurd h), refl)
 
 abbrev pub u73 : Views
 u73 = worker_made 6 2 u72
 
 pub s73 : Step pair_setup (state pinned 6 u72) (state pinned 7 u73)
-s73 = BySplitStep (1, 2, 1, inl (refl, inl refl, refl, refl), 2, 0, inr (inr (lt02, refl, refl)), [], (λ k h. absurd h), refl)
+s73 = BySplitStep (Worker, 2, 1, inl (refl, inl refl, refl, refl), 2, 0, inr (inr (lt02, refl, refl)), [], (λ k h. absurd h), refl)
 
 abbrev pub u74 : Views
 u74 = found_at 5 0 name0 u73

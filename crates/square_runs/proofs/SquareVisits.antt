@@ -2,7 +2,7 @@
 use Rattle.std.proofs.Common.{◌++◌, true, false, List, [], ◌∷◌, refl, inl, inr}
 use Rattle.mesh_words.specs.Functions.{update}
 use Rattle.mesh_words.specs.Places.{child_place}
-use Rattle.mesh_words.specs.Views.{Views, Still, At, unread, unsure}
+use Rattle.mesh_words.specs.Views.{Views, Still, At, unread, unsure, Vacant}
 use Rattle.mesh_words.specs.Words.{node}
 use Rattle.mesh_state.specs.Fresh.{fresh_words, fresh_views, idle}
 use Rattle.mesh_steps.specs.PinSteps.{ReadEnds, ReadGoes, ReadFinds}
@@ -50,7 +50,7 @@ s41 : Step square_setup (state pinned 3 u40) (state given_back 3 u41)
 s41 = ByUnpinStep (2, 1, refl, refl, refl)
 
 abbrev pub u42 : Views
-u42 = record u41 { kind = update u41.kind 2 0; claims = update u41.claims 2 []; work = update u41.work 2 idle; sure = update u41.sure 2 unsure; read = update (update u41.read 0 (record (u41.read 0) { notes = (u41.read 0).notes ++ (u41.read 2).notes })) 2 unread; ruling = record u41.ruling { readers = 0; early = 0 } }
+u42 = record u41 { kind = update u41.kind 2 Vacant; claims = update u41.claims 2 []; work = update u41.work 2 idle; sure = update u41.sure 2 unsure; read = update (update u41.read 0 (record (u41.read 0) { notes = (u41.read 0).notes ++ (u41.read 2).notes })) 2 unread; ruling = record u41.ruling { readers = 0; early = 0 } }
 
 pub k42 : JoinReader square_setup given_back 3 u41 (state given_back 3 u42)
 k42 = (2, en 2 0 lt02, refl, refl, 0, 0, refl, inr (le11, refl), refl)
