@@ -17,3 +17,4 @@ pub mod ClaimLaws
 pub mod SeatLaws
 pub mod TableLaws
 pub mod OwnerLaws
+pub mod DrawLaws
