@@ -16,3 +16,4 @@ pub mod Known
 pub mod Counts
 pub mod OwnerLaws
 pub mod DrawLaws
+pub mod KnownNames

@@ -18,3 +18,4 @@ pub mod SeatLaws
 pub mod TableLaws
 pub mod OwnerLaws
 pub mod DrawLaws
+pub mod KnownNames

@@ -5,6 +5,7 @@ use Rattle.mesh_state.proofs.SeatLaws.{begins_equal, living_claimed, living_bloc
 use Rattle.mesh_state.proofs.TableLaws.{blocks_in_pool, blocks_viewed, places_in_table, chains_named, elements_named, walk_sides, claims_listed_once}
 use Rattle.mesh_state.proofs.OwnerLaws.{dead_noted, free_found, stock_rows, blocks_noted, kept_exact, noted_kinds, walked_noted, early_pins, blocks_counted, patches_counted}
 use Rattle.mesh_state.proofs.DrawLaws.{draws_of_target, pool_covered, round_fits}
+use Rattle.mesh_state.proofs.KnownNames.{walks_chained, known_found}
 use Rattle.mesh_state.proofs.FreshList.{fresh_from_list}
 use Rattle.mesh_state.proofs.Fresh.{fresh_is_lawful}
 use Rattle.mesh_state.proofs.laws.laws.Goals as goal
@@ -257,3 +258,9 @@ returns-clause-pool_covered c = pool_covered
 
 pub returns-clause-fits : goal.returns-clause-fits
 returns-clause-fits c = round_fits
+
+pub returns-clause-walks_chained : goal.returns-clause-walks_chained
+returns-clause-walks_chained c = walks_chained
+
+pub returns-clause-known_found : goal.returns-clause-known_found
+returns-clause-known_found c = known_found
