@@ -215,9 +215,9 @@ module _ (s : Setup) (name name' : ℕ → ℕ) (head hist head' hist' : ℕ →
 
     -- what a worker knows of the last finished round, and where it walks
     pub workers_on : K round → Fits s name head hist born died life (who round) round → (phase ≡ FirstHalf → Fits s name head hist born died life (who (round + 1)) (round + 1)) → (kind : Kind) (seat : ℕ) (v : Work)
-        → ((b : ℕ) → kind ≡ Worker → HasEntry v.went b → (died b ≡ 0) ⊎ (round < died b) → A round b)
+        → ((b : ℕ) → kind ≡ Worker → HasEntry v.went b → (died b ≡ 0) ⊎ (round < died b) → A round b) → ((b : ℕ) (t : Bool) (x : ℕ) → chained (life b) t ≡ x + 1 → chained (life' b) t ≡ x + 1)
         → WalkRule s round phase name hist born died life who kind seat v → WalkRule s round phase name' hist' born' died' life' who kind seat v
-    workers_on now last next kind seat v gone g = record {
+    workers_on now last next kind seat v gone chain g = record {
       still = g.still;
       only = g.only;
       half = g.half;
@@ -228,7 +228,7 @@ module _ (s : Setup) (name name' : ℕ → ℕ) (head hist head' hist' : ℕ →
       had = g.had;
       went = λ b h. let t = g.went b h in ((t.0.0, t.0.1, m.stand round b t.0.0 t.0.1 now (gone b (worker b h) h t.1) t.0.2), m.alive round b t.0.0 t.0.1 (omega arith) t.0.2 t.1);
       walk = walk_on v.walk g.walk;
-      sided = λ x n b t h. same b t t x (⊎_elim (λ e. let k : WorkWalks s round phase name hist born died life who v.went (At x n b t) = subst (WorkWalks s round phase name hist born died life who v.went) e g.walk in k.1) (λ e. let k : WorkWalks s round phase name hist born died life who v.went (Past x n b t) = subst (WorkWalks s round phase name hist born died life who v.went) e g.walk in k.1) h) ∙ g.sided x n b t h;
+      sided = λ x n b t h. same b t t x (chained_stands (life b) t x (⊎_elim (λ e. let k : WorkWalks s round phase name hist born died life who v.went (At x n b t) = subst (WorkWalks s round phase name hist born died life who v.went) e g.walk in k.1) (λ e. let k : WorkWalks s round phase name hist born died life who v.went (Past x n b t) = subst (WorkWalks s round phase name hist born died life who v.went) e g.walk in k.1) h)) ∙ g.sided x n b t h;
     }
       where
         worker : (b : ℕ) → HasEntry v.went b → kind ≡ Worker
@@ -239,10 +239,10 @@ module _ (s : Setup) (name name' : ℕ → ℕ) (head hist head' hist' : ℕ →
 
         walk_on : (u : Walk) → WorkWalks s round phase name hist born died life who v.went u → WorkWalks s round phase name' hist' born' died' life' who v.went u
         walk_on Still h = tt
-        walk_on (At x n b t) h = let a = g.went b h.0 in let f = gone b (worker b h.0) h.0 a.1 in
-            (h.0, m.stand round b t x now f h.1, place_on x n h.2, λ c w. ⊎_elim (λ z. inl (z.0, subst (Covers born' died' round) z.0 (m.on round b t x now h.1 (subst (Covers born died round) (sym z.0) z.1)))) (λ z. inr (m.hists round b t x c now f h.1 z)) (h.3 c w))
+        walk_on (At x n b t) h = let a = g.went b h.0 in let f = gone b (worker b h.0) h.0 a.1 in let st = chained_stands (life b) t x h.1 in
+            (h.0, chain b t x h.1, place_on x n h.2, λ c w. ⊎_elim (λ z. inl (z.0, subst (Covers born' died' round) z.0 (m.on round b t x now st (subst (Covers born died round) (sym z.0) z.1)))) (λ z. inr (m.hists round b t x c now f st z)) (h.3 c w))
         walk_on (Past x n b t) h = let a = g.went b h.0 in let f = gone b (worker b h.0) h.0 a.1 in
-            (h.0, m.stand round b t x now f h.1, place_on x n h.2, λ c w. m.hists round b t x c now f h.1 (h.3 c w))
+            (h.0, chain b t x h.1, place_on x n h.2, λ c w. m.hists round b t x c now f (chained_stands (life b) t x h.1) (h.3 c w))
 
 -- workers see what the first half adds
 pub workers_who : (s : Setup) (round : ℕ) (phase : Phase) (name : ℕ → ℕ) (hist : ℕ → Node) (born died : ℕ → ℕ) (life : ℕ → Life) (who who' : ℕ → ℕ → ℕ) → who' round ≡ who round → (phase ≡ FirstHalf → (x n : ℕ) → IsPlaceOf s name (who (round + 1)) x n → IsPlaceOf s name (who' (round + 1)) x n)

@@ -13,4 +13,7 @@ pub mod ClaimLaws
 pub mod SeatLaws
 pub mod TableLaws
 pub mod Known
+pub mod Counts
 pub mod OwnerLaws
+pub mod DrawLaws
+pub mod KnownNames

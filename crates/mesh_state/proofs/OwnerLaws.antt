@@ -1,8 +1,7 @@
 -- The laws of what the owner knows of all blocks.
-use Rattle.std.proofs.Common.{◌≡◌, ℕ, zero, suc, ◌+◌, ◌-◌, ◌<◌, ◌≤◌, Bool, true, false, List, [], ◌∷◌, ◌++◌, length, ◌⊎◌, refl, sym, ap, ◌∙◌, subst, inl, inr, ⊎_elim, arith}
+use Rattle.std.proofs.Common.{◌≡◌, ℕ, ◌+◌, ◌-◌, ◌<◌, ◌≤◌, Bool, true, false, List, ◌++◌, length, ◌⊎◌, refl, sym, ap, ◌∙◌, subst, inl, inr, ⊎_elim, arith}
 use Rattle.std.proofs.lemmas.List.{length-append}
-use mathlib.Core.Logic.{dite}
-use native.Mathlib.Decide.{ℕ_discrete, dec_lt}
+use native.Mathlib.Decide.{dec_lt}
 use Rattle.mesh_words.specs.Setup.{Setup}
 use Rattle.mesh_words.specs.Words.{Words}
 use Rattle.mesh_words.specs.Views.{Views, Resting}
@@ -14,12 +13,13 @@ use Rattle.mesh_words.proofs.Entries.{entry_of_both, entry_left, entry_right}
 use Rattle.mesh_state.specs.Ghosts.{Held, Life, Free, Loose, Placed, Undone, chained, stands, Ghost}
 use Rattle.mesh_state.specs.Chains.{Covers}
 use Rattle.mesh_state.specs.Rule.{Rule}
-use Rattle.mesh_state.specs.OwnerLaws.{DeadNoted, FreeFound, StockRows, BlocksNoted, KeptExact, NotedKinds, IsFound, WalkedNoted, EarlyPins, Once, BlocksCounted, PatchesCounted}
+use Rattle.mesh_state.specs.OwnerLaws.{DeadNoted, FreeFound, StockRows, BlocksNoted, KeptExact, NotedKinds, IsFound, WalkedNoted, EarlyPins, BlocksCounted, PatchesCounted}
 use Rattle.mesh_state.proofs.FoundAgain.{one_more, placed, found_covers}
 use Rattle.mesh_state.proofs.HeldClaims.{not_open, loose_not}
 use Rattle.mesh_state.proofs.Inside.{below_pool}
 use Rattle.mesh_state.proofs.Across.{no_early}
 use Rattle.mesh_state.proofs.SeatLaws.{living_blocks, link_words, history_words}
+use Rattle.mesh_state.proofs.Counts.{counted, once_append, rows_from, rows_length, row_of, has_row, once_rows, blocks_of, blocks_length, name_of, has_block, once_blocks}
 
 pub free_found : FreeFound
 free_found s w n v (g, r) b = (r.frees.all b, λ h. (r.frees.hand_rows b h, r.frees.hand_stock b h))
@@ -128,45 +128,6 @@ walked_noted s w n v (g, r) = (
   ),
 )
 
--- a list without one of its numbers
-removed : (list : List ℕ) (b : ℕ) → Once list → HasEntry list b → (rest : List ℕ) × Once rest × (length list ≡ length rest + 1) × ((c : ℕ) → HasEntry rest c → HasEntry list c × (c ≡ b → ⊥)) × ((c : ℕ) → HasEntry list c → (c ≡ b → ⊥) → HasEntry rest c)
-removed [] b o h = absurd h
-removed (x ∷ xs) b o (inl e) = (xs, o.1, omega arith, (λ c k. (inr k, λ q. o.0 (subst (HasEntry xs) (q ∙ e) k))), λ c k q. ⊎_elim (λ i. absurd (q (i ∙ sym e))) (λ k. k) k)
-removed (x ∷ xs) b o (inr h) = let t = removed xs b o.1 h in let l = t.2 in (x ∷ t.0, ((λ k. o.0 (t.3 x k).0), t.1), omega arith, (λ c k. ⊎_elim (λ e. (inl e, λ q. o.0 (subst (HasEntry xs) (sym q ∙ e) h))) (λ k. let u = t.3 c k in (inr u.0, u.1)) k), λ c k q. ⊎_elim (λ e. inl e) (λ k. inr (t.4 c k q)) k)
-
--- a list that has each number below p once has p of them
-counted : (p : ℕ) (list : List ℕ) → Once list → ((b : ℕ) → HasEntry list b → b < p) → ((b : ℕ) → b < p → HasEntry list b) → length list ≡ p
-counted zero [] o low all = refl
-counted zero (x ∷ xs) o low all = let l = low x (inl refl) in absurd (omega arith)
-counted (suc p) list o low all = let t = removed list p o (all p (omega arith)) in let l = t.2 in
-    let c = counted p t.0 t.1 (λ b h. let u = t.3 b h in let k = low b u.0 in elim (dec_lt b p) [ yes m ↦ m | no m ↦ absurd (u.1 (omega arith)) ]) (λ b k. t.4 b (all b (omega arith)) (λ e. omega arith)) in omega arith
-
-once_append : (xs ys : List ℕ) → Once xs → Once ys → ((b : ℕ) → HasEntry xs b → HasEntry ys b → ⊥) → Once (xs ++ ys)
-once_append [] ys a b not = b
-once_append (x ∷ xs) ys a b not = ((λ h. ⊎_elim a.0 (not x (inl refl)) (entry_of_both xs ys x h)), once_append xs ys a.1 b (λ c h. not c (inr h)))
-
--- the blocks of k rows from c on
-abbrev rows_from : ℕ → (ℕ → ℕ) → ℕ → List ℕ
-rows_from c row zero = []
-rows_from c row (suc k) = row (c + k) ∷ rows_from c row k
-
-rows_length : (c : ℕ) (row : ℕ → ℕ) (k : ℕ) → length (rows_from c row k) ≡ k
-rows_length c row zero = refl
-rows_length c row (suc k) = let e = rows_length c row k in omega arith
-
-row_of : (c : ℕ) (row : ℕ → ℕ) (k b : ℕ) → HasEntry (rows_from c row k) b → (i : ℕ) × (c ≤ i) × (i < c + k) × (row i ≡ b)
-row_of c row zero b h = absurd h
-row_of c row (suc k) b (inl e) = (c + k, omega arith, omega arith, sym e)
-row_of c row (suc k) b (inr h) = let t = row_of c row k b h in let l = t.2 in (t.0, t.1, omega arith, t.3)
-
-has_row : (c : ℕ) (row : ℕ → ℕ) (k i : ℕ) → c ≤ i → i < c + k → HasEntry (rows_from c row k) (row i)
-has_row c row zero i l m = absurd (omega arith)
-has_row c row (suc k) i l m = dite (ℕ_discrete i (c + k)) (λ e. inl (ap row e)) (λ o. inr (has_row c row k i l (elim (dec_lt i (c + k)) [ yes q ↦ q | no q ↦ absurd (o (omega arith)) ])))
-
-once_rows : (c : ℕ) (row : ℕ → ℕ) (k : ℕ) → ((i j : ℕ) → c ≤ i → i < c + k → c ≤ j → j < c + k → row i ≡ row j → i ≡ j) → Once (rows_from c row k)
-once_rows c row zero one = tt
-once_rows c row (suc k) one = ((λ h. let t = row_of c row k (row (c + k)) h in let l = t.2 in let e = one t.0 (c + k) t.1 (omega arith) (omega arith) (omega arith) t.3 in omega arith), once_rows c row k (λ i j a b d f. one i j a (omega arith) d (omega arith)))
-
 pub blocks_counted : BlocksCounted
 blocks_counted s w n v (g, r) z none stopped low blocks once same = by (w.free - w.cursor) (omega arith)
   where
@@ -178,29 +139,6 @@ blocks_counted s w n v (g, r) z none stopped low blocks once same = by (w.free -
         (λ b h. ⊎_elim (λ h. let t = (same b).0 h in below_pool s w.free w.row g.life g.stage v.ruling.hand v.ruling.retired r.inside b (not_free s w n v g r b t.0 t.1 t.2)) (λ f. let u = row_of w.cursor w.row k b f in let m = u.2 in let i = r.inside.rows u.0 (omega arith) in let q = u.3 in omega arith) (entry_of_both blocks rows b h))
         (λ b p. ⊎_elim (λ f. ⊎_elim (λ h. absurd (subst (λ (x : List ℕ). HasEntry x b) none h)) (λ t. ⊎_elim (λ t. let m = t.2 in entry_right blocks rows b (subst (HasEntry rows) t.3 (has_row w.cursor w.row k t.0 t.1 (omega arith)))) (λ t. let t1 = t.1 in let t2 = t.2 in absurd (omega arith)) t) (r.frees.all b p f))
         (λ t. entry_left blocks rows b ((same b).1 t)) (all_noted s w n v g r z b)) in omega arith
-
--- the blocks that a function gives, less one, for the names of a list
-abbrev blocks_of : (ℕ → ℕ) → List ℕ → List ℕ
-blocks_of who [] = []
-blocks_of who (k ∷ ks) = (who k - 1) ∷ blocks_of who ks
-
-blocks_length : (who : ℕ → ℕ) (ks : List ℕ) → length (blocks_of who ks) ≡ length ks
-blocks_length who [] = refl
-blocks_length who (k ∷ ks) = let e = blocks_length who ks in omega arith
-
-name_of : (who : ℕ → ℕ) (ks : List ℕ) (b : ℕ) → HasEntry (blocks_of who ks) b → (k : ℕ) × HasEntry ks k × (b ≡ who k - 1)
-name_of who [] b h = absurd h
-name_of who (k ∷ ks) b (inl e) = (k, inl refl, e)
-name_of who (k ∷ ks) b (inr h) = let t = name_of who ks b h in (t.0, inr t.1, t.2)
-
-has_block : (who : ℕ → ℕ) (ks : List ℕ) (k : ℕ) → HasEntry ks k → HasEntry (blocks_of who ks) (who k - 1)
-has_block who [] k h = absurd h
-has_block who (i ∷ ks) k (inl e) = inl (ap (λ (j : ℕ). who j - 1) e)
-has_block who (i ∷ ks) k (inr h) = inr (has_block who ks k h)
-
-once_blocks : (who : ℕ → ℕ) (ks : List ℕ) → Once ks → ((k i : ℕ) → HasEntry ks k → HasEntry ks i → who k - 1 ≡ who i - 1 → k ≡ i) → Once (blocks_of who ks)
-once_blocks who [] o one = tt
-once_blocks who (k ∷ ks) o one = ((λ h. let t = name_of who ks (who k - 1) h in o.0 (subst (HasEntry ks) (sym (one k t.0 (inl refl) (inr t.1) t.2)) t.1)), once_blocks who ks o.1 (λ a b h f. one a b (inr h) (inr f)))
 
 pub patches_counted : PatchesCounted
 patches_counted s w n v (g, r) z none stopped low names firsts stay at once_f same_f once_s same_s =

@@ -13,7 +13,7 @@ use Rattle.mesh_state.specs.Readers.{Walks}
 use Rattle.mesh_state.specs.Work.{IsWorkPlace, WorkWalks}
 use Rattle.mesh_state.specs.Rule.{Rule}
 use Rattle.mesh_state.specs.TableLaws.{BlocksInPool, BlocksViewed, PlacesInTable, ChainsNamed, ElementsNamed, WalkSides, ClaimsListedOnce}
-use Rattle.mesh_state.proofs.FoundAgain.{standing, stood}
+use Rattle.mesh_state.proofs.FoundAgain.{standing, stood, chained_stands}
 use Rattle.mesh_state.proofs.HeldClaims.{used_life, free_loose, free_not, place_of}
 use Rattle.mesh_state.proofs.Across.{zero_or_more}
 use Rattle.mesh_state.proofs.Bisections.{two_names}
@@ -109,7 +109,7 @@ elements_named s w n v (g, r) q may x k at = label_of s w n v g r q may x k at
 
 pub walk_sides : WalkSides
 walk_sides s w n v (g, r) j x k b t = (
-  (λ at. let h = subst (WorkWalks s w.round v.ruling.phase w.name w.hist w.born w.died g.life g.who (v.work j).went) at (r.walks j).walk in side_is s w n v g r b x k t h.1 ((r.walks j).sided x k b t (inl at))),
+  (λ at. let h = subst (WorkWalks s w.round v.ruling.phase w.name w.hist w.born w.died g.life g.who (v.work j).went) at (r.walks j).walk in side_is s w n v g r b x k t (chained_stands (g.life b) t x h.1) ((r.walks j).sided x k b t (inl at))),
   λ q p at. let h = subst (Walks s w.name w.hist w.born w.died g.life (g.who q) q (v.read j).went) at ((r.goes j).walk q p) in side_is s w n v g r b x k t h.1 ((r.goes j).sided q x k b t p (inl at)),
 )
 

@@ -17,3 +17,5 @@ pub mod ClaimLaws
 pub mod SeatLaws
 pub mod TableLaws
 pub mod OwnerLaws
+pub mod DrawLaws
+pub mod KnownNames

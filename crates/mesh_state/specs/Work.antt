@@ -5,7 +5,7 @@ use Rattle.mesh_words.specs.Places.{member_of, child_place}
 use Rattle.mesh_words.specs.Setup.{Setup}
 use Rattle.mesh_words.specs.Views.{FirstHalf, SecondHalf, Worker, Walk, Still, At, Past, Work, Kind, Phase}
 use Rattle.mesh_words.specs.Words.{Node}
-use Rattle.mesh_state.specs.Ghosts.{Life, Placed, stands}
+use Rattle.mesh_state.specs.Ghosts.{Life, Placed, chained, stands}
 use Rattle.mesh_state.specs.Chains.{Covers, Reaches}
 use Rattle.mesh_state.specs.Bisections.{IsPlaceOf}
 
@@ -25,11 +25,11 @@ pub record WorkRule (s : Setup) (round : ℕ) (phase : Phase) (name born died : 
 abbrev pub IsWorkPlace : Setup → ℕ → Phase → (ℕ → ℕ) → (ℕ → ℕ → ℕ) → ℕ → ℕ → Type 0
 IsWorkPlace s round phase name who x n = ((phase ≡ FirstHalf) × IsPlaceOf s name (who (round + 1)) x n) ⊎ IsPlaceOf s name (who round) x n
 
--- Where a worker's walk is: it stands still; or it has gone to a block's member from the place of a name, whose block at the last finished round, if there is one, is this or is found behind it; or it has passed that block by
+-- Where a worker's walk is: it stands still; or it has gone to a block's member in the chain of the place of a name, whose block at the last finished round, if there is one, is this or is found behind it; or it has passed that block by
 abbrev pub WorkWalks : Setup → ℕ → Phase → (ℕ → ℕ) → (ℕ → Node) → (ℕ → ℕ) → (ℕ → ℕ) → (ℕ → Life) → (ℕ → ℕ → ℕ) → List ℕ → Walk → Type 0
 WorkWalks s round phase name hist born died life who went Still = Unit {0}
-WorkWalks s round phase name hist born died life who went (At x n b t) = HasEntry went b × (stands (life b) t ≡ x + 1) × IsWorkPlace s round phase name who x n × ((c : ℕ) → who round n ≡ c + 1 → ((b ≡ c) × Covers born died round c) ⊎ Reaches hist born died life round x c (hist (member_of b t)))
-WorkWalks s round phase name hist born died life who went (Past x n b t) = HasEntry went b × (stands (life b) t ≡ x + 1) × IsWorkPlace s round phase name who x n × ((c : ℕ) → who round n ≡ c + 1 → Reaches hist born died life round x c (hist (member_of b t)))
+WorkWalks s round phase name hist born died life who went (At x n b t) = HasEntry went b × (chained (life b) t ≡ x + 1) × IsWorkPlace s round phase name who x n × ((c : ℕ) → who round n ≡ c + 1 → ((b ≡ c) × Covers born died round c) ⊎ Reaches hist born died life round x c (hist (member_of b t)))
+WorkWalks s round phase name hist born died life who went (Past x n b t) = HasEntry went b × (chained (life b) t ≡ x + 1) × IsWorkPlace s round phase name who x n × ((c : ℕ) → who round n ≡ c + 1 → Reaches hist born died life round x c (hist (member_of b t)))
 
 -- what the passes at work know of the last finished round, and where they walk
 pub record WalkRule (s : Setup) (round : ℕ) (phase : Phase) (name : ℕ → ℕ) (hist : ℕ → Node) (born died : ℕ → ℕ) (life : ℕ → Life) (who : ℕ → ℕ → ℕ) (kind : Kind) (seat : ℕ) (v : Work) : Type 0 where

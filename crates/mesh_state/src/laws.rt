@@ -5,6 +5,8 @@ ghost use Rattle.mesh_state.specs.RoundLaws.{BetweenForests, BisectedClosed, Cha
 ghost use Rattle.mesh_state.specs.SeatLaws.{BeginsEqual, BlocksKnown, FilledStays, FindingsRight, FinishedFindings, HistoryWords, LinkWords, LivingBlocks, LivingClaimed, LoadedStays, NumbersKnown, OneHalf, OthersEmpty, OwnerSure, PassesCounted, PinsCounted, PinsOut, RetiredNoted, WorkersWent};
 ghost use Rattle.mesh_state.specs.TableLaws.{BlocksInPool, BlocksViewed, ChainsNamed, ClaimsListedOnce, ElementsNamed, PlacesInTable, WalkSides};
 ghost use Rattle.mesh_state.specs.OwnerLaws.{BlocksCounted, BlocksNoted, DeadNoted, EarlyPins, FreeFound, KeptExact, NotedKinds, PatchesCounted, StockRows, WalkedNoted};
+ghost use Rattle.mesh_state.specs.DrawLaws.{DrawsOfTarget, PoolCovered, RoundFits};
+ghost use Rattle.mesh_state.specs.KnownNames.{KnownFound, WalksChained};
 ghost use Rattle.mesh_state.specs.Fresh.{FreshFromList, FreshIsLawful};
 
 /// What holds in each lawful state, of its words, its claims and what seats know; and that the fresh
@@ -88,6 +90,11 @@ pub fn laws()
     ensures early { EarlyPins }
     ensures count { BlocksCounted }
     ensures patches { PatchesCounted }
+    ensures draws_of_target { DrawsOfTarget }
+    ensures pool_covered { PoolCovered }
+    ensures fits { RoundFits }
+    ensures walks_chained { WalksChained }
+    ensures known_found { KnownFound }
     ensures list { FreshFromList }
     ensures fresh { FreshIsLawful }
 {}

@@ -34,13 +34,13 @@ module _ (s : Setup) (w : Words) (n : ℕ) (v : Views) (g : Ghost) (r : Rule s w
   nothing_sure j workers stage = record { head_is = λ z l f h. absurd f; hist_is = λ b t l f h. absurd f; died_is = λ b k f h. absurd f; name_is = λ b t k f h. absurd f; born_is = λ b k f h i. absurd f; row_is = λ b k f h i. absurd f }
 
   -- The claim of a patch of the target of which the pass found the members' places, and which the last finished round has not
-  module _ (j x m k : ℕ) (kind : v.kind j ≡ Worker) (bit0 : w.claimed x ≡ 0) (lead : s.leads k ≡ 1) (room : x < places s) (absent : HasEntry (v.work j).absent k) (aimed : HasEntry (v.work j).plan.target k)
+  module _ (j x m k : ℕ) (kind : v.kind j ≡ Worker) (bit0 : w.claimed x ≡ 0) (lead : s.leads k ≡ 1) (room : x < places s) (absent : HasEntry (v.work j).absent k ⊎ ((i : ℕ) × (s.mate k ≡ i + 1) × HasEntry (v.work j).absent (i + 1))) (aimed : HasEntry (v.work j).plan.target k)
       (here : HasEntry (v.work j).found (x, k)) (mate : ((m ≡ 0) × (s.mate k ≡ 0)) ⊎ ((y : ℕ) × (i : ℕ) × (m ≡ y + 1) × (s.mate k ≡ i + 1) × HasEntry (v.work j).found (y, i + 1))) where
     one : v.ruling.phase ≡ FirstHalf
     one = ((r.works j).found x k here).0
 
     old : g.who w.round k ≡ 0
-    old = (r.walks j).absent k absent
+    old = ⊎_elim ((r.walks j).absent k) (λ a. let z = (r.walks j).absent (a.0 + 1) a.2 in ⊎_elim (λ y. y) (λ t. let y = (members_together s w n v (g, r) w.round (inl (inl refl)) k a.0 t.0 a.1).0 t.1 in absurd (omega arith)) (zero_or_more (g.who w.round k))) absent
 
     -- nor has it the second member
     mate_old : (i : ℕ) → s.mate k ≡ i + 1 → g.who w.round (i + 1) ≡ 0

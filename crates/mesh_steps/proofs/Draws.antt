@@ -174,7 +174,7 @@ module _ (s : Setup) (w : Words) (n : ℕ) (v : Views) (g : Ghost) (r : Rule s w
       }
         where
           walker : (i : ℕ) → WalkRule s w.round v.ruling.phase w.name w.hist w.born w.died life g.who (v.kind i) i (v.work i)
-          walker i = workers_on s w.name w.name w.head w.hist w.head w.hist w.born w.died w.born w.died g.life life (λ _ _ _ _ _. refl) w.round v.ruling.phase g.who v.read Can A moves (inl (inl refl)) (r.names.fits w.round (inl (inl refl))) (λ e. r.names.fits d (inr (refl, omega (arith, ap order e)))) (v.kind i) i (v.work i) (λ b k h x. (inr (i, k, refl, h), x)) (r.walks i)
+          walker i = workers_on s w.name w.name w.head w.hist w.head w.hist w.born w.died w.born w.died g.life life (λ _ _ _ _ _. refl) w.round v.ruling.phase g.who v.read Can A moves (inl (inl refl)) (r.names.fits w.round (inl (inl refl))) (λ e. r.names.fits d (inr (refl, omega (arith, ap order e)))) (v.kind i) i (v.work i) (λ b k h x. (inr (i, k, refl, h), x)) (λ c t y e. ap (λ (l : Life). chained l t) (same_life c (λ (f : g.life c ≡ Free). let z : 0 ≡ y + 1 = sym (ap (λ (l : Life). chained l t) f) ∙ e in omega arith)) ∙ e) (r.walks i)
 
           old_draw : (a i b : ℕ) → HasEntry (v.work a).drawn (i, b) → (v.ruling.phase ≡ FirstHalf) × (i < w.cursor + 1) × (i < w.free → b ≡ w.row i + 1) × (w.free ≤ i → b ≡ 0)
           old_draw a i b h = let t = r.drawn.drawn a i b h in let t1 = t.1 in (t.0, omega arith, t.2, t.3)

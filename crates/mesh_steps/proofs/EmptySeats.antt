@@ -1,5 +1,5 @@
 -- A seat that was joined has no claim and knows nothing of the work.
-use Rattle.std.proofs.Common.{◌≡◌, ◌≢◌, ℕ, ◌+◌, List, [], ◌⊎◌, refl, sym, ap, ◌∙◌, subst, inl, inr, ⊎_elim, arith}
+use Rattle.std.proofs.Common.{◌≡◌, ◌≢◌, ℕ, ◌+◌, List, [], refl, sym, ap, ◌∙◌, subst, inl, inr, ⊎_elim, arith}
 use mathlib.Core.Logic.{dite}
 use native.Mathlib.Decide.{ℕ_discrete}
 use Rattle.mesh_words.specs.Setup.{Setup}
@@ -7,7 +7,7 @@ use Rattle.mesh_words.specs.Claims.{Progress, Claim, claim}
 use Rattle.mesh_words.specs.Entries.{HasEntry}
 use Rattle.mesh_words.specs.Functions.{update}
 use Rattle.mesh_words.specs.Words.{Words}
-use Rattle.mesh_words.specs.Views.{Views, Work, At, Past, Vacant, Worker}
+use Rattle.mesh_words.specs.Views.{Views, Work, Vacant, Worker}
 use Rattle.mesh_words.proofs.Functions.{update_at, update_other, update_cases}
 use Rattle.mesh_state.specs.Fresh.{idle}
 use Rattle.mesh_state.specs.Ghosts.{Ghost, Held}

@@ -99,7 +99,7 @@ module _ (s : Setup) (w : Words) (n : ℕ) (v : Views) (g : Ghost) (r : Rule s w
           (λ c y k l h. subst (λ (i : ℕ). i ≤ w.round) (sym (off c (other c false y (ap (λ (l : Life). chained l false) h))).1) (r.names.calm c y k l h)) r.names;
       pins = r.pins;
       works = λ i. let k = r.works i in record { only = k.only; found = λ y a h. let t = k.found y a h in (t.0, place_on y a t.1); known = k.known; open_ = k.open_; given = λ c y h. let t = (k.given c y h).0 in let e = one in absurd (cc) };
-      walks = λ i. workers_on s w.name name' w.head w.hist w.head hist' w.born w.died w.born died' g.life g.life same w.round v.ruling.phase g.who v.read Can A step_chains.1 (inl (inl refl)) (r.names.fits w.round (inl (inl refl))) (λ e. r.names.fits d can) (v.kind i) i (v.work i) (λ b k h x. (inr (i, k, refl, h), x)) (r.walks i);
+      walks = λ i. workers_on s w.name name' w.head w.hist w.head hist' w.born w.died w.born died' g.life g.life same w.round v.ruling.phase g.who v.read Can A step_chains.1 (inl (inl refl)) (r.names.fits w.round (inl (inl refl))) (λ e. r.names.fits d can) (v.kind i) i (v.work i) (λ b k h x. (inr (i, k, refl, h), x)) (λ _ _ _ e. e) (r.walks i);
       sure = update_cases (λ i y. SureRule s.elements v.ruling.workers w.head hist' w.born died' name' w.row g.stage i y) v.sure j u sure
           (λ i ne. let a = r.sure i in record {
             head_is = a.head_is;
@@ -196,7 +196,7 @@ module _ (s : Setup) (w : Words) (n : ℕ) (v : Views) (g : Ghost) (r : Rule s w
         names = names_on s w.name w.name w.head w.hist head' w.hist w.born w.died w.born w.died g.life g.life (λ _ _ _ _ _. refl) w.round v.ruling.phase g.who v.read Can A mv (λ _ k. k) r.names.patch (λ _ p. p) r.names.calm r.names;
         pins = r.pins;
         works = r.works;
-        walks = λ i. workers_on s w.name w.name w.head w.hist head' w.hist w.born w.died w.born w.died g.life g.life (λ _ _ _ _ _. refl) w.round v.ruling.phase g.who v.read Can A mv (inl (inl refl)) (r.names.fits w.round (inl (inl refl))) (λ e. r.names.fits d can) (v.kind i) i (v.work i) (λ b k h x. (inr (i, k, refl, h), x)) (r.walks i);
+        walks = λ i. workers_on s w.name w.name w.head w.hist head' w.hist w.born w.died w.born w.died g.life g.life (λ _ _ _ _ _. refl) w.round v.ruling.phase g.who v.read Can A mv (inl (inl refl)) (r.names.fits w.round (inl (inl refl))) (λ e. r.names.fits d can) (v.kind i) i (v.work i) (λ b k h x. (inr (i, k, refl, h), x)) (λ _ _ _ e. e) (r.walks i);
         sure = update_cases (λ i y. SureRule s.elements v.ruling.workers head' w.hist w.born w.died w.name w.row g.stage i y) v.sure j (record (v.sure j) { head = (z0, l) ∷ (v.sure j).head })
             (let i = r.sure j in record { head_is = λ y k f h. ⊎_elim (λ q. update_at w.head z0 y l (sym q.0) ∙ q.1) (λ q. update_other w.head z0 y l (λ e. q.0 (sym e)) ∙ i.head_is y k q.1 h) f; hist_is = i.hist_is; died_is = i.died_is; name_is = i.name_is; born_is = i.born_is; row_is = i.row_is })
             (λ i ne. let q = r.sure i in record { head_is = λ y k f h. update_other w.head z0 y l (λ e. ne (head_only i y h e)) ∙ q.head_is y k f h; hist_is = q.hist_is; died_is = q.died_is; name_is = q.name_is; born_is = q.born_is; row_is = q.row_is });

@@ -247,7 +247,7 @@ pub singles_go_on : SinglesGoOn
 singles_go_on s w n v (g, r) j x k kind one found = (
   (λ open_ absent aimed. (
     _,
-    ByClaimStep (j, x, 0, k, kind, open_, one.0, absent, subst (λ (p : Plan). HasEntry p.target k) (sym (r.plan.same j kind)) aimed, found, inl (refl, one.1), refl),
+    ByClaimStep (j, x, 0, k, kind, open_, one.0, inl absent, subst (λ (p : Plan). HasEntry p.target k) (sym (r.plan.same j kind)) aimed, found, inl (refl, one.1), refl),
     here (λ (cs : List Claim). HasEntry cs (claim x 0 Claimed)) v.claims j _ (inl refl),
   )),
   λ c l mine dead first second kids old noted. (

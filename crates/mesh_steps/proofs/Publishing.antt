@@ -221,7 +221,7 @@ module _ (s : Setup) (w : Words) (n : ℕ) (v : Views) (g : Ghost) (r : Rule s w
 
         walker : (i : ℕ) → WalkRule s w.round v.ruling.phase w.name w.hist born' w.died g.life who' (v.kind i) i (v.work i)
         walker i = workers_who s w.round v.ruling.phase w.name w.hist born' w.died g.life g.who who' (update_other g.who d w.round now (λ (e : w.round ≡ w.round + 1). omega arith)) (λ _ y k h. here y k (seen_stays y k h)) (v.kind i) i (v.work i)
-            (workers_on s w.name w.name w.head w.hist w.head w.hist w.born w.died born' w.died g.life g.life (λ _ _ _ _ _. refl) w.round v.ruling.phase g.who v.read (IsKept w.round v.read) A step_chains.1 (inl refl) (r.names.fits w.round (inl (inl refl))) (λ e. r.names.fits d (inr (refl, omega (arith, ap order e)))) (v.kind i) i (v.work i) (λ c k h x. (inr (i, k, refl, h), x)) (r.walks i))
+            (workers_on s w.name w.name w.head w.hist w.head w.hist w.born w.died born' w.died g.life g.life (λ _ _ _ _ _. refl) w.round v.ruling.phase g.who v.read (IsKept w.round v.read) A step_chains.1 (inl refl) (r.names.fits w.round (inl (inl refl))) (λ e. r.names.fits d (inr (refl, omega (arith, ap order e)))) (v.kind i) i (v.work i) (λ c k h x. (inr (i, k, refl, h), x)) (λ _ _ _ e. e) (r.walks i))
 
         now_is : (k a : ℕ) → now k ≡ a + 1 → who' d k ≡ a + 1
         now_is k a e = ap (λ (f : ℕ → ℕ). f k) (update_same g.who d now) ∙ e

@@ -180,7 +180,7 @@ module _ (s : Setup) (w : Words) (n : ℕ) (v : Views) (g : Ghost) (r : Rule s w
 
         walker : (i : ℕ) → WalkRule s w.round v.ruling.phase w.name w.hist w.born (update w.died b d) g.life who' (v.kind i) i (v.work i)
         walker i = workers_who s w.round v.ruling.phase w.name w.hist w.born (update w.died b d) g.life g.who who' (update_other g.who d w.round now (λ (e : w.round ≡ w.round + 1). omega arith)) (λ e _ _ _. let t = two in absurd (cc)) (v.kind i) i (v.work i)
-            (workers_on s w.name w.name w.head w.hist w.head w.hist w.born w.died w.born (update w.died b d) g.life g.life (λ _ _ _ _ _. refl) w.round v.ruling.phase g.who v.read (IsKept w.round v.read) A step_chains.1 (inl refl) (r.names.fits w.round (inl (inl refl))) (λ e. let t = two in absurd (cc)) (v.kind i) i (v.work i) (λ c k h x. (inr (i, k, refl, h), x)) (r.walks i))
+            (workers_on s w.name w.name w.head w.hist w.head w.hist w.born w.died w.born (update w.died b d) g.life g.life (λ _ _ _ _ _. refl) w.round v.ruling.phase g.who v.read (IsKept w.round v.read) A step_chains.1 (inl refl) (r.names.fits w.round (inl (inl refl))) (λ e. let t = two in absurd (cc)) (v.kind i) i (v.work i) (λ c k h x. (inr (i, k, refl, h), x)) (λ _ _ _ e. e) (r.walks i))
 
         keeps : (i c : ℕ) → HasEntry (v.work i).retired c → HasEntry (update v.work j (record (v.work j) { open_ = names; retired = b ∷ (v.work j).retired }) i).retired c
         keeps i c h = update_cases (λ a u. a ≡ i → HasEntry u.retired c) v.work j (record (v.work j) { open_ = names; retired = b ∷ (v.work j).retired }) (λ e. inr (subst (λ (a : ℕ). HasEntry (v.work a).retired c) (sym e) h)) (λ a _ e. subst (λ (a : ℕ). HasEntry (v.work a).retired c) (sym e) h) i refl

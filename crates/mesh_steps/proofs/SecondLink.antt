@@ -95,7 +95,7 @@ module _ (s : Setup) (w : Words) (n : ℕ) (v : Views) (g : Ghost) (r : Rule s w
           (λ c h. (block_back s.elements v.ruling.workers g.stage x j (y + 1) (Half b) (Whole b) is (λ c e. absurd (not_drawn c e)) (λ c e. absurd (not_half c e)) i c h, (λ _. refl), refl, λ _. refl))
           (λ z e. let t = some_worker s w n v g r j kind in absurd (omega arith))
           (r.sure i);
-      walks = λ i. workers_on s w.name w.name w.head w.hist head' w.hist w.born w.died w.born w.died g.life g.life (λ _ _ _ _ _. refl) w.round v.ruling.phase g.who v.read Can A moves (inl (inl refl)) (r.names.fits w.round (inl (inl refl))) (λ e. r.names.fits d (inr (refl, omega (arith, ap order e)))) (v.kind i) i (v.work i) (λ b k h x. (inr (i, k, refl, h), x)) (r.walks i);
+      walks = λ i. workers_on s w.name w.name w.head w.hist head' w.hist w.born w.died w.born w.died g.life g.life (λ _ _ _ _ _. refl) w.round v.ruling.phase g.who v.read Can A moves (inl (inl refl)) (r.names.fits w.round (inl (inl refl))) (λ e. r.names.fits d (inr (refl, omega (arith, ap order e)))) (v.kind i) i (v.work i) (λ b k h x. (inr (i, k, refl, h), x)) (λ _ _ _ e. e) (r.walks i);
       goes = λ i. goes_on s w.name w.name w.head w.hist head' w.hist w.born w.died w.born w.died g.life g.life (λ _ _ _ _ _. refl) w.round v.ruling.phase g.who v.read Can A moves (λ a p e. (inl (inr (a, e)), r.pins.past a p e)) (λ a p c e h x. (inl (a, e, h), x)) (λ p t. r.names.fits p t) i (r.goes i);
       rules = r.rules;
       stock = r.stock;

@@ -14,12 +14,13 @@ use Rattle.mesh_state.specs.Work.{WorkRule, IsWorkPlace, WorkWalks, WalkRule, Gr
 use Rattle.mesh_state.specs.Rule.{Rule}
 use Rattle.mesh_state.specs.Inside.{IsLabel}
 use Rattle.mesh_state.proofs.Inside.{label_of, label_one, label_place}
-use Rattle.mesh_state.proofs.FoundAgain.{still_not, at_past, at_one, past_one, one_more, placed, chained_stands, placed_chained, standing, none_found, first_block, seen_live}
+use Rattle.mesh_state.proofs.FoundAgain.{still_not, at_past, at_one, past_one, one_more, placed, chained_stands, none_found, first_block, seen_live}
 use Rattle.mesh_state.proofs.ChainSteps.{named, older_head, dead_end}
 use Rattle.mesh_state.proofs.Lists.{crew_update, plan_update, drawn_update}
 use Rattle.mesh_state.proofs.Lists.{draws_update}
 use Rattle.mesh_steps.proofs.SureWords.{retired_on}
 use Rattle.mesh_state.proofs.Across.{Went, half_of, zero_or_more, place_one, name_one}
+use Rattle.mesh_state.proofs.KnownNames.{lifts, first_place}
 use Rattle.mesh_state.proofs.Known.{retireds_work, grows_same}
 use native.Mathlib.Decide.{dec_lt}
 
@@ -73,14 +74,6 @@ module _ (s : Setup) (w : Words) (n : ℕ) (v : Views) (g : Ghost) (r : Rule s w
     next : MayRead w.round v.ruling.phase v.read d
     next = inr (refl, early)
 
-    -- the places of the last round's elements are theirs in the first half too
-    lifts : v.ruling.phase ≡ FirstHalf → (x k : ℕ) → IsPlaceOf s w.name (g.who w.round) x k → IsPlaceOf s w.name (g.who d) x k
-    lifts one x k (inl a) = inl a
-    lifts one x k (inr c) = inr (c.0, c.1, c.2, c.3, r.names.grows (w.name (member_of c.0 c.1)) c.0 (omega (arith, ap order one)) c.4, c.5)
-
-    first_place : v.ruling.phase ≡ FirstHalf → (x k : ℕ) → IsWorkPlace s w.round v.ruling.phase w.name g.who x k → IsPlaceOf s w.name (g.who d) x k
-    first_place one x k h = ⊎_elim (λ t. t.1) (lifts one x k) h
-
     second_place : v.ruling.phase ≡ SecondHalf → (x k : ℕ) → IsWorkPlace s w.round v.ruling.phase w.name g.who x k → IsPlaceOf s w.name (g.who w.round) x k
     second_place two x k h = ⊎_elim (λ t. let e = t.0 in absurd (cc)) (λ t. t) h
 
@@ -108,7 +101,7 @@ module _ (s : Setup) (w : Words) (n : ℕ) (v : Views) (g : Ghost) (r : Rule s w
     first_word x k (inl t) = let f = r.names.fits w.round now in (
       r.chains.heads x (seen_live s w.name w.name w.head w.hist w.head w.hist w.born w.died w.born w.died g.life g.life (λ _ _ _ _ _. refl) (g.who d) d x k (r.names.fits d next) t.1),
       inl t,
-      λ c e. let u = f.found k c e in subst (λ (y : ℕ). Reaches w.hist w.born w.died g.life w.round y c (w.head y)) (place_one s w n v g r d next u.1 x k (lifts t.0 u.1 k u.4) t.1) u.5,
+      λ c e. let u = f.found k c e in subst (λ (y : ℕ). Reaches w.hist w.born w.died g.life w.round y c (w.head y)) (place_one s w n v g r d next u.1 x k (lifts s w n v g r t.0 u.1 k u.4) t.1) u.5,
     )
     first_word x k (inr t) = let f = r.names.fits w.round now in (
       r.chains.heads x (seen_live s w.name w.name w.head w.hist w.head w.hist w.born w.died w.born w.died g.life g.life (λ _ _ _ _ _. refl) (g.who w.round) w.round x k f t),
@@ -118,7 +111,7 @@ module _ (s : Setup) (w : Words) (n : ℕ) (v : Views) (g : Ghost) (r : Rule s w
 
     next_word : (x k b : ℕ) (t : Bool) → (v.work j).walk ≡ Past x k b t → Leads x k (w.hist (member_of b t))
     next_word x k b t at = let h = subst (WorkWalks s w.round v.ruling.phase w.name w.hist w.born w.died g.life g.who (v.work j).went) at (r.walks j).walk in
-        (older_head (λ _. Unit {0}) (Went w.round w.died v.kind v.work v.read) s.elements w.round w.head w.hist w.born w.died g.life r.chains x (w.born b) (w.hist (member_of b t)) (r.chains.hists b t x h.1), h.2, h.3)
+        (older_head (λ _. Unit {0}) (Went w.round w.died v.kind v.work v.read) s.elements w.round w.head w.hist w.born w.died g.life r.chains x (w.born b) (w.hist (member_of b t)) (r.chains.hists b t x (chained_stands (g.life b) t x h.1)), h.2, h.3)
 
     pub leads : (x k : ℕ) (l : Node) → IsNext x k l → Leads x k l
     leads x k l (inl t) = subst (Leads x k) (sym t.1) (first_word x k (work_place x k t.0))
@@ -129,7 +122,7 @@ module _ (s : Setup) (w : Words) (n : ℕ) (v : Views) (g : Ghost) (r : Rule s w
     next_named x k l (inl a) c t e ch = let at = work_place x k a.0 in let lab = work_label x k at in
         label_one s w.name g.life x (w.name (member_of c t)) k (r.named.heads x c t (label_place s w.name g.life x k lab) (ap (λ (i : Node). i.block) (sym a.1) ∙ e) ch) lab
     next_named x k l (inr n) c t e ch = let h = subst (WorkWalks s w.round v.ruling.phase w.name w.hist w.born w.died g.life g.who (v.work j).went) n.2 (r.walks j).walk in
-        r.named.hists n.0 c x n.1 t h.1 (ap (λ (i : Node). i.block) (sym n.3) ∙ e) ch ∙ (r.walks j).sided x k n.0 n.1 (inr n.2)
+        r.named.hists n.0 c x n.1 t (chained_stands (g.life n.0) n.1 x h.1) (ap (λ (i : Node). i.block) (sym n.3) ∙ e) ch ∙ (r.walks j).sided x k n.0 n.1 (inr n.2)
 
     in_round : (v.work j).round ≡ w.round + 1
     in_round = (r.walks j).at_work kind
@@ -172,7 +165,7 @@ module _ (s : Setup) (w : Words) (n : ℕ) (v : Views) (g : Ghost) (r : Rule s w
       o.0,
       relearns (b ∷ u.went) (At x k b o.0) u.found u.known u.absent u.stood u.had (r.works j).found (r.works j).known (r.walks j).absent (r.walks j).stood (r.walks j).had
           (λ c h. ⊎_elim (λ e. subst (λ (y : ℕ). ((t : Bool) × (x : ℕ) × (stands (g.life y) t ≡ x + 1)) × ((w.died y ≡ 0) ⊎ (w.round < w.died y))) (sym e) ((o.0, x, st), al)) ((r.walks j).went c) h)
-          (inl refl, st, f.1, λ c e. let h = first_block w.hist w.born w.died g.life w.round x c b l is (f.2 c e) in ⊎_elim inl (λ y. inr (subst (λ (i : Bool). Reaches w.hist w.born w.died g.life w.round x c (w.hist (member_of b i))) (r.chains.sides b h.0 o.0 x h.1 st) y)) h.2)
+          (inl refl, o.1, f.1, λ c e. let h = first_block w.hist w.born w.died g.life w.round x c b l is (f.2 c e) in ⊎_elim inl (λ y. inr (subst (λ (i : Bool). Reaches w.hist w.born w.died g.life w.round x c (w.hist (member_of b i))) (r.chains.sides b h.0 o.0 x h.1 st) y)) h.2)
           (λ y i c t z. ⊎_elim (λ e. let p = at_one x k b o.0 y i c t e in sym (ap (λ (q : ℕ × Bool). w.name (member_of q.0 q.1)) (λ q. (p.2 q, p.3 q))) ∙ next_named x k l next b o.0 is o.1 ∙ p.1) (λ e. absurd (at_past x k b o.0 y i c t e)) z),
     )
       where
@@ -181,10 +174,9 @@ module _ (s : Setup) (w : Words) (n : ℕ) (v : Views) (g : Ghost) (r : Rule s w
         alive (inl z) (inr o) = let e : w.died o.0 ≡ w.died b = ap w.died (one_more o.0 b (sym o.2 ∙ is)) in ⊎_elim (λ a. inl (sym e ∙ a)) (λ a. inr (omega arith)) (o.5 z)
         alive (inr m) (inr o) = let e : w.died o.0 ≡ w.died b = ap w.died (one_more o.0 b (sym o.2 ∙ is)) in let y : l.died ≡ w.died o.0 = o.4 (omega arith) in inr (omega arith)
 
-    -- the block to which the walk has gone, if it was born
-    at_block : (x k b : ℕ) (t : Bool) → u.walk ≡ At x k b t → 0 < w.born b → HasEntry u.went b × (chained (g.life b) t ≡ x + 1) × IsWorkPlace s w.round v.ruling.phase w.name g.who x k
-    at_block x k b t at p = let h = subst (WorkWalks s w.round v.ruling.phase w.name w.hist w.born w.died g.life g.who u.went) at (r.walks j).walk in
-        (h.0, ⊎_elim (λ y. placed_chained (g.life b) t x y.0 y.1 y.2 h.1) (λ y. let z = r.chains.undone b y.0 y.1 y.2 in absurd (omega arith)) (standing (g.life b) t x h.1), h.2)
+    -- the block to which the walk has gone
+    at_block : (x k b : ℕ) (t : Bool) → u.walk ≡ At x k b t → HasEntry u.went b × (chained (g.life b) t ≡ x + 1) × IsWorkPlace s w.round v.ruling.phase w.name g.who x k
+    at_block x k b t at = let h = subst (WorkWalks s w.round v.ruling.phase w.name w.hist w.born w.died g.life g.who u.went) at (r.walks j).walk in (h.0, h.1, h.2)
 
     -- a child's place and name
     kid_at : (who : ℕ → ℕ) (b k : ℕ) (t : Bool) → who (w.name (member_of b t)) ≡ b + 1 → w.name (member_of b t) ≡ k → (c : Bool) (y i : ℕ) → ◌≡◌ {A = ℕ × ℕ} (y, i) (child_place s.elements b t c, s.child k c) → IsPlaceOf s w.name who y i
@@ -193,9 +185,9 @@ module _ (s : Setup) (w : Words) (n : ℕ) (v : Views) (g : Ghost) (r : Rule s w
     -- BORN of the block in the first half: the name is bisected, and its children stand at the block
     pub finds_first : u.half ≡ FirstHalf → (x k b : ℕ) (t : Bool) → u.walk ≡ At x k b t → 0 < w.born b → Rule s w n (record v { work = update v.work j (learned u.went Still ((child_place s.elements b t false, s.child k false) ∷ (child_place s.elements b t true, s.child k true) ∷ u.found) (k ∷ u.known) u.absent u.stood u.had) }) g
     finds_first first x k b t at p =
-        let one : v.ruling.phase ≡ FirstHalf = sym ((r.walks j).half kind) ∙ first in let h = at_block x k b t at p in let l = r.chains.borns b in let pl = placed (g.life b) t x h.1 in let calm = r.names.calm b pl.0 pl.1 ((λ z. cc), λ z. cc) pl.2 in
+        let one : v.ruling.phase ≡ FirstHalf = sym ((r.walks j).half kind) ∙ first in let h = at_block x k b t at in let l = r.chains.borns b in let pl = placed (g.life b) t x h.1 in let calm = r.names.calm b pl.0 pl.1 ((λ z. cc), λ z. cc) pl.2 in
         let q = r.names.sound d next b t x h.1 (p, l, ⊎_elim inl (λ m. absurd (omega arith)) ((r.walks j).went b h.0).1) in
-        let e = name_one s w n v g r d x (w.name (member_of b t)) k q.1 (first_place one x k h.2) in
+        let e = name_one s w n v g r d x (w.name (member_of b t)) k q.1 (first_place s w n v g r one x k h.2) in
         relearns u.went Still ((child_place s.elements b t false, s.child k false) ∷ (child_place s.elements b t true, s.child k true) ∷ u.found) (k ∷ u.known) u.absent u.stood u.had
         (λ y i m. ⊎_elim (λ f. (one, kid_at (g.who d) b k t q.0 e false y i f)) (λ m2. ⊎_elim (λ f. (one, kid_at (g.who d) b k t q.0 e true y i f)) (λ m3. (r.works j).found y i m3) m2) m)
         (λ i m. ⊎_elim (λ f. (one, (b, ap (g.who d) (f ∙ sym e) ∙ q.0))) ((r.works j).known i) m)
@@ -205,7 +197,7 @@ module _ (s : Setup) (w : Words) (n : ℕ) (v : Views) (g : Ghost) (r : Rule s w
     pub finds_last : (x k b : ℕ) (t : Bool) → u.walk ≡ At x k b t → u.half ≡ SecondHalf → 0 < w.born b → w.born b < u.round → Rule s w n (record v { work = update v.work j (learned u.went Still u.found u.known u.absent ((child_place s.elements b t false, s.child k false) ∷ (child_place s.elements b t true, s.child k true) ∷ u.stood) ((b, k) ∷ u.had)) }) g
     finds_last x k b t at second p before =
         let same = in_round in let low : w.born b ≤ w.round = omega arith in
-        let two : v.ruling.phase ≡ SecondHalf = sym ((r.walks j).half kind) ∙ second in let h = at_block x k b t at p in
+        let two : v.ruling.phase ≡ SecondHalf = sym ((r.walks j).half kind) ∙ second in let h = at_block x k b t at in
         let q = r.names.sound w.round now b t x h.1 (p, low, ((r.walks j).went b h.0).1) in
         let e = name_one s w n v g r w.round x (w.name (member_of b t)) k q.1 (second_place two x k h.2) in
         relearns u.went Still u.found u.known u.absent ((child_place s.elements b t false, s.child k false) ∷ (child_place s.elements b t true, s.child k true) ∷ u.stood) ((b, k) ∷ u.had)
@@ -257,7 +249,7 @@ module _ (s : Setup) (w : Words) (n : ℕ) (v : Views) (g : Ghost) (r : Rule s w
         }
       where
         grown_at : (x k b : ℕ) (t : Bool) → u.walk ≡ At x k b t → u.round ≤ w.born b → (c : Bool) (y i : ℕ) → ◌≡◌ {A = ℕ × ℕ} (y, i) (child_place s.elements b t c, s.child k c) → IsGrown s w.round w.name w.born (g.who d) y i
-        grown_at x k b t at l c y i f = let same = in_round in let le = r.chains.borns b in let h = at_block x k b t at (omega arith) in let pl = placed (g.life b) t x h.1 in let is = (r.walks j).sided x k b t (inl at) in
+        grown_at x k b t at l c y i f = let same = in_round in let le = r.chains.borns b in let h = at_block x k b t at in let pl = placed (g.life b) t x h.1 in let is = (r.walks j).sided x k b t (inl at) in
             let live : w.died b ≡ 0 = elim (dec_lt 0 (w.died b)) [ yes m ↦ absurd (let z = r.chains.dieds b pl.0 pl.1 pl.2 m in let z1 = z.1 in let z2 = z.2 in omega arith) | no m ↦ omega arith ] in
             let q = r.names.sound d next b t x h.1 (omega arith, le, inl live) in
             (b, t, c, ap (λ (z : ℕ × ℕ). z.0) f, omega arith, q.0, ap (λ (z : ℕ × ℕ). z.1) f ∙ ap (λ (z : ℕ). s.child z c) (sym is))

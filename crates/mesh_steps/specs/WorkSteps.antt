@@ -10,9 +10,10 @@ use Rattle.mesh_state.specs.Ghosts.{Placed, stands}
 use Rattle.mesh_state.specs.Lists.{IsMember}
 use Rattle.mesh_steps.specs.States.{StepKind, state}
 
--- claim: the pass found the places of a patch of the target, and the last finished round has not its first member, so neither; the claim bit was not set
+-- claim: the pass found the places of a patch of the target, and the last finished round has not one of its members, so neither; the claim bit was not set
 abbrev pub ClaimStep : StepKind
-ClaimStep s w n v after = (j x m k : ℕ) × (v.kind j ≡ Worker) × (w.claimed x ≡ 0) × (s.leads k ≡ 1) × HasEntry (v.work j).absent k × HasEntry (v.work j).plan.target k × HasEntry (v.work j).found (x, k)
+ClaimStep s w n v after = (j x m k : ℕ) × (v.kind j ≡ Worker) × (w.claimed x ≡ 0) × (s.leads k ≡ 1) × (HasEntry (v.work j).absent k ⊎ ((i : ℕ) × (s.mate k ≡ i + 1) × HasEntry (v.work j).absent (i + 1)))
+    × HasEntry (v.work j).plan.target k × HasEntry (v.work j).found (x, k)
     × (((m ≡ 0) × (s.mate k ≡ 0)) ⊎ ((y : ℕ) × (i : ℕ) × (m ≡ y + 1) × (s.mate k ≡ i + 1) × HasEntry (v.work j).found (y, i + 1)))
     × (after ≡ state (record w { claimed = update w.claimed x 1 }) n (record v { claims = update v.claims j (claim x m Claimed ∷ v.claims j); sure = update v.sure j unsure }))
 

@@ -53,7 +53,7 @@ abbrev pub u44 : Views
 u44 = claims_at 2 at_child 0 u43
 
 pub s44 : Step pair_setup (state pair.opened 3 u43) (state claimed 3 u44)
-s44 = ByClaimStep (2, at_child, 0, child_name, refl, refl, refl, inl refl, inr (inr (inl refl)), inl refl, inl (refl, refl), refl)
+s44 = ByClaimStep (2, at_child, 0, child_name, refl, refl, refl, inl (inl refl), inr (inr (inl refl)), inl refl, inl (refl, refl), refl)
 
 abbrev pub u45 : Views
 u45 = draws_for 2 at_child 0 1 u44

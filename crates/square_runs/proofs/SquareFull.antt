@@ -88,7 +88,7 @@ abbrev pub u66 : Views
 u66 = claims_at 4 0 2 u65
 
 s66 : Step square_setup (state finished2 5 u65) (state claimed_full 5 u66)
-s66 = ByClaimStep (4, 0, 2, name0, refl, refl, refl, inr (inl refl), inl refl, inr (inl refl), inr (1, 536870912, refl, refl, inl refl), refl)
+s66 = ByClaimStep (4, 0, 2, name0, refl, refl, refl, inl (inr (inl refl)), inl refl, inr (inl refl), inr (1, 536870912, refl, refl, inl refl), refl)
 
 abbrev pub u67 : Views
 u67 = draws_none 4 0 0 u66

@@ -58,7 +58,7 @@ abbrev pub u7 : Views
 u7 = record u6 { claims = update u6.claims 1 (claim 0 2 Claimed ∷ u6.claims 1); sure = update u6.sure 1 unsure }
 
 s7 : Step square_setup (state (fresh_words 1) 2 u6) (state claimed 2 u7)
-s7 = ByClaimStep (1, 0, 2, name0, refl, refl, refl, (inr (inl refl)), (inl refl), (inr (inl refl)), (inr (1, 536870912, refl, refl, inl refl)), refl)
+s7 = ByClaimStep (1, 0, 2, name0, refl, refl, refl, inl (inr (inl refl)), (inl refl), (inr (inl refl)), (inr (1, 536870912, refl, refl, inl refl)), refl)
 
 abbrev pub u8 : Views
 u8 = record u7 { claims = update u7.claims 1 (moved_on (u7.claims 1) 0 (Drawn (claimed.row claimed.cursor))); work = update u7.work 1 (record (u7.work 1) { drawn = (claimed.cursor, claimed.row claimed.cursor + 1) ∷ (u7.work 1).drawn }); sure = update u7.sure 1 unsure }

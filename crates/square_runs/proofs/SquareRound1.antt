@@ -85,7 +85,7 @@ abbrev pub g7 : Ghost
 g7 = record g1 { stage = update g1.stage 0 (Held 1 2 Claimed) }
 
 pub r7 : Rule square_setup claimed 2 v7 g7
-r7 = claims square_setup (fresh_words 1) 2 v6 g1 r6 1 0 2 name0 refl refl refl lt06 (inr (inl refl)) (inl refl) (inr (inl refl)) (inr (1, 536870912, refl, refl, inl refl))
+r7 = claims square_setup (fresh_words 1) 2 v6 g1 r6 1 0 2 name0 refl refl refl lt06 (inl (inr (inl refl))) (inl refl) (inr (inl refl)) (inr (1, 536870912, refl, refl, inl refl))
 
 abbrev pub v8 : Views
 v8 = record v7 { claims = update v7.claims 1 (moved_on (v7.claims 1) 0 (Drawn (claimed.row claimed.cursor))); work = update v7.work 1 (record (v7.work 1) { drawn = (claimed.cursor, claimed.row claimed.cursor + 1) ∷ (v7.work 1).drawn }); sure = update v7.sure 1 unsure }

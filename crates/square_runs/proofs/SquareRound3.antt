@@ -170,7 +170,7 @@ abbrev pub g81 : Ghost
 g81 = record g75 { stage = update g75.stage 0 (Held 4 2 Claimed) }
 
 pub r81 : Rule square_setup claimed_again 5 v81 g81
-r81 = claims square_setup opened 5 v80 g75 r80 4 0 2 name0 refl refl refl lt06 (inr (inl refl)) (inl refl) (inr (inl refl)) (inr (1, 536870912, refl, refl, inl refl))
+r81 = claims square_setup opened 5 v80 g75 r80 4 0 2 name0 refl refl refl lt06 (inl (inr (inl refl))) (inl refl) (inr (inl refl)) (inr (1, 536870912, refl, refl, inl refl))
 
 abbrev pub v82 : Views
 v82 = record v81 { claims = update v81.claims 4 (moved_on (v81.claims 4) 0 (Drawn (claimed_again.row claimed_again.cursor))); work = update v81.work 4 (record (v81.work 4) { drawn = (claimed_again.cursor, claimed_again.row claimed_again.cursor + 1) ∷ (v81.work 4).drawn }); sure = update v81.sure 4 unsure }

@@ -46,7 +46,7 @@ pub s6 : Step square_setup (state (fresh_words 1) 2 v5) (state (fresh_words 1) 2
 s6 = ByWorkEnds (1, refl, 1, name1, (node 0 0), (inl ((inl (inl refl)), refl)), (inl refl), refl)
 
 pub k7 : ClaimStep square_setup (fresh_words 1) 2 v6 (state claimed 2 v7)
-k7 = (1, 0, 2, name0, refl, refl, refl, (inr (inl refl)), (inl refl), (inr (inl refl)), (inr (1, 536870912, refl, refl, inl refl)), refl)
+k7 = (1, 0, 2, name0, refl, refl, refl, inl (inr (inl refl)), (inl refl), (inr (inl refl)), (inr (1, 536870912, refl, refl, inl refl)), refl)
 
 pub s7 : Step square_setup (state (fresh_words 1) 2 v6) (state claimed 2 v7)
 s7 = ByClaimStep k7

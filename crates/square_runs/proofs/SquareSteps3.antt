@@ -105,7 +105,7 @@ pub s80 : Step square_setup (state opened 5 v79) (state opened 5 v80)
 s80 = ByWorkEnds (4, refl, 1, name1, (node 0 0), (inl ((inl (inl refl)), refl)), (inl refl), refl)
 
 pub s81 : Step square_setup (state opened 5 v80) (state claimed_again 5 v81)
-s81 = ByClaimStep (4, 0, 2, name0, refl, refl, refl, (inr (inl refl)), (inl refl), (inr (inl refl)), (inr (1, 536870912, refl, refl, inl refl)), refl)
+s81 = ByClaimStep (4, 0, 2, name0, refl, refl, refl, inl (inr (inl refl)), (inl refl), (inr (inl refl)), (inr (1, 536870912, refl, refl, inl refl)), refl)
 
 pub s82 : Step square_setup (state claimed_again 5 v81) (state drawn_again 5 v82)
 s82 = ByDrawStep (4, 0, 2, (inl refl), refl, lt01, refl)

@@ -60,7 +60,7 @@ abbrev pub u7 : Views
 u7 = claims_at 1 0 2 u6
 
 pub s7 : Step pair_setup (state (fresh_words 2) 2 u6) (state claimed 2 u7)
-s7 = ByClaimStep (1, 0, 2, name0, refl, refl, refl, inr (inl refl), inl refl, inr (inl refl), inr (1, 536870912, refl, refl, inl refl), refl)
+s7 = ByClaimStep (1, 0, 2, name0, refl, refl, refl, inl (inr (inl refl)), inl refl, inr (inl refl), inr (1, 536870912, refl, refl, inl refl), refl)
 
 abbrev pub u8 : Views
 u8 = draws_for 1 0 0 0 u7

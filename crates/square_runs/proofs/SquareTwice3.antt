@@ -70,7 +70,7 @@ abbrev pub u78 : Views
 u78 = claims_at 5 0 2 u77
 
 pub s78 : Step pair_setup (state pinned 7 u77) (state claimed_again 7 u78)
-s78 = ByClaimStep (5, 0, 2, name0, refl, refl, refl, inr (inl refl), inl refl, inr (inl refl), inr (1, 536870912, refl, refl, inl refl), refl)
+s78 = ByClaimStep (5, 0, 2, name0, refl, refl, refl, inl (inr (inl refl)), inl refl, inr (inl refl), inr (1, 536870912, refl, refl, inl refl), refl)
 
 abbrev pub u79 : Views
 u79 = draws_for 5 0 0 1 u78

@@ -4,6 +4,8 @@ use Rattle.mesh_state.proofs.RoundLaws.{living_aimed, between, differs, closed, 
 use Rattle.mesh_state.proofs.SeatLaws.{begins_equal, living_claimed, living_blocks, findings_right, finished_findings, workers_went, one_half, filled_stays, loaded_stays, owner_sure, pins_counted, link_words, history_words, retired_noted, pins_out, numbers_known, blocks_known, others_empty, passes_counted}
 use Rattle.mesh_state.proofs.TableLaws.{blocks_in_pool, blocks_viewed, places_in_table, chains_named, elements_named, walk_sides, claims_listed_once}
 use Rattle.mesh_state.proofs.OwnerLaws.{dead_noted, free_found, stock_rows, blocks_noted, kept_exact, noted_kinds, walked_noted, early_pins, blocks_counted, patches_counted}
+use Rattle.mesh_state.proofs.DrawLaws.{draws_of_target, pool_covered, round_fits}
+use Rattle.mesh_state.proofs.KnownNames.{walks_chained, known_found}
 use Rattle.mesh_state.proofs.FreshList.{fresh_from_list}
 use Rattle.mesh_state.proofs.Fresh.{fresh_is_lawful}
 use Rattle.mesh_state.proofs.laws.laws.Goals as goal
@@ -247,3 +249,18 @@ returns-clause-patches c = patches_counted
 
 pub returns-clause-dead : goal.returns-clause-dead
 returns-clause-dead c = dead_noted
+
+pub returns-clause-draws_of_target : goal.returns-clause-draws_of_target
+returns-clause-draws_of_target c = draws_of_target
+
+pub returns-clause-pool_covered : goal.returns-clause-pool_covered
+returns-clause-pool_covered c = pool_covered
+
+pub returns-clause-fits : goal.returns-clause-fits
+returns-clause-fits c = round_fits
+
+pub returns-clause-walks_chained : goal.returns-clause-walks_chained
+returns-clause-walks_chained c = walks_chained
+
+pub returns-clause-known_found : goal.returns-clause-known_found
+returns-clause-known_found c = known_found
