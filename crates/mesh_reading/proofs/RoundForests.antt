@@ -186,14 +186,14 @@ module _ (mesh : Shape) (across : Across) (l : Layout) (passes : ℕ) (tells : T
     digit_one true e = refl
     digit_one false e = absurd (omega arith)
 
-    leads_code : (k : ℕ) → s.leads k ≡ 1 → is_code mesh k ≡ true
-    leads_code k e = (both (is_code mesh k) (owns across (name_in (k - 1))) (digit_one (owner_code mesh across k) e)).0
+    leads_code : (k : ℕ) → s.leads k ≡ true → is_code mesh k ≡ true
+    leads_code k e = (both (is_code mesh k) (owns across (name_in (k - 1))) e).0
 
     -- a bisected name is one of the mesh
     pub bisected_code : (q : ℕ) → MayRead w.round v.ruling.phase v.read q → (k : ℕ) → Holds (g.who q) k → is_code mesh k ≡ true
     bisected_code q may k h = let f = (r.names.fits q may).found k h.0 h.1 in let p = placed (g.life h.0) f.0 f.1 f.3 in let a = r.names.patch h.0 p.0 p.1 p.2 in by f.0 f.2 (ap (λ (l : Life). chained l f.0) (sym p.2) ∙ f.3) a.0 a.1
       where
-        by : (t : Bool) → w.name (member_of h.0 t) ≡ k → (let f = (r.names.fits q may).found k h.0 h.1 in let p = placed (g.life h.0) f.0 f.1 f.3 in chained (Placed p.0 p.1) t ≡ f.1 + 1) → s.leads (w.name (member_of h.0 false)) ≡ 1 → w.name (member_of h.0 true) ≡ s.mate (w.name (member_of h.0 false)) → is_code mesh k ≡ true
+        by : (t : Bool) → w.name (member_of h.0 t) ≡ k → (let f = (r.names.fits q may).found k h.0 h.1 in let p = placed (g.life h.0) f.0 f.1 f.3 in chained (Placed p.0 p.1) t ≡ f.1 + 1) → s.leads (w.name (member_of h.0 false)) ≡ true → w.name (member_of h.0 true) ≡ s.mate (w.name (member_of h.0 false)) → is_code mesh k ≡ true
         by false e c lead second = subst (λ (i : ℕ). is_code mesh i ≡ true) e (leads_code _ lead)
         by true e c lead second = let f = (r.names.fits q may).found k h.0 h.1 in let p = placed (g.life h.0) f.0 f.1 f.3 in let a = r.names.patch h.0 p.0 p.1 p.2 in ⊎_elim
             (λ z. let y : 0 ≡ f.1 + 1 = sym z.0 ∙ c in absurd (omega arith))

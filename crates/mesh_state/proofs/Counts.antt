@@ -1,5 +1,5 @@
 -- Lists of numbers, each once, and how long they are.
-use Rattle.std.proofs.Common.{◌≡◌, ℕ, zero, suc, ◌+◌, ◌-◌, ◌<◌, ◌≤◌, List, [], ◌∷◌, ◌++◌, length, ◌⊎◌, refl, sym, ap, ◌∙◌, subst, inl, inr, ⊎_elim, arith}
+use Rattle.std.proofs.Common.{◌≡◌, ℕ, zero, suc, ◌+◌, ◌-◌, ◌<◌, ◌≤◌, List, [], ◌∷◌, ◌++◌, length, ◌⊎◌, refl, sym, ap, ◌∙◌, subst, inl, inr, ⊎_elim, arith, true, false, Bool}
 use mathlib.Core.Logic.{dite}
 use native.Mathlib.Decide.{ℕ_discrete, dec_lt}
 use Rattle.mesh_words.specs.Entries.{HasEntry}
@@ -90,17 +90,21 @@ once_within (x ∷ xs) ys o all = let t = taken ys x (all x (inl refl)) in let l
 pub has_dec : (list : List ℕ) (k : ℕ) → HasEntry list k ⊎ (HasEntry list k → ⊥)
 has_dec [] k = inr (λ h. h)
 has_dec (x ∷ xs) k = dite (ℕ_discrete k x) (λ e. inl (inl e)) (λ o. ⊎_elim (λ h. inl (inr h)) (λ n. inr (λ h. ⊎_elim o n h)) (has_dec xs k))
+true_or_not : (b : Bool) → (b ≡ true) ⊎ (b ≡ true → ⊥)
+true_or_not true = inl refl
+true_or_not false = inr (λ e. cc)
 
--- the numbers of a list at which a function is 1, each once
-pub chosen : (f : ℕ → ℕ) (list : List ℕ) → (some : List ℕ) × Enumerates (λ k. (f k ≡ 1) × HasEntry list k) some
+-- the numbers of a list at which a function is true, each once
+pub chosen : (f : ℕ → Bool) (list : List ℕ) → (some : List ℕ) × Enumerates (λ k. (f k ≡ true) × HasEntry list k) some
 chosen f [] = ([], (tt, λ k. ((λ h. absurd h), λ h. h.1)))
 chosen f (x ∷ xs) = let t = chosen f xs in
-    dite (ℕ_discrete (f x) 1)
+    ⊎_elim
     (λ e. ⊎_elim
     (λ h. (t.0, (t.1.0, λ k. ((λ l. let u = (t.1.1 k).0 l in (u.0, inr u.1)), λ l. ⊎_elim (λ q. (t.1.1 k).1 (l.0, subst (HasEntry xs) (sym q) h)) (λ a. (t.1.1 k).1 (l.0, a)) l.1))))
     (λ n. (x ∷ t.0, (((λ l. n ((t.1.1 x).0 l).1), t.1.0), λ k. ((λ l. ⊎_elim (λ q. (ap f q ∙ e, inl q)) (λ a. let u = (t.1.1 k).0 a in (u.0, inr u.1)) l), λ l. ⊎_elim (λ q. inl q) (λ a. inr ((t.1.1 k).1 (l.0, a))) l.1))))
     (has_dec xs x))
     (λ o. (t.0, (t.1.0, λ k. ((λ l. let u = (t.1.1 k).0 l in (u.0, inr u.1)), λ l. ⊎_elim (λ q. absurd (o (ap f (sym q) ∙ l.0))) (λ a. (t.1.1 k).1 (l.0, a)) l.1))))
+    (true_or_not (f x))
 
 -- a sum is less where one summand is, and none is more
 pub sum_less : (n : ℕ) (f g : ℕ → ℕ) (k : ℕ) → ((i : ℕ) → f i ≤ g i) → k < n → f k < g k → sum_below n f < sum_below n g

@@ -1,5 +1,5 @@
 -- The laws of how many draws a round makes.
-use Rattle.std.proofs.Common.{◌≡◌, ℕ, zero, suc, ◌+◌, ◌-◌, ◌<◌, ◌≤◌, false, List, [], ◌∷◌, ◌++◌, length, ◌⊎◌, refl, sym, ap, subst, inl, inr, ⊎_elim, arith}
+use Rattle.std.proofs.Common.{◌≡◌, ℕ, zero, suc, ◌+◌, ◌-◌, ◌<◌, ◌≤◌, false, List, [], ◌∷◌, ◌++◌, length, ◌⊎◌, refl, sym, ap, subst, inl, inr, ⊎_elim, arith, true}
 use Rattle.std.proofs.lemmas.List.{length-append}
 use mathlib.Core.Logic.{dite}
 use native.Mathlib.Decide.{ℕ_discrete, dec_lt}
@@ -45,7 +45,7 @@ block_drawn (Living c) b e = refl
 module _ (s : Setup) (w : Words) (n : ℕ) (v : Views) (g : Ghost) (r : Rule s w n v g) (one : v.ruling.phase ≡ FirstHalf) where
   -- the first member of the patch of a claim at the place x
   abbrev IsAim : ℕ → ℕ → Type 0
-  IsAim x k = (s.leads k ≡ 1) × IsPlaceOf s w.name (g.who (w.round + 1)) x k × (g.who w.round k ≡ 0) × HasEntry v.ruling.plan.target k
+  IsAim x k = (s.leads k ≡ true) × IsPlaceOf s w.name (g.who (w.round + 1)) x k × (g.who w.round k ≡ 0) × HasEntry v.ruling.plan.target k
 
   -- as many names as there are claims at places below i
   abbrev Aims : ℕ → Type 0

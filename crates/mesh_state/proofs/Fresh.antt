@@ -1,5 +1,5 @@
 -- The fresh table meets the rule, and names that are apart exist.
-use Rattle.std.proofs.Common.{[], ◌∷◌, subst, ◌≡◌, ℕ, zero, suc, ◌+◌, ◌≤◌, cond, Bool, List, ◌<◌, lt-ltb, refl, sym, ap, ◌∙◌, inl, inr, ⊎_elim, arith, ne_eqb}
+use Rattle.std.proofs.Common.{[], ◌∷◌, subst, ◌≡◌, ℕ, zero, suc, ◌+◌, ◌≤◌, cond, Bool, List, ◌<◌, lt-ltb, refl, sym, ap, ◌∙◌, inl, inr, ⊎_elim, arith, ne_eqb, false}
 use Rattle.mesh_words.specs.Entries.{Noted, EntryAt, HasEntry}
 use Rattle.mesh_words.specs.Setup.{Setup, NamesApart, setup_of}
 use Rattle.mesh_words.proofs.CodedNames.{codes_apart}
@@ -61,14 +61,14 @@ starts s a = record {
     either = λ i b l e. absurd (omega arith);
     fresh = λ i e. refl;
   };
-  pins = record { now = refl; later = λ q l. (refl, refl); count = λ q. let z : one_where 0 (q + 1) ≡ 0 = ap (λ (t : Bool). cond {A = ℕ} t 1 0) (ne_eqb 0 (q + 1) (λ (e : 0 ≡ q + 1). omega arith)) in omega arith; past = λ j q e. absurd (omega arith); few = λ j l. few j l; readers = λ j o. (refl, refl); spent = λ j e. refl; bit = λ j. omega arith; most = λ q. omega arith; bound = omega arith };
+  pins = record { now = refl; later = λ q l. (refl, refl); count = λ q. let z : one_where 0 (q + 1) ≡ 0 = ap (λ (t : Bool). cond {A = ℕ} t 1 0) (ne_eqb 0 (q + 1) (λ (e : 0 ≡ q + 1). omega arith)) in omega arith; past = λ j q e. absurd (omega arith); few = λ j l. few j l; readers = λ j o. (refl, refl); spent = λ j e. refl; most = λ q. omega arith; bound = omega arith };
   works = λ j. record { only = λ _ _. (refl, refl, refl, refl); found = λ x k h. absurd h; known = λ k h. absurd h; open_ = λ k h. absurd h; given = λ b k h. absurd h };
   walks = λ j. walks_idle s 0 Resting (λ _. 0) (λ _. node 0 0) (λ _. 0) (λ _. 0) (λ _. Free) (λ _ _. 0) (fresh_kind j) j Resting 0 0 no_plan (λ _. refl) (λ e. absurd (not_one j e));
   sure = sure_is;
   goes = λ j. record { went = λ q b p h. absurd h; walk = λ q p. tt; sided = λ q x k b t p h. absurd (still_not x k b t h); dated = λ q x k b t p h. absurd (still_not x k b t h); places = λ q x k p h. absurd h; yes_notes = λ k q h. absurd h; no_notes = λ k q h. absurd h };
   rules = record { owner = (refl, omega arith); one = λ j e. only j e; workers = refl; readers = refl; few_readers = omega arith; halves = λ _ _. refl; clear = λ q h. absurd h };
   stock = record { finished = refl; cursor_is = λ k e. ((λ f. cc), omega arith); free_is = λ k e. omega arith; left = λ q k h. absurd h };
-  note = record { undone = λ b h. absurd h; all = λ b x m e. absurd (free_undone x m e); placed = λ b x m h. absurd h; seen = λ x e. absurd (omega arith); quiet = λ e. absurd (omega arith) };
+  note = record { undone = λ b h. absurd h; all = λ b x m e. absurd (free_undone x m e); placed = λ b x m h. absurd h; seen = λ x e. absurd (omega arith); quiet = λ e. absurd (cc) };
   retired = λ b x m u e. absurd (free_not x m u);
   grows = λ j. record { only = λ _ _. refl; grown = λ x k h. absurd h };
   retireds = λ b h. absurd (⊎_elim (λ t. t.1) (λ f. f) h);
@@ -76,7 +76,7 @@ starts s a = record {
   history = record { rounds = refl; forests = λ q names e i. empty q names e i; told = λ j. ([] ∷ [], refl); seen = λ j. (omega arith, omega arith); made = λ j. (omega arith, λ q e. absurd (omega arith)) };
   drawn = none_drawn Resting 0 s.pool (fresh_words s.pool).row fresh_kind (λ _. idle) (λ j. refl);
   draws = λ x j m p e. absurd (cc);
-  crew = crew_free s 0 Resting fresh_kind (λ _. idle) (λ _. Open) 0 (omega arith, λ l. absurd (omega arith)) (λ e. absurd (cc));
+  crew = crew_free s 0 Resting fresh_kind (λ _. idle) (λ _. Open) false (omega arith, λ l. absurd (omega arith)) (λ e. absurd (cc));
   inside = record { few = omega arith; rows = λ i l. let e = row_is s.pool i l in omega arith; blocks = λ b l. refl; stand_in = λ b t x st. absurd (omega arith); seconds = λ x j y p h. absurd (not_open j (y + 1) p (sym h)); hand_in = λ b h. absurd h; retired_in = λ b h. absurd h };
   named = record { heads = λ x b t l e c. absurd (omega arith); hists = λ a c x t u st e. absurd (omega arith); patch = λ b x m u. absurd (free_undone x m u) };
   once = λ j. tt;

@@ -115,7 +115,7 @@ pub number_kept : (work : ℕ → Work) (j : ℕ) (u : Work) → u.number ≡ (w
 number_kept work j u e = update_cases (λ i x. x.number ≡ (work i).number) work j u e (λ _ _. refl)
 
 -- where a worker's claim goes on, and its number stays
-pub crew_goes : (s : Setup) (round : ℕ) (phase : Phase) (kind : ℕ → Kind) (work work' : ℕ → Work) (stage : ℕ → Stage) (lone x j m : ℕ) (q : Progress) → kind j ≡ Worker → ((i : ℕ) → (work' i).number ≡ (work i).number) → CrewRule s round phase kind work stage lone → CrewRule s round phase kind work' (update stage x (Held j m q)) lone
+pub crew_goes : (s : Setup) (round : ℕ) (phase : Phase) (kind : ℕ → Kind) (work work' : ℕ → Work) (stage : ℕ → Stage) (lone : Bool) (x j m : ℕ) (q : Progress) → kind j ≡ Worker → ((i : ℕ) → (work' i).number ≡ (work i).number) → CrewRule s round phase kind work stage lone → CrewRule s round phase kind work' (update stage x (Held j m q)) lone
 crew_goes s round phase kind work work' stage lone x j m q k same c = record {
   rounds = c.rounds;
   alone = λ i one a z. let t = c.alone i one a (sym (same i) ∙ z) in (t.0, λ y l n p h. dite (ℕ_discrete y x) (λ e. inl (sym (held_one j l m n q p (sym (update_at stage x y (Held j m q) e) ∙ h)).0 ∙ t.0 j k)) (λ o. t.1 y l n p (sym (update_other stage x y (Held j m q) o) ∙ h)));
@@ -123,7 +123,7 @@ crew_goes s round phase kind work work' stage lone x j m q k same c = record {
 }
 
 -- where one seat's knowledge changes, but not its number
-pub crew_update : (s : Setup) (round : ℕ) (phase : Phase) (kind : ℕ → Kind) (work : ℕ → Work) (stage : ℕ → Stage) (lone j : ℕ) (u : Work) → u.number ≡ (work j).number → CrewRule s round phase kind work stage lone → CrewRule s round phase kind (update work j u) stage lone
+pub crew_update : (s : Setup) (round : ℕ) (phase : Phase) (kind : ℕ → Kind) (work : ℕ → Work) (stage : ℕ → Stage) (lone : Bool) (j : ℕ) (u : Work) → u.number ≡ (work j).number → CrewRule s round phase kind work stage lone → CrewRule s round phase kind (update work j u) stage lone
 crew_update s round phase kind work stage lone j u e c = record {
   rounds = c.rounds;
   alone = λ i one a z. c.alone i one a (sym (number_kept work j u e i) ∙ z);
@@ -131,7 +131,7 @@ crew_update s round phase kind work stage lone j u e c = record {
 }
 
 -- out of the first half
-pub crew_free : (s : Setup) (round : ℕ) (phase : Phase) (kind : ℕ → Kind) (work : ℕ → Work) (stage : ℕ → Stage) (lone : ℕ) → (round ≤ s.rounds) × (Precedes Resting phase → round < s.rounds) → (phase ≡ FirstHalf → (j : ℕ) → kind j ≡ Worker → ⊥) → CrewRule s round phase kind work stage lone
+pub crew_free : (s : Setup) (round : ℕ) (phase : Phase) (kind : ℕ → Kind) (work : ℕ → Work) (stage : ℕ → Stage) (lone : Bool) → (round ≤ s.rounds) × (Precedes Resting phase → round < s.rounds) → (phase ≡ FirstHalf → (j : ℕ) → kind j ≡ Worker → ⊥) → CrewRule s round phase kind work stage lone
 crew_free s round phase kind work stage lone low out = record { rounds = low; alone = λ j one k. absurd (out one j k); none = λ j one l k. absurd (out one j k) }
 
 -- where the seats keep their draws

@@ -164,7 +164,7 @@ patches_counted s w n v (g, r) z none stopped low names firsts stay at once_f sa
     holder k h = let t = (same_f k).0 h in let b = (r.history.forests w.round names at k).0 t.0 in let f = (r.names.fits w.round (inl (inl refl))).found k b.0 b.1 in let p = placed (g.life b.0) f.0 f.1 f.3 in
         (b.0, b.1, p.0, p.1, noted b.0 p.0 p.1 (inl p.2), p.2, first b.0 k f.0 f.1 p.0 p.1 p.2 f.2 f.3 t.1, found_covers w.hist w.born w.died g.life w.round f.1 b.0 f.5.0 (w.head f.1) f.5.1)
       where
-        first : (b k : ℕ) (t : Bool) (y x m : ℕ) → g.life b ≡ Placed x m → w.name (member_of b t) ≡ k → chained (g.life b) t ≡ y + 1 → s.leads k ≡ 1 → w.name (member_of b false) ≡ k
+        first : (b k : ℕ) (t : Bool) (y x m : ℕ) → g.life b ≡ Placed x m → w.name (member_of b t) ≡ k → chained (g.life b) t ≡ y + 1 → s.leads k ≡ true → w.name (member_of b false) ≡ k
         first b k false y x m u e c lead = e
         first b k true y x m u e c lead = let q = r.names.patch b x m u in ⊎_elim
             (λ a. let i : 0 ≡ y + 1 = sym a.0 ∙ sym (ap (λ (l : Life). chained l true) u) ∙ c in absurd (omega arith))

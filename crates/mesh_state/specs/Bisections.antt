@@ -32,7 +32,7 @@ MayRead round phase read q = IsKept round read q ⊎ ((q ≡ round + 1) × (Prec
 
 -- the NAME words of a block are a patch, with a second member exactly where the block has a second place
 abbrev pub IsPatch : Setup → (ℕ → ℕ) → ℕ → ℕ → Type 0
-IsPatch s name b m = (s.leads (name (member_of b false)) ≡ 1) × (name (member_of b true) ≡ s.mate (name (member_of b false))) × ((m ≡ 0) × (s.mate (name (member_of b false)) ≡ 0) ⊎ ((y : ℕ) × (k : ℕ) × (m ≡ y + 1) × (s.mate (name (member_of b false)) ≡ k + 1)))
+IsPatch s name b m = (s.leads (name (member_of b false)) ≡ true) × (name (member_of b true) ≡ s.mate (name (member_of b false))) × ((m ≡ 0) × (s.mate (name (member_of b false)) ≡ 0) ⊎ ((y : ℕ) × (k : ℕ) × (m ≡ y + 1) × (s.mate (name (member_of b false)) ≡ k + 1)))
 
 -- the block was published and is not retired
 abbrev pub IsLiving : (ℕ → ℕ) → (ℕ → ℕ) → (ℕ → Life) → ℕ → Type 0

@@ -1,5 +1,5 @@
 -- How many draws a round makes: one at most for each patch that it adds, so that none fails where the round fits into the pool.
-use Rattle.std.specs.Prelude.{◌≡◌, ℕ, ◌+◌, ◌<◌, ◌≤◌, List, length, ◌⊎◌, ◌↔◌}
+use Rattle.std.specs.Prelude.{◌≡◌, ℕ, ◌+◌, ◌<◌, ◌≤◌, List, length, ◌⊎◌, ◌↔◌, true}
 use Rattle.mesh_words.specs.Claims.{Claimed, Failed, claim}
 use Rattle.mesh_words.specs.Entries.{HasEntry, EntryAt}
 use Rattle.mesh_words.specs.Setup.{Setup}
@@ -13,7 +13,7 @@ Enumerates P list = Once list × ((k : ℕ) → HasEntry list k ↔ P k)
 
 -- k is the first member of a patch of the names
 abbrev pub IsFirst : Setup → List ℕ → ℕ → Type 0
-IsFirst s names k = (s.leads k ≡ 1) × HasEntry names k
+IsFirst s names k = (s.leads k ≡ true) × HasEntry names k
 
 -- the owner keeps the block from use: it was retired or taken back and is not free yet, or is in the hand
 abbrev pub IsHeldBack : Ruling → ℕ → Type 0

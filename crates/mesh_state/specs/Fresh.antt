@@ -1,5 +1,5 @@
 -- The fresh table: round 0 is finished with the empty forest, and free row i names block i.
-use Rattle.std.specs.Prelude.{◌≡◌, ℕ, ◌+◌, zero, suc, cond, ltb, List, [], ◌∷◌}
+use Rattle.std.specs.Prelude.{◌≡◌, ℕ, ◌+◌, zero, suc, cond, ltb, List, [], ◌∷◌, false}
 use Rattle.mesh_names.specs.Triangles.{Shape}
 use Rattle.mesh_names.specs.Partners.{Across, Tells}
 use Rattle.mesh_words.specs.declared.layout.Layout.{Layout}
@@ -21,7 +21,7 @@ idle = record { half = Resting; round = 0; number = 0; plan = no_plan; drawn = [
 
 -- a pass without a pin
 abbrev pub blank : List Note → Read
-blank notes = record { pin = 0; ready = 0; went = []; walk = Still; notes = notes; places = []; told = []; seen = 0; made = 0; back = 0 }
+blank notes = record { pin = 0; ready = false; went = []; walk = Still; notes = notes; places = []; told = []; seen = 0; made = 0; back = 0 }
 
 abbrev pub fresh_words : ℕ → Words
 fresh_words pool = record { round = 0; taken = 0; cursor = 0; free = pool; released = λ _. 0; row = λ i. cond (ltb i pool) i 0; claimed = λ _. 0; head = λ _. node 0 0; hist = λ _. node 0 0; born = λ _. 0; died = λ _. 0; name = λ _. 0 }
@@ -37,7 +37,7 @@ fresh_sure pool zero = record unsure { born = noted_below pool (λ _. 0); row = 
 fresh_sure pool (suc j) = unsure
 
 abbrev pub fresh_views : ℕ → Views
-fresh_views pool = record { kind = fresh_kind; claims = λ _. []; work = λ _. idle; sure = fresh_sure pool; read = λ _. blank []; ruling = record { phase = Resting; finished = 0; history = [] ∷ []; plan = no_plan; workers = 0; readers = 0; early = 0; lone = 0; left = []; clear = []; hand = []; cursor = 1; free = pool + 1; low = 0; high = 0; retired = []; kept = []; placed = []; undone = []; seen = 0; quiet = 0 } }
+fresh_views pool = record { kind = fresh_kind; claims = λ _. []; work = λ _. idle; sure = fresh_sure pool; read = λ _. blank []; ruling = record { phase = Resting; finished = 0; history = [] ∷ []; plan = no_plan; workers = 0; readers = 0; early = 0; lone = false; left = []; clear = []; hand = []; cursor = 1; free = pool + 1; low = 0; high = 0; retired = []; kept = []; placed = []; undone = []; seen = 0; quiet = false } }
 
 abbrev pub fresh_ghost : Ghost
 fresh_ghost = record { stage = λ _. Open; life = λ _. Free; who = λ _ _. 0; pins = λ _. 0 }

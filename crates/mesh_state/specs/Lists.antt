@@ -1,5 +1,5 @@
 -- The lists of a round, the history of the finished rounds, the numbers of draws, and who is at work.
-use Rattle.std.specs.Prelude.{◌≡◌, ℕ, ◌+◌, ◌<◌, ◌≤◌, Bool, List, [], ◌++◌, length, ◌⊎◌}
+use Rattle.std.specs.Prelude.{◌≡◌, ℕ, ◌+◌, ◌<◌, ◌≤◌, Bool, List, [], ◌++◌, length, ◌⊎◌, false}
 use Rattle.mesh_words.specs.Entries.{HasEntry, EntryAt}
 use Rattle.mesh_words.specs.Setup.{Setup}
 use Rattle.mesh_words.specs.Claims.{Progress, Living}
@@ -69,10 +69,10 @@ abbrev pub DrawnFor : Phase → (ℕ → Work) → (ℕ → Stage) → Type 0
 DrawnFor phase work stage = (x j m : ℕ) (p : Progress) → phase ≡ FirstHalf → stage x ≡ Held j m p → draws p ≡ 1 → (i : ℕ) × HasEntry (work j).drawn (i, block_of p)
 
 -- who is at work
-pub record CrewRule (s : Setup) (round : ℕ) (phase : Phase) (kind : ℕ → Kind) (work : ℕ → Work) (stage : ℕ → Stage) (lone : ℕ) : Type 0 where
+pub record CrewRule (s : Setup) (round : ℕ) (phase : Phase) (kind : ℕ → Kind) (work : ℕ → Work) (stage : ℕ → Stage) (lone : Bool) : Type 0 where
   -- a round in work is one of those for which the table was made
   pub rounds : (round ≤ s.rounds) × (Precedes Resting phase → round < s.rounds)
   -- while a pass of worker 0 is out in the first half, no other worker's is, and each claim without a living block is its own
   pub alone : (j : ℕ) → phase ≡ FirstHalf → kind j ≡ Worker → (work j).number ≡ 0 → ((i : ℕ) → kind i ≡ Worker → i ≡ j) × ((x i m : ℕ) (p : Progress) → stage x ≡ Held i m p → (i ≡ j) ⊎ ((b : ℕ) × (p ≡ Living b)))
   -- the owner knows where none is out
-  pub none : (j : ℕ) → phase ≡ FirstHalf → lone ≡ 0 → kind j ≡ Worker → (work j).number ≡ 0 → ⊥
+  pub none : (j : ℕ) → phase ≡ FirstHalf → lone ≡ false → kind j ≡ Worker → (work j).number ≡ 0 → ⊥

@@ -1,5 +1,5 @@
 -- What the owner knows.
-use Rattle.std.specs.Prelude.{◌≡◌, ℕ, ◌+◌, ◌<◌, ◌≤◌, ◌==◌, cond, ltb, List, ◌⊎◌}
+use Rattle.std.specs.Prelude.{◌≡◌, ℕ, ◌+◌, ◌<◌, ◌≤◌, ◌==◌, cond, ltb, List, ◌⊎◌, true}
 use Rattle.mesh_words.specs.Entries.{HasEntry}
 use Rattle.mesh_words.specs.Sums.{sum_below, one_where}
 use Rattle.mesh_words.specs.Views.{FirstHalf, SecondHalf, Owner, Read, Ruling, Kind, is_worker, is_reader}
@@ -41,7 +41,7 @@ pub record NoteRule (round taken : ℕ) (life : ℕ → Life) (read : ℕ → Re
   pub placed : (b x m : ℕ) → HasEntry v.placed (b, x, m) → (life b ≡ Placed x m) ⊎ (life b ≡ Undone x m)
   -- RELEASED was x when k pins were taken: if the two are one number, no pin was out then
   pub seen : (x : ℕ) → v.seen ≡ x + 1 → (k : ℕ) × (x ≤ k) × (k ≤ taken) × (k ≡ x → NoneWent round read v.undone)
-  pub quiet : v.quiet ≡ 1 → NoneWent round read v.undone
+  pub quiet : v.quiet ≡ true → NoneWent round read v.undone
 
 -- one of the rows from a on and below e names the block
 abbrev pub InRows : ℕ → ℕ → (ℕ → ℕ) → ℕ → Type 0

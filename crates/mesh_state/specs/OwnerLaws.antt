@@ -1,5 +1,5 @@
 -- What the owner knows of all blocks, so that it can find each again without a look at the whole table, and count them.
-use Rattle.std.specs.Prelude.{◌≡◌, ℕ, ◌+◌, ◌<◌, ◌≤◌, Bool, List, [], ◌∷◌, length, ◌⊎◌, ◌↔◌}
+use Rattle.std.specs.Prelude.{◌≡◌, ℕ, ◌+◌, ◌<◌, ◌≤◌, Bool, List, [], ◌∷◌, length, ◌⊎◌, ◌↔◌, true}
 use Rattle.mesh_words.specs.Claims.{Progress, Drawn, claim}
 use Rattle.mesh_words.specs.Entries.{HasEntry, EntryAt}
 use Rattle.mesh_words.specs.Places.{member_of, child_place}
@@ -65,4 +65,4 @@ BlocksCounted = Always (λ s w n v g. v.ruling.phase ≡ Resting → v.ruling.ha
 -- then each patch of the last finished round has its block in the pool, and each block that was retired or taken back and is not free yet is another: so FREE is the pool less the patches and these, where CURSOR is 0
 abbrev pub PatchesCounted : Type 0
 PatchesCounted = Always (λ s w n v g. v.ruling.phase ≡ Resting → v.ruling.hand ≡ [] → v.ruling.high ≤ v.ruling.low → w.cursor ≤ w.free → (names firsts stay : List ℕ) → EntryAt v.ruling.history w.round names
-    → Once firsts → ((k : ℕ) → HasEntry firsts k ↔ (HasEntry names k × (s.leads k ≡ 1))) → Once stay → ((b : ℕ) → HasEntry stay b ↔ (HasEntry v.ruling.kept b ⊎ HasEntry v.ruling.undone b)) → length firsts + length stay + w.free ≡ w.cursor + s.pool)
+    → Once firsts → ((k : ℕ) → HasEntry firsts k ↔ (HasEntry names k × (s.leads k ≡ true))) → Once stay → ((b : ℕ) → HasEntry stay b ↔ (HasEntry v.ruling.kept b ⊎ HasEntry v.ruling.undone b)) → length firsts + length stay + w.free ≡ w.cursor + s.pool)

@@ -25,11 +25,11 @@ BisectedClosed = AtRounds (λ s w g q who. IsClosed s (Holds who))
 
 -- in the first half a claim is of a patch of the target that the last finished round has not, and its bit is set at the place of the patch's first member
 abbrev pub ClaimsAimed : Type 0
-ClaimsAimed = Always (λ s w n v g. (j x m : ℕ) (p : Progress) → v.ruling.phase ≡ FirstHalf → HasEntry (v.claims j) (claim x m p) → (w.claimed x ≡ 1) × ((k : ℕ) × (s.leads k ≡ 1) × IsPlaceOf s w.name (g.who (w.round + 1)) x k × (g.who w.round k ≡ 0) × HasEntry v.ruling.plan.target k))
+ClaimsAimed = Always (λ s w n v g. (j x m : ℕ) (p : Progress) → v.ruling.phase ≡ FirstHalf → HasEntry (v.claims j) (claim x m p) → (w.claimed x ≡ 1) × ((k : ℕ) × (s.leads k ≡ true) × IsPlaceOf s w.name (g.who (w.round + 1)) x k × (g.who w.round k ≡ 0) × HasEntry v.ruling.plan.target k))
 
 -- from its first half on, until it is taken back, a claim with a living block is so too: the first name of the block is that of the patch
 abbrev pub LivingAimed : Type 0
-LivingAimed = Always (λ s w n v g. (j x m b : ℕ) → Precedes Resting v.ruling.phase → Precedes v.ruling.phase RollingBack → HasEntry (v.claims j) (claim x m (Living b)) → let k : ℕ = w.name (member_of b false) in (w.claimed x ≡ 1) × (s.leads k ≡ 1) × IsPlaceOf s w.name (g.who (w.round + 1)) x k × (g.who w.round k ≡ 0) × HasEntry v.ruling.plan.target k)
+LivingAimed = Always (λ s w n v g. (j x m b : ℕ) → Precedes Resting v.ruling.phase → Precedes v.ruling.phase RollingBack → HasEntry (v.claims j) (claim x m (Living b)) → let k : ℕ = w.name (member_of b false) in (w.claimed x ≡ 1) × (s.leads k ≡ true) × IsPlaceOf s w.name (g.who (w.round + 1)) x k × (g.who w.round k ≡ 0) × HasEntry v.ruling.plan.target k)
 
 -- the workers' passes have the lists of the round
 abbrev pub ListsKnown : Type 0
@@ -57,7 +57,7 @@ ClaimsDrawn = Always (λ s w n v g. (j x m : ℕ) (p : Progress) → v.ruling.ph
 
 -- the owner's note that the last finished round is quiet: no pass with a pin of it has gone to a block that was taken back, and no chain word names such a block
 abbrev pub QuietRound : Type 0
-QuietRound = Always (λ s w n v g. (b x m : ℕ) → g.life b ≡ Undone x m → (v.ruling.quiet ≡ 1 → (j : ℕ) → (v.read j).pin ≡ w.round + 1 → HasEntry (v.read j).went b → ⊥)
+QuietRound = Always (λ s w n v g. (b x m : ℕ) → g.life b ≡ Undone x m → (v.ruling.quiet ≡ true → (j : ℕ) → (v.read j).pin ≡ w.round + 1 → HasEntry (v.read j).went b → ⊥)
     × ((y : ℕ) → IsPlace s.elements g.life y → (w.head y).block ≡ b + 1 → ⊥) × ((a y : ℕ) (t : Bool) → stands (g.life a) t ≡ y + 1 → (w.hist (member_of a t)).block ≡ b + 1 → ⊥))
 
 -- a walk at a round that may be read begins at a macro element or at the child of a block that stands

@@ -65,7 +65,7 @@ OwnerSure = Always (λ s w n v g. v.ruling.workers ≡ 0 → ((z : ℕ) (l : Nod
 -- pins of a round that was left were given back or are in a view; none is of a later round; and readers and pins are bounded
 abbrev pub PinsCounted : Type 0
 PinsCounted = Always (λ s w n v g. ((q k : ℕ) → HasEntry v.ruling.left (q, k) → k ≡ w.released q + sum_below n (λ j. one_where (v.read j).pin (q + 1))) × ((q : ℕ) → w.round < q → w.released q ≡ 0) × ((j q : ℕ) → (v.read j).pin ≡ q + 1 → q ≤ w.round)
-    × (sum_below n (λ j. digit (is_reader (v.kind j))) ≤ s.passes + 1) × (w.taken + sum_below n (λ j. (v.read j).ready) ≤ s.limit + s.passes + 1))
+    × (sum_below n (λ j. digit (is_reader (v.kind j))) ≤ s.passes + 1) × (w.taken + sum_below n (λ j. digit (v.read j).ready) ≤ s.limit + s.passes + 1))
 
 -- a LINK word names a block of its place: with the block's retired round, or with none where the block is not retired or in the round in work alone
 abbrev pub LinkWords : Type 0
@@ -95,7 +95,7 @@ BlocksKnown = Always (λ s w n v g. (b : ℕ) → (HasEntry v.ruling.undone b �
 -- a seat that is neither the owner's nor a worker's, as one that was joined, has no claim, draw, finding or walk at work; one that is not a reader's has no pin and is not ready for one; one of no kind, as one that was joined, was told nothing and has read and noted nothing; and a seat that was never made is of no kind
 abbrev pub OthersEmpty : Type 0
 OthersEmpty = Always (λ s w n v g. (j : ℕ) → ((v.kind j ≡ Worker → ⊥) → (j ≡ 0 → ⊥) → ((x m : ℕ) (p : Progress) → HasEntry (v.claims j) (claim x m p) → ⊥) × ((v.work j).drawn ≡ []) × ((v.work j).found ≡ []) × ((v.work j).known ≡ []) × ((v.work j).open_ ≡ []) × ((v.work j).given ≡ []) × ((v.work j).absent ≡ []) × ((v.work j).stood ≡ []) × ((v.work j).had ≡ []) × ((v.work j).grown ≡ []) × ((v.work j).retired ≡ []) × ((v.work j).went ≡ []) × ((v.work j).walk ≡ Still))
-    × ((v.kind j ≡ Reader → ⊥) → ((v.read j).pin ≡ 0) × ((v.read j).ready ≡ 0)) × (v.kind j ≡ Vacant → v.read j ≡ unread) × (n ≤ j → v.kind j ≡ Vacant))
+    × ((v.kind j ≡ Reader → ⊥) → ((v.read j).pin ≡ 0) × ((v.read j).ready ≡ false)) × (v.kind j ≡ Vacant → v.read j ≡ unread) × (n ≤ j → v.kind j ≡ Vacant))
 
 -- the owner's seat is the first, and no other; it knows how many workers' and readers' passes are out; and workers' are so in the two halves alone
 abbrev pub PassesCounted : Type 0

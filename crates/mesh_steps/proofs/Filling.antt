@@ -94,7 +94,7 @@ module _ (s : Setup) (w : Words) (n : ℕ) (v : Views) (g : Ghost) (r : Rule s w
           (l.0, l.1, place_on z l.0 l.2, l.3, (λ c f. let at = linked_placed w.round w.head w.born g.life z k p c (r.claims.shape z i k p h) f in same c false false z (ap (λ (y : Life). stands y false) at) ∙ l.4 c f), ⊎_elim inl (λ t. inr (t.0, t.1, t.2, t.3, place_on t.0 (t.1 + 1) t.4, t.5)) l.5, l.6);
       chains = step_chains.0;
       names = names_on s w.name name' w.head w.hist w.head hist' w.born w.died w.born died' g.life g.life same w.round v.ruling.phase g.who v.read Can A step_chains.1 (λ _ k. k)
-          (λ c y k h. let o = off c (other c false y (ap (λ (l : Life). chained l false) h)) in subst (λ (i : ℕ × ℕ). (s.leads i.0 ≡ 1) × (i.1 ≡ s.mate i.0) × ((k ≡ 0) × (s.mate i.0 ≡ 0) ⊎ ((a : ℕ) × (e : ℕ) × (k ≡ a + 1) × (s.mate i.0 ≡ e + 1)))) (λ t. (sym (o.2 false) t, sym (o.2 true) t)) (r.names.patch c y k h))
+          (λ c y k h. let o = off c (other c false y (ap (λ (l : Life). chained l false) h)) in subst (λ (i : ℕ × ℕ). (s.leads i.0 ≡ true) × (i.1 ≡ s.mate i.0) × ((k ≡ 0) × (s.mate i.0 ≡ 0) ⊎ ((a : ℕ) × (e : ℕ) × (k ≡ a + 1) × (s.mate i.0 ≡ e + 1)))) (λ t. (sym (o.2 false) t, sym (o.2 true) t)) (r.names.patch c y k h))
           (λ c p. (p.0, p.1, p.2, p.3, sym (off c (other c false p.0 (ap (λ (l : Life). chained l false) p.2))).1 ∙ p.4))
           (λ c y k l h. subst (λ (i : ℕ). i ≤ w.round) (sym (off c (other c false y (ap (λ (l : Life). chained l false) h))).1) (r.names.calm c y k l h)) r.names;
       pins = r.pins;
@@ -120,7 +120,7 @@ module _ (s : Setup) (w : Words) (n : ℕ) (v : Views) (g : Ghost) (r : Rule s w
       draws = r.draws;
       crew = r.crew;
       inside = r.inside;
-      named = labels_on s w.name name' w.head w.head w.hist hist' g.life g.life (λ c t y st. (st, (off c (stood c t y st)).2 t)) (λ _ _ _ st. st) (λ _ _ _ ch. ch) (λ _ _. refl) (λ c t y st. (off c (stood c t y st)).0 t) (λ c y k h. subst (λ (i : ℕ × ℕ). (s.leads i.0 ≡ 1) × (i.1 ≡ s.mate i.0) × ((k ≡ 0) × (s.mate i.0 ≡ 0) ⊎ ((a : ℕ) × (e : ℕ) × (k ≡ a + 1) × (s.mate i.0 ≡ e + 1)))) (λ t. let o = off c (stood c false y (ap (λ (l : Life). stands l false) h)) in (sym (o.2 false) t, sym (o.2 true) t)) (r.named.patch c y k h)) r.named;
+      named = labels_on s w.name name' w.head w.head w.hist hist' g.life g.life (λ c t y st. (st, (off c (stood c t y st)).2 t)) (λ _ _ _ st. st) (λ _ _ _ ch. ch) (λ _ _. refl) (λ c t y st. (off c (stood c t y st)).0 t) (λ c y k h. subst (λ (i : ℕ × ℕ). (s.leads i.0 ≡ true) × (i.1 ≡ s.mate i.0) × ((k ≡ 0) × (s.mate i.0 ≡ 0) ⊎ ((a : ℕ) × (e : ℕ) × (k ≡ a + 1) × (s.mate i.0 ≡ e + 1)))) (λ t. let o = off c (stood c false y (ap (λ (l : Life). stands l false) h)) in (sym (o.2 false) t, sym (o.2 true) t)) (r.named.patch c y k h)) r.named;
       once = r.once;
       holders = r.holders;
       hand = r.hand;

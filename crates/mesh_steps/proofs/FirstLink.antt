@@ -42,7 +42,7 @@ module _ (s : Setup) (w : Words) (n : ℕ) (v : Views) (g : Ghost) (r : Rule s w
 
   -- The condition speaks of the pass's own view: its claim, the words of its block, the heads of its places, and the names that it found there.
   module _ (j x m b k : ℕ) (mine : HasEntry (v.claims j) (claim x m (Drawn b))) (kind : v.kind j ≡ Worker)
-      (died : Noted (v.sure j).died b 0) (name0 : Noted (v.sure j).name (member_of b false) k) (name1 : Noted (v.sure j).name (member_of b true) (s.mate k)) (lead : s.leads k ≡ 1)
+      (died : Noted (v.sure j).died b 0) (name0 : Noted (v.sure j).name (member_of b false) k) (name1 : Noted (v.sure j).name (member_of b true) (s.mate k)) (lead : s.leads k ≡ true)
       (kids : (t c : Bool) → Noted (v.sure j).head (child_place s.elements b t c) (node 0 0))
       (hists : (t : Bool) (y : ℕ) → stands (Placed x m) t ≡ y + 1 → (l : Node) × Noted (v.sure j).head y l × Noted (v.sure j).hist (member_of b t) l)
       (place : HasEntry (v.work j).found (x, k)) (mate : ((m ≡ 0) × (s.mate k ≡ 0)) ⊎ ((y : ℕ) × (i : ℕ) × (m ≡ y + 1) × (s.mate k ≡ i + 1) × HasEntry (v.work j).found (y, i + 1))) where

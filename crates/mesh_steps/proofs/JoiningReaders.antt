@@ -22,7 +22,7 @@ use Rattle.mesh_state.proofs.Lists.{plan_on, history_read}
 use Rattle.mesh_state.specs.Owner.{is_early}
 use Rattle.mesh_state.proofs.Known.{early_one, early_late, early_none}
 use Rattle.mesh_names.specs.Names.{digit}
-use Rattle.mesh_words.proofs.SeatKinds.{worker_not, reader_is}
+use Rattle.mesh_words.proofs.SeatKinds.{worker_not, reader_is, digit_zero}
 
 module _ (s : Setup) (w : Words) (n : ℕ) (v : Views) (g : Ghost) (r : Rule s w n v g) (j : ℕ) (far : j ≢ 0) (kind : v.kind j ≡ Reader) (none : (v.read j).pin ≡ 0) where
   abbrev own : Read
@@ -35,8 +35,8 @@ module _ (s : Setup) (w : Words) (n : ℕ) (v : Views) (g : Ghost) (r : Rule s w
   pin_is : (i : ℕ) → (read' i).pin ≡ (v.read i).pin
   pin_is = update_cases (λ i u. u.pin ≡ (v.read i).pin) (update v.read 0 own) j unread (sym none) (λ i _. update_cases (λ i u. u.pin ≡ (v.read i).pin) v.read 0 own refl (λ _ _. refl) i)
 
-  ready_le : (i : ℕ) → (read' i).ready ≤ (v.read i).ready
-  ready_le = update_cases (λ i u. u.ready ≤ (v.read i).ready) (update v.read 0 own) j unread (omega arith) (λ i _. update_cases (λ i u. u.ready ≤ (v.read i).ready) v.read 0 own (omega arith) (λ _ _. omega arith) i)
+  ready_le : (i : ℕ) → digit (read' i).ready ≤ digit (v.read i).ready
+  ready_le = update_cases (λ i u. digit u.ready ≤ digit (v.read i).ready) (update v.read 0 own) j unread (omega arith) (λ i _. update_cases (λ i u. digit u.ready ≤ digit (v.read i).ready) v.read 0 own (omega arith) (λ _ _. omega arith) i)
 
   inside : j < n
   inside = elim (dec_lt j n) [ yes l ↦ l | no o ↦ let z = r.pins.few j (omega arith) in absurd (cc) ]
@@ -81,12 +81,11 @@ module _ (s : Setup) (w : Words) (n : ℕ) (v : Views) (g : Ghost) (r : Rule s w
       past = λ i q e. r.pins.past i q (sym (pin_is i) ∙ e);
       few = update_cases (λ i x. n ≤ i → x ≡ Vacant) v.kind j Vacant (λ _. refl) (λ i _. r.pins.few i);
       readers = λ i o. dite (ℕ_discrete i j) (λ e. let u = update_at (update v.read 0 own) j i unread e in (ap (λ (x : Read). x.pin) u, ap (λ (x : Read). x.ready) u))
-          (λ f. let t = r.pins.readers i (λ k. o (update_other v.kind j i Vacant f ∙ k)) in let l = ready_le i in let t1 = t.1 in (pin_is i ∙ t.0, omega arith));
+          (λ f. let t = r.pins.readers i (λ k. o (update_other v.kind j i Vacant f ∙ k)) in (pin_is i ∙ t.0, digit_zero (read' i).ready (let l = ready_le i in let z = ap digit t.1 in omega arith)));
       spent = update_cases (λ i u. update v.kind j Vacant i ≡ Vacant → u ≡ unread) (update v.read 0 own) j unread (λ _. refl)
           (λ i ne. update_cases (λ i u. i ≢ j → update v.kind j Vacant i ≡ Vacant → u ≡ unread) v.read 0 own (λ o e. let y = r.rules.owner.0 in let z = update_other v.kind j 0 Vacant o in absurd (cc)) (λ i _ o e. r.pins.spent i (sym (update_other v.kind j i Vacant o) ∙ e)) i ne);
-      bit = λ i. let a = ready_le i in let b = r.pins.bit i in omega arith;
       most = r.pins.most;
-      bound = let a = sum_le n (λ i. (read' i).ready) (λ i. (v.read i).ready) ready_le in let b = r.pins.bound in omega arith;
+      bound = let a = sum_le n (λ i. digit (read' i).ready) (λ i. digit (v.read i).ready) ready_le in let b = r.pins.bound in omega arith;
     };
     works = λ i. let t = r.works i in record { only = λ o z. t.only (λ k. o (dite (ℕ_discrete i j) (λ e. let y : v.kind i ≡ v.kind j = ap v.kind e in absurd (cc)) (λ f. update_other v.kind j i Vacant f ∙ k))) z; found = t.found; known = t.known; open_ = t.open_; given = t.given };
     walks = λ i. let t = r.walks i in record { still = λ o. t.still (kept_work i o); only = λ o. t.only (kept_work i o); half = λ e. t.half (was i Worker (λ z. cc) e); at_work = λ e. t.at_work (was i Worker (λ z. cc) e); retired_in = t.retired_in; absent = t.absent; stood = t.stood; had = t.had; went = t.went; walk = t.walk; sided = t.sided };

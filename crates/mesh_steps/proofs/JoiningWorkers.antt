@@ -1,5 +1,5 @@
 -- A worker's pass ends, and the owner has its claims and what it knows.
-use Rattle.std.proofs.Common.{◌≡◌, ◌≢◌, ℕ, ◌+◌, ◌<◌, ◌≤◌, ◌==◌, cond, Bool, [], ◌++◌, ◌⊎◌, refl, sym, ap, ◌∙◌, inl, inr, ⊎_elim, arith, eq-eqb, ne_eqb, subst}
+use Rattle.std.proofs.Common.{◌≡◌, ◌≢◌, ℕ, ◌+◌, ◌<◌, ◌≤◌, ◌==◌, cond, Bool, [], ◌++◌, ◌⊎◌, refl, sym, ap, ◌∙◌, inl, inr, ⊎_elim, arith, eq-eqb, ne_eqb, subst, false}
 use mathlib.Core.Logic.{dite}
 use native.Mathlib.Decide.{ℕ_discrete, dec_lt}
 use Rattle.mesh_words.specs.Setup.{Setup, places}
@@ -84,7 +84,7 @@ module _ (s : Setup) (w : Words) (n : ℕ) (v : Views) (g : Ghost) (r : Rule s w
 
   -- the owner has the claims and the knowledge of both, and is sure of no word, where the pass has read nothing
   takes : v.read j ≡ unread → (workers : ℕ) → v.ruling.workers ≡ workers + 1
-      → Rule s w n (record v { kind = update v.kind j Vacant; claims = update (update v.claims 0 (v.claims 0 ++ v.claims j)) j []; work = update (update v.work 0 record { half = Resting; round = 0; number = 0; plan = no_plan; drawn = (v.work 0).drawn ++ (v.work j).drawn; found = (v.work 0).found ++ (v.work j).found; known = (v.work 0).known ++ (v.work j).known; open_ = (v.work 0).open_ ++ (v.work j).open_; given = (v.work 0).given ++ (v.work j).given; absent = (v.work 0).absent ++ (v.work j).absent; stood = (v.work 0).stood ++ (v.work j).stood; had = (v.work 0).had ++ (v.work j).had; grown = (v.work 0).grown ++ (v.work j).grown; retired = (v.work 0).retired ++ (v.work j).retired; went = []; walk = Still }) j idle; sure = update (update v.sure 0 unsure) j unsure; ruling = record v.ruling { workers = workers; lone = 0 } }) (record g { stage = λ x. moved j (g.stage x) })
+      → Rule s w n (record v { kind = update v.kind j Vacant; claims = update (update v.claims 0 (v.claims 0 ++ v.claims j)) j []; work = update (update v.work 0 record { half = Resting; round = 0; number = 0; plan = no_plan; drawn = (v.work 0).drawn ++ (v.work j).drawn; found = (v.work 0).found ++ (v.work j).found; known = (v.work 0).known ++ (v.work j).known; open_ = (v.work 0).open_ ++ (v.work j).open_; given = (v.work 0).given ++ (v.work j).given; absent = (v.work 0).absent ++ (v.work j).absent; stood = (v.work 0).stood ++ (v.work j).stood; had = (v.work 0).had ++ (v.work j).had; grown = (v.work 0).grown ++ (v.work j).grown; retired = (v.work 0).retired ++ (v.work j).retired; went = []; walk = Still }) j idle; sure = update (update v.sure 0 unsure) j unsure; ruling = record v.ruling { workers = workers; lone = false } }) (record g { stage = λ x. moved j (g.stage x) })
   takes spent workers one = record {
     names_apart = r.names_apart;
     claims = record {
@@ -110,7 +110,7 @@ module _ (s : Setup) (w : Words) (n : ℕ) (v : Views) (g : Ghost) (r : Rule s w
     labels = λ x i m p h. let k = was x i m p h in r.labels x k.0 m p k.1;
     chains = r.chains;
     names = r.names;
-    pins = record { now = r.pins.now; later = r.pins.later; count = r.pins.count; past = r.pins.past; few = λ i l. update_cases (λ i x. n ≤ i → x ≡ Vacant) v.kind j Vacant (λ _. refl) (λ i _. r.pins.few i) i l; readers = λ i o. r.pins.readers i (λ k. o (update_other v.kind j i Vacant (λ (e : i ≡ j). let z : v.kind i ≡ v.kind j = ap v.kind e in cc) ∙ k)); spent = λ i e. dite (ℕ_discrete i j) (λ f. ap v.read f ∙ spent) (λ o. r.pins.spent i (sym (update_other v.kind j i Vacant o) ∙ e)); bit = r.pins.bit; most = r.pins.most; bound = r.pins.bound };
+    pins = record { now = r.pins.now; later = r.pins.later; count = r.pins.count; past = r.pins.past; few = λ i l. update_cases (λ i x. n ≤ i → x ≡ Vacant) v.kind j Vacant (λ _. refl) (λ i _. r.pins.few i) i l; readers = λ i o. r.pins.readers i (λ k. o (update_other v.kind j i Vacant (λ (e : i ≡ j). let z : v.kind i ≡ v.kind j = ap v.kind e in cc) ∙ k)); spent = λ i e. dite (ℕ_discrete i j) (λ f. ap v.read f ∙ spent) (λ o. r.pins.spent i (sym (update_other v.kind j i Vacant o) ∙ e)); most = r.pins.most; bound = r.pins.bound };
     works = λ i. let K : ℕ → Kind = update v.kind j Vacant in two_at (λ i u. WorkRule s w.round v.ruling.phase w.name w.born w.died g.life (g.who (w.round + 1)) (K i) i u) v.work _ idle
         (let a = r.works 0 in let b = r.works j in record {
           only = λ _ z. absurd (z refl);
@@ -235,5 +235,5 @@ module _ (s : Setup) (w : Words) (n : ℕ) (v : Views) (g : Ghost) (r : Rule s w
 
 -- and so where it has, which it forgets
 pub joins : (s : Setup) (w : Words) (n : ℕ) (v : Views) (g : Ghost) → Rule s w n v g → (j : ℕ) → j ≢ 0 → v.kind j ≡ Worker → (workers : ℕ) → v.ruling.workers ≡ workers + 1
-    → Rule s w n (record v { kind = update v.kind j Vacant; claims = update (update v.claims 0 (v.claims 0 ++ v.claims j)) j []; work = update (update v.work 0 (joined_work (v.work 0) (v.work j))) j idle; sure = update (update v.sure 0 unsure) j unsure; read = update v.read j unread; ruling = record v.ruling { workers = workers; lone = 0 } }) (record g { stage = λ x. moved j (g.stage x) })
+    → Rule s w n (record v { kind = update v.kind j Vacant; claims = update (update v.claims 0 (v.claims 0 ++ v.claims j)) j []; work = update (update v.work 0 (joined_work (v.work 0) (v.work j))) j idle; sure = update (update v.sure 0 unsure) j unsure; read = update v.read j unread; ruling = record v.ruling { workers = workers; lone = false } }) (record g { stage = λ x. moved j (g.stage x) })
 joins s w n v g r j far kind = takes s w n (record v { read = update v.read j unread }) g (forgets s w n v g r j (λ e. cc)) j far kind (update_same v.read j unread)

@@ -1,6 +1,6 @@
 -- What a seat learns of a word that it loads.
 use Rattle.mesh_words.specs.Claims.{Living, claim}
-use Rattle.std.proofs.Common.{◌≡◌, inl, inr, ℕ, ◌+◌, ◌<◌, ◌≤◌, ◌∷◌, refl, sym, ap, ◌∙◌, subst, ⊎_elim, arith}
+use Rattle.std.proofs.Common.{◌≡◌, inl, inr, ℕ, ◌+◌, ◌<◌, ◌≤◌, ◌∷◌, refl, sym, ap, ◌∙◌, subst, ⊎_elim, arith, true}
 use Rattle.mesh_words.specs.Setup.{Setup}
 use Rattle.mesh_words.specs.Functions.{update}
 use Rattle.mesh_words.specs.Words.{Words}
@@ -175,8 +175,8 @@ module _ (s : Setup) (w : Words) (n : ℕ) (v : Views) (g : Ghost) (r : Rule s w
   finds_released = subst (λ (q : ℕ). Rule s w n (record v { ruling = record v.ruling { seen = w.released q + 1 } }) g) (sym r.stock.finished) found_released
 
   -- and ROUND after it: where it shows as many pins, no pass with a pin has gone to the blocks that were taken back
-  pub finds_quiet : v.ruling.seen ≡ w.taken + 1 → Rule s w n (record v { ruling = record v.ruling { quiet = 1 } }) g
-  finds_quiet e = let t = r.note.seen w.taken e in let t1 = t.1 in let t2 = t.2 in learns (record v.ruling { quiet = 1 })
+  pub finds_quiet : v.ruling.seen ≡ w.taken + 1 → Rule s w n (record v { ruling = record v.ruling { quiet = true } }) g
+  finds_quiet e = let t = r.note.seen w.taken e in let t1 = t.1 in let t2 = t.2 in learns (record v.ruling { quiet = true })
       record { owner = r.rules.owner; one = r.rules.one; workers = r.rules.workers; readers = r.rules.readers; few_readers = r.rules.few_readers; halves = r.rules.halves; clear = r.rules.clear }
       record { finished = r.stock.finished; cursor_is = r.stock.cursor_is; free_is = r.stock.free_is; left = r.stock.left }
       record { undone = r.note.undone; all = r.note.all; placed = r.note.placed; seen = r.note.seen; quiet = λ _. t.3 (omega arith) } r.hand refl refl r.inside.hand_in r.frees (λ _ h. h)

@@ -128,14 +128,14 @@ readers_go_on s w n v (g, r) j q x k kind pin = (onward, arrived)
 
 pub pins_go_on : PinsGoOn
 pins_go_on s w n v (g, r) j kind = (
-  (λ low. (_, ByLoadRound (j, kind, 1, inl (refl, low), refl), here (λ (u : Read). (u.ready ≡ 1) × (u.seen ≡ w.round)) v.read j _ (refl, refl))),
+  (λ low. (_, ByLoadRound (j, kind, true, inl (refl, low), refl), here (λ (u : Read). (u.ready ≡ true) × (u.seen ≡ w.round)) v.read j _ (refl, refl))),
   (λ none ready. (_, ByPinStep (j, kind, none, ready, refl), here (λ (u : Read). (u.pin ≡ w.round + 1) × (u.seen ≡ w.round)) v.read j _ (refl, refl))),
   λ q pin. (_, ByUnpinStep (j, q, kind, pin, refl), (here (λ (u : Read). u.pin ≡ 0) v.read j _ refl, update_same w.released q (w.released q + 1))),
 )
 
 pub ready_below : ReadyBelow
 ready_below s w n v b j (i, kind, ready, shown, e) one = dite (ℕ_discrete j i)
-    (λ same. ⊎_elim (λ t. inr t.1) (λ none. let f = sym (is_ready j) ∙ one in let h : ready ≡ 1 = sym (ap (λ (u : Read). u.ready) (update_at v.read i j _ same)) ∙ f in absurd (omega arith)) shown)
+    (λ same. ⊎_elim (λ t. inr t.1) (λ none. let f = sym (is_ready j) ∙ one in let h : ready ≡ true = sym (ap (λ (u : Read). u.ready) (update_at v.read i j _ same)) ∙ f in absurd (cc)) shown)
     (λ other. inl (sym (ap (λ (u : Read). u.ready) (update_other v.read i j _ other)) ∙ sym (is_ready j) ∙ one))
   where
     is_ready : (k : ℕ) → (b.views.read k).ready ≡ (update v.read i (record (v.read i) { ready = ready; seen = w.round }) k).ready
@@ -148,8 +148,8 @@ pins_fit mesh across l passes w n v lawful = (
 )
 
 -- a worker's pass is made
-made : (s : Setup) (w : Words) (n : ℕ) (v : Views) (number : ℕ) → (v.ruling.phase ≡ FirstHalf) ⊎ (v.ruling.phase ≡ SecondHalf) → (lone : ℕ)
-    → (((Worker ≡ Reader) ⊎ (v.ruling.phase ≡ SecondHalf)) × (lone ≡ v.ruling.lone)) ⊎ ((number ≡ 0) × (v.ruling.workers ≡ 0) × ((x m : ℕ) (p : Progress) → HasEntry (v.claims 0) (claim x m p) → (b : ℕ) × (p ≡ Living b)) × (lone ≡ 1)) ⊎ ((0 < number) × (v.ruling.lone ≡ 0) × (lone ≡ 0))
+made : (s : Setup) (w : Words) (n : ℕ) (v : Views) (number : ℕ) → (v.ruling.phase ≡ FirstHalf) ⊎ (v.ruling.phase ≡ SecondHalf) → (lone : Bool)
+    → (((Worker ≡ Reader) ⊎ (v.ruling.phase ≡ SecondHalf)) × (lone ≡ v.ruling.lone)) ⊎ ((number ≡ 0) × (v.ruling.workers ≡ 0) × ((x m : ℕ) (p : Progress) → HasEntry (v.claims 0) (claim x m p) → (b : ℕ) × (p ≡ Living b)) × (lone ≡ true)) ⊎ ((0 < number) × (v.ruling.lone ≡ false) × (lone ≡ false))
     → Onward s w n v (λ b. (b.views.kind n ≡ Worker) × ((b.views.work n).number ≡ number) × ((b.views.work n).plan ≡ v.ruling.plan) × ((b.views.read n).told ≡ v.ruling.history))
 made s w n v number half lone how = (
   _,
@@ -167,8 +167,8 @@ passes_made s w n v (g, r) = (
   λ number how. ⊎_elim
       (λ two. made s w n v number (inr two) v.ruling.lone (inl (inr two, refl)))
       (λ one. ⊎_elim
-      (λ t. made s w n v number (inl one.0) 0 (inr (inr (t.0, t.1, refl))))
-      (λ t. made s w n v number (inl one.0) 1 (inr (inl (t.0, t.1, t.2, refl))))
+      (λ t. made s w n v number (inl one.0) false (inr (inr (t.0, t.1, refl))))
+      (λ t. made s w n v number (inl one.0) true (inr (inl (t.0, t.1, t.2, refl))))
       one.1)
       how,
 )

@@ -280,7 +280,7 @@ module _ (s : Setup) (w : Words) (n : ℕ) (v : Views) (g : Ghost) (r : Rule s w
 
   -- the round is finished: the history has its forest, the target less the listed patches
   pub advances : (forest : List ℕ) → ((i : ℕ) → HasEntry forest i → HasEntry v.ruling.plan.target i × (IsListed s v.ruling.plan.retire i → ⊥)) → ((i : ℕ) → HasEntry v.ruling.plan.target i → (IsListed s v.ruling.plan.retire i → ⊥) → HasEntry forest i) → v.ruling.phase ≡ Closing → v.claims 0 ≡ [] → ((b : ℕ) → HasEntry ((v.work 0).retired ++ v.ruling.retired) b → (x : ℕ) × (m : ℕ) × HasEntry v.ruling.placed (b, x, m) × IsStamped x b × ((y : ℕ) → m ≡ y + 1 → IsStamped y b))
-      → Rule s (record w { round = d; taken = 0 }) n (record v { work = update v.work 0 idle; ruling = record v.ruling { phase = Resting; finished = v.ruling.finished + 1; early = v.ruling.readers; history = v.ruling.history ++ forest ∷ []; left = (w.round, w.taken) ∷ v.ruling.left; retired = []; kept = ((v.work 0).retired ++ v.ruling.retired) ++ v.ruling.kept; seen = 0; quiet = 0 } }) (record g { who = update g.who (d + 1) (g.who d) })
+      → Rule s (record w { round = d; taken = 0 }) n (record v { work = update v.work 0 idle; ruling = record v.ruling { phase = Resting; finished = v.ruling.finished + 1; early = v.ruling.readers; history = v.ruling.history ++ forest ∷ []; left = (w.round, w.taken) ∷ v.ruling.left; retired = []; kept = ((v.work 0).retired ++ v.ruling.retired) ++ v.ruling.kept; seen = 0; quiet = false } }) (record g { who = update g.who (d + 1) (g.who d) })
   advances forest of all three none shown = record {
     names_apart = r.names_apart;
     claims = record {
@@ -320,7 +320,6 @@ module _ (s : Setup) (w : Words) (n : ℕ) (v : Views) (g : Ghost) (r : Rule s w
       few = r.pins.few;
       readers = r.pins.readers;
       spent = r.pins.spent;
-      bit = r.pins.bit;
       most = r.pins.most;
       bound = let b = r.pins.bound in omega arith;
     };
@@ -331,7 +330,7 @@ module _ (s : Setup) (w : Words) (n : ℕ) (v : Views) (g : Ghost) (r : Rule s w
         record { went = t.went; walk = t.walk; sided = t.sided; dated = t.dated; places = t.places; yes_notes = λ k q h. let a = t.yes_notes k q h in let a0 = a.0 in (omega arith, a.1); no_notes = λ k q h. let a = t.no_notes k q h in let a0 = a.0 in (omega arith, a.1) };
     rules = record { owner = r.rules.owner; one = r.rules.one; workers = r.rules.workers; readers = r.rules.readers; few_readers = r.rules.few_readers; halves = λ _ _. home; clear = λ q h. let t = r.rules.clear q h in let t0 = t.0 in (omega arith, t.1) };
     stock = record { finished = ap (λ (i : ℕ). i + 1) r.stock.finished; cursor_is = λ k e. ((λ f. absurd (cc)), (r.stock.cursor_is k e).1); free_is = r.stock.free_is; left = λ q k h. ⊎_elim (λ e. let a : q ≡ w.round = ap (λ (t : ℕ × ℕ). t.0) e in let b : k ≡ w.taken = ap (λ (t : ℕ × ℕ). t.1) e in (omega arith, ap g.pins a ∙ r.pins.now ∙ sym b)) (λ t. let u = r.stock.left q k t in let u0 = u.0 in (omega arith, u.1)) h };
-    note = record { undone = r.note.undone; all = r.note.all; placed = r.note.placed; seen = λ x e. absurd (omega arith); quiet = λ e. absurd (omega arith) };
+    note = record { undone = r.note.undone; all = r.note.all; placed = r.note.placed; seen = λ x e. absurd (omega arith); quiet = λ e. absurd (cc) };
     retired = λ b x m u e. elim (dec_lt 0 (w.died b)) [ yes p ↦ let t = (r.chains.dieds b x m u p).2 in absurd (omega arith) | no o ↦ absurd (omega arith) ];
     plan = record { same = λ j k. absurd (not_work home j k); aim = λ l. absurd (omega arith); within = λ i l. absurd (omega arith); whole = λ i l. absurd (omega arith); done = λ i e. absurd (cc) };
     history = record {

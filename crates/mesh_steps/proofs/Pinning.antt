@@ -26,7 +26,7 @@ use Rattle.mesh_state.proofs.ChainSteps.{named, older_head, dead_end}
 use Rattle.mesh_state.proofs.Across.{Went, no_pin, zero_or_more, place_one, name_one}
 use Rattle.mesh_state.proofs.Known.{early_on, early_other}
 use Rattle.mesh_state.specs.Owner.{EarlyRule}
-use Rattle.mesh_words.proofs.SeatKinds.{kind_discrete, reader_is}
+use Rattle.mesh_words.proofs.SeatKinds.{kind_discrete, reader_is, digit_low}
 use Rattle.mesh_names.specs.Names.{digit}
 
 module _ (s : Setup) (w : Words) (n : ℕ) (v : Views) (g : Ghost) (r : Rule s w n v g) where
@@ -83,24 +83,23 @@ module _ (s : Setup) (w : Words) (n : ℕ) (v : Views) (g : Ghost) (r : Rule s w
   pin_sum : (j q : ℕ) (u : Read) → j < n → sum_below n (λ i. one_where (update v.read j u i).pin (q + 1)) + one_where (v.read j).pin (q + 1) ≡ sum_below n (λ i. one_where (v.read i).pin (q + 1)) + one_where u.pin (q + 1)
   pin_sum j q u l = sum_update n (λ i. one_where (v.read i).pin (q + 1)) (λ i. one_where (update v.read j u i).pin (q + 1)) j l (λ i o. ap (λ (x : Read). one_where x.pin (q + 1)) (update_other v.read j i u o)) ∙ ap (λ (x : Read). sum_below n (λ i. one_where (v.read i).pin (q + 1)) + one_where x.pin (q + 1)) (update_same v.read j u)
 
-  ready_sum : (j : ℕ) (u : Read) → j < n → sum_below n (λ i. (update v.read j u i).ready) + (v.read j).ready ≡ sum_below n (λ i. (v.read i).ready) + u.ready
-  ready_sum j u l = sum_update n (λ i. (v.read i).ready) (λ i. (update v.read j u i).ready) j l (λ i o. ap (λ (x : Read). x.ready) (update_other v.read j i u o)) ∙ ap (λ (x : Read). sum_below n (λ i. (v.read i).ready) + x.ready) (update_same v.read j u)
+  ready_sum : (j : ℕ) (u : Read) → j < n → sum_below n (λ i. digit (update v.read j u i).ready) + digit (v.read j).ready ≡ sum_below n (λ i. digit (v.read i).ready) + digit u.ready
+  ready_sum j u l = sum_update n (λ i. digit (v.read i).ready) (λ i. digit (update v.read j u i).ready) j l (λ i o. ap (λ (x : Read). digit x.ready) (update_other v.read j i u o)) ∙ ap (λ (x : Read). sum_below n (λ i. digit (v.read i).ready) + digit x.ready) (update_same v.read j u)
 
   -- at most as many views are ready as readers are out
   few_ready : (f : ℕ → ℕ) → ((i : ℕ) → f i ≤ 1) → ((i : ℕ) → (v.kind i ≡ Reader → ⊥) → f i ≡ 0) → sum_below n f ≤ s.passes + 1
   few_ready f b z = let a = sum_le n f (λ i. digit (is_reader (v.kind i))) (λ i. dite (kind_discrete (v.kind i) Reader) (λ e. let x = b i in let y = reader_is (v.kind i) e in omega arith) (λ o. let x = z i o in omega arith)) in let c = r.rules.readers in let e = r.rules.few_readers in omega arith
 
   -- a reader's view in which the pin stays
-  pub same_pin : (j : ℕ) (u : Read) → v.kind j ≡ Reader → u.pin ≡ (v.read j).pin → u.ready ≤ 1 → w.taken + sum_below n (λ i. (update v.read j u i).ready) ≤ s.limit + s.passes + 1 → PinsRule s w.round w.taken w.released n v.kind (update v.read j u) g.pins
-  same_pin j u k e b bound = record {
+  pub same_pin : (j : ℕ) (u : Read) → v.kind j ≡ Reader → u.pin ≡ (v.read j).pin → w.taken + sum_below n (λ i. digit (update v.read j u i).ready) ≤ s.limit + s.passes + 1 → PinsRule s w.round w.taken w.released n v.kind (update v.read j u) g.pins
+  same_pin j u k e bound = record {
     now = r.pins.now;
     later = r.pins.later;
     count = λ q. let a = r.pins.count q in let z = pin_sum j q u (inside j k) in let y : one_where u.pin (q + 1) ≡ one_where (v.read j).pin (q + 1) = ap (λ (x : ℕ). one_where x (q + 1)) e in omega arith;
     past = update_cases (λ i x. (q : ℕ) → x.pin ≡ q + 1 → q ≤ w.round) v.read j u (λ q h. r.pins.past j q (sym e ∙ h)) (λ i _. r.pins.past i);
     few = r.pins.few;
-    readers = update_cases (λ i x. (v.kind i ≡ Reader → ⊥) → (x.pin ≡ 0) × (x.ready ≡ 0)) v.read j u (λ o. absurd (o k)) (λ i _. r.pins.readers i);
+    readers = update_cases (λ i x. (v.kind i ≡ Reader → ⊥) → (x.pin ≡ 0) × (x.ready ≡ false)) v.read j u (λ o. absurd (o k)) (λ i _. r.pins.readers i);
     spent = update_cases (λ i x. v.kind i ≡ Vacant → x ≡ unread) v.read j u (λ z. absurd (cc)) (λ i _. r.pins.spent i);
-    bit = update_cases (λ _ x. x.ready ≤ 1) v.read j u b (λ i _. r.pins.bit i);
     most = r.pins.most;
     bound = bound;
   }
@@ -121,11 +120,10 @@ module _ (s : Setup) (w : Words) (n : ℕ) (v : Views) (g : Ghost) (r : Rule s w
         count = λ q. r.pins.count q ∙ ap (λ (x : ℕ). w.released q + x) (sym (sum_same n (λ i. one_where (v.read i).pin (q + 1)) (λ i. one_where (update v.read j unread i).pin (q + 1)) (λ i _. ap (λ (x : ℕ). one_where x (q + 1)) (same i))));
         past = update_cases (λ i x. (q : ℕ) → x.pin ≡ q + 1 → q ≤ w.round) v.read j unread (λ q e. absurd (omega arith)) (λ i _. r.pins.past i);
         few = r.pins.few;
-        readers = update_cases (λ i x. (v.kind i ≡ Reader → ⊥) → (x.pin ≡ 0) × (x.ready ≡ 0)) v.read j unread (λ _. (refl, refl)) (λ i _. r.pins.readers i);
+        readers = update_cases (λ i x. (v.kind i ≡ Reader → ⊥) → (x.pin ≡ 0) × (x.ready ≡ false)) v.read j unread (λ _. (refl, refl)) (λ i _. r.pins.readers i);
         spent = update_cases (λ i x. v.kind i ≡ Vacant → x ≡ unread) v.read j unread (λ _. refl) (λ i _. r.pins.spent i);
-        bit = update_cases (λ _ x. x.ready ≤ 1) v.read j unread (omega arith) (λ i _. r.pins.bit i);
         most = r.pins.most;
-        bound = let a = sum_le n (λ i. (update v.read j unread i).ready) (λ i. (v.read i).ready) (update_cases (λ i x. x.ready ≤ (v.read i).ready) v.read j unread (omega arith) (λ _ _. omega arith)) in let b = r.pins.bound in omega arith;
+        bound = let a = sum_le n (λ i. digit (update v.read j unread i).ready) (λ i. digit (v.read i).ready) (update_cases (λ i x. digit x.ready ≤ digit (v.read i).ready) v.read j unread (omega arith) (λ _ _. omega arith)) in let b = r.pins.bound in omega arith;
       }
       r.rules.clear r.stock.left (omega arith) (λ b p h. absurd h) (λ q e. absurd (omega arith))
       record { went = λ q b p h. absurd h; walk = λ q p. tt; sided = λ q x k b t p h. absurd (still_not x k b t h); dated = λ q x k b t p h. absurd (still_not x k b t h); places = λ q x k p h. absurd h; yes_notes = λ k q h. absurd h; no_notes = λ k q h. absurd h }
@@ -135,17 +133,17 @@ module _ (s : Setup) (w : Words) (n : ℕ) (v : Views) (g : Ghost) (r : Rule s w
       same = update_cases (λ i x. x.pin ≡ (v.read i).pin) v.read j unread (sym (r.pins.readers j o).0) (λ _ _. refl)
 
   -- ROUND is loaded: the view is ready where fewer pins than the limit were shown
-  pub shows_round : (j : ℕ) → v.kind j ≡ Reader → (ready : ℕ) → ((ready ≡ 1) × (w.taken < s.limit)) ⊎ (ready ≡ 0) → Rule s w n (record v { read = update v.read j (record (v.read j) { ready = ready; seen = w.round }) }) g
+  pub shows_round : (j : ℕ) → v.kind j ≡ Reader → (ready : Bool) → ((ready ≡ true) × (w.taken < s.limit)) ⊎ (ready ≡ false) → Rule s w n (record v { read = update v.read j (record (v.read j) { ready = ready; seen = w.round }) }) g
   shows_round j k ready how = let u : Read = record (v.read j) { ready = ready; seen = w.round } in let g0 = r.goes j in rereads j w.taken w.released g.pins u
-      (same_pin j u k refl (⊎_elim (λ t. let e = t.0 in omega arith) (λ e. omega arith) how) (⊎_elim
-      (λ t. let l = t.1 in let e = t.0 in let f = few_ready (λ i. (update v.read j u i).ready) (update_cases (λ _ x. x.ready ≤ 1) v.read j u (omega arith) (λ i _. r.pins.bit i)) (update_cases (λ i x. (v.kind i ≡ Reader → ⊥) → x.ready ≡ 0) v.read j u (λ o. absurd (o k)) (λ i _ o. (r.pins.readers i o).1)) in omega arith)
-      (λ e. let a = ready_sum j u (inside j k) in let b = r.pins.bound in omega arith) how))
+      (same_pin j u k refl (⊎_elim
+      (λ t. let l = t.1 in let e = t.0 in let f = few_ready (λ i. digit (update v.read j u i).ready) (λ i. digit_low (update v.read j u i).ready) (update_cases (λ i x. (v.kind i ≡ Reader → ⊥) → digit x.ready ≡ 0) v.read j u (λ o. absurd (o k)) (λ i _ o. ap digit (r.pins.readers i o).1)) in omega arith)
+      (λ e. let z : digit ready ≡ 0 = ap digit e in let a = ready_sum j u (inside j k) in let b = r.pins.bound in omega arith) how))
       r.rules.clear r.stock.left (omega arith) (λ b p h. inr (p, h)) (λ q h. inr (j, h)) record { went = g0.went; walk = g0.walk; sided = g0.sided; dated = g0.dated; places = g0.places; yes_notes = g0.yes_notes; no_notes = g0.no_notes } (told_on j u refl refl (inr refl) (λ q e. inl e)) (early_on w.round n v.kind v.read j u v.ruling.early refl r.early)
 
   -- a pin is taken: the bound holds
-  pub pins : (j : ℕ) → v.kind j ≡ Reader → (v.read j).pin ≡ 0 → (v.read j).ready ≡ 1
-      → Rule s (record w { taken = w.taken + 1; released = w.released }) n (record v { read = update v.read j (record (v.read j) { pin = w.round + 1; ready = 0; went = []; walk = Still; places = []; seen = w.round }) }) (record g { pins = update g.pins w.round (g.pins w.round + 1) })
-  pins j k none ready = let u : Read = record (v.read j) { pin = w.round + 1; ready = 0; went = []; walk = Still; places = []; seen = w.round } in let p' : ℕ → ℕ = update g.pins w.round (g.pins w.round + 1) in
+  pub pins : (j : ℕ) → v.kind j ≡ Reader → (v.read j).pin ≡ 0 → (v.read j).ready ≡ true
+      → Rule s (record w { taken = w.taken + 1; released = w.released }) n (record v { read = update v.read j (record (v.read j) { pin = w.round + 1; ready = false; went = []; walk = Still; places = []; seen = w.round }) }) (record g { pins = update g.pins w.round (g.pins w.round + 1) })
+  pins j k none ready = let u : Read = record (v.read j) { pin = w.round + 1; ready = false; went = []; walk = Still; places = []; seen = w.round } in let p' : ℕ → ℕ = update g.pins w.round (g.pins w.round + 1) in
       rereads j (w.taken + 1) w.released p' u
       record {
         now = let a = r.pins.now in let b : p' w.round ≡ g.pins w.round + 1 = update_same g.pins w.round (g.pins w.round + 1) in omega arith;
@@ -155,13 +153,12 @@ module _ (s : Setup) (w : Words) (n : ℕ) (v : Views) (g : Ghost) (r : Rule s w
             (λ o. let x : one_where (w.round + 1) (q + 1) ≡ 0 = none_if (w.round + 1) (q + 1) (λ (e : w.round + 1 ≡ q + 1). o (omega arith)) in let b : p' q ≡ g.pins q = update_other g.pins w.round q (g.pins w.round + 1) o in omega arith);
         past = update_cases (λ i x. (q : ℕ) → x.pin ≡ q + 1 → q ≤ w.round) v.read j u (λ q h. omega arith) (λ i _. r.pins.past i);
         few = r.pins.few;
-        readers = update_cases (λ i x. (v.kind i ≡ Reader → ⊥) → (x.pin ≡ 0) × (x.ready ≡ 0)) v.read j u (λ o. absurd (o k)) (λ i _. r.pins.readers i);
+        readers = update_cases (λ i x. (v.kind i ≡ Reader → ⊥) → (x.pin ≡ 0) × (x.ready ≡ false)) v.read j u (λ o. absurd (o k)) (λ i _. r.pins.readers i);
         spent = update_cases (λ i x. v.kind i ≡ Vacant → x ≡ unread) v.read j u (λ z. absurd (cc)) (λ i _. r.pins.spent i);
-        bit = update_cases (λ _ x. x.ready ≤ 1) v.read j u (omega arith) (λ i _. r.pins.bit i);
         most = λ q. dite (ℕ_discrete q w.round)
-            (λ e. let b : p' q ≡ g.pins w.round + 1 = update_at g.pins w.round q (g.pins w.round + 1) e in let c = r.pins.now in let a = ready_sum j u (inside j k) in let m = r.pins.bound in omega arith)
+            (λ e. let b : p' q ≡ g.pins w.round + 1 = update_at g.pins w.round q (g.pins w.round + 1) e in let c = r.pins.now in let a = ready_sum j u (inside j k) in let m = r.pins.bound in omega (arith, ap digit ready))
             (λ o. let b : p' q ≡ g.pins q = update_other g.pins w.round q (g.pins w.round + 1) o in let m = r.pins.most q in omega arith);
-        bound = let a = ready_sum j u (inside j k) in let b = r.pins.bound in omega arith;
+        bound = let a = ready_sum j u (inside j k) in let b = r.pins.bound in omega (arith, ap digit ready);
       }
       (λ q h. let t = r.rules.clear q h in let l = t.0 in (t.0, t.1 ∙ sym (update_other g.pins w.round q (g.pins w.round + 1) (λ (e : q ≡ w.round). omega arith))))
       (λ q i h. let t = r.stock.left q i h in let l = t.0 in (t.0, update_other g.pins w.round q (g.pins w.round + 1) (λ (e : q ≡ w.round). omega arith) ∙ t.1))
@@ -180,9 +177,8 @@ module _ (s : Setup) (w : Words) (n : ℕ) (v : Views) (g : Ghost) (r : Rule s w
             (λ o. let x : one_where (v.read j).pin (q + 1) ≡ 0 = none_if (v.read j).pin (q + 1) (λ (e : (v.read j).pin ≡ q + 1). o (omega arith)) in let b : update w.released q0 (w.released q0 + 1) q ≡ w.released q = update_other w.released q0 q (w.released q0 + 1) o in omega arith);
         past = update_cases (λ i x. (q : ℕ) → x.pin ≡ q + 1 → q ≤ w.round) v.read j u (λ q h. absurd (omega arith)) (λ i _. r.pins.past i);
         few = r.pins.few;
-        readers = update_cases (λ i x. (v.kind i ≡ Reader → ⊥) → (x.pin ≡ 0) × (x.ready ≡ 0)) v.read j u (λ o. absurd (o k)) (λ i _. r.pins.readers i);
+        readers = update_cases (λ i x. (v.kind i ≡ Reader → ⊥) → (x.pin ≡ 0) × (x.ready ≡ false)) v.read j u (λ o. absurd (o k)) (λ i _. r.pins.readers i);
         spent = update_cases (λ i x. v.kind i ≡ Vacant → x ≡ unread) v.read j u (λ z. absurd (cc)) (λ i _. r.pins.spent i);
-        bit = update_cases (λ _ x. x.ready ≤ 1) v.read j u (r.pins.bit j) (λ i _. r.pins.bit i);
         most = r.pins.most;
         bound = let a = ready_sum j u (inside j k) in let b = r.pins.bound in omega arith;
       }
@@ -207,7 +203,7 @@ module _ (s : Setup) (w : Words) (n : ℕ) (v : Views) (g : Ghost) (r : Rule s w
         → Walks s w.name w.hist w.born w.died g.life (g.who q0) q0 went walk → ((x i b : ℕ) (t : Bool) → (walk ≡ At x i b t) ⊎ (walk ≡ Past x i b t) → w.name (member_of b t) ≡ i)
         → ((i q : ℕ) → HasEntry notes record { round = q; name = i; bisected = true } → (q ≤ w.round) × ((b : ℕ) × (g.who q i ≡ b + 1))) → ((i q : ℕ) → HasEntry notes record { round = q; name = i; bisected = false } → (q ≤ w.round) × (g.who q i ≡ 0)) → ((x i : ℕ) → HasEntry places (x, i) → IsPlaceOf s w.name (g.who q0) x i) → ((b : ℕ) → (v.read j).pin ≡ w.round + 1 → HasEntry went b → ((x m : ℕ) → g.life b ≡ Undone x m → ⊥) ⊎ (((v.read j).pin ≡ w.round + 1) × HasEntry (v.read j).went b))
         → Rule s w n (record v { read = update v.read j (walked went walk notes places back) }) g
-    walks_on went walk notes places back dd ok here sd yes_ no_ at fresh = rereads j w.taken w.released g.pins (walked went walk notes places back) (same_pin j (walked went walk notes places back) kind refl (r.pins.bit j) (let a = ready_sum j (walked went walk notes places back) (inside j kind) in let b = r.pins.bound in omega arith))
+    walks_on went walk notes places back dd ok here sd yes_ no_ at fresh = rereads j w.taken w.released g.pins (walked went walk notes places back) (same_pin j (walked went walk notes places back) kind refl (let a = ready_sum j (walked went walk notes places back) (inside j kind) in let b = r.pins.bound in omega arith))
         r.rules.clear r.stock.left (omega arith) fresh (λ q h. inr (j, h))
         record { went = λ q b p h. subst (λ (x : ℕ). ((t : Bool) × (y : ℕ) × (stands (g.life b) t ≡ y + 1)) × ((w.died b ≡ 0) ⊎ (x < w.died b))) (same_q q p) (ok b h); walk = λ q p. subst (λ (x : ℕ). Walks s w.name w.hist w.born w.died g.life (g.who x) x went walk) (same_q q p) here; sided = λ q x i b t p h. sd x i b t h; dated = λ q x i b t p h. dd x i b t h; places = λ q x i p h. subst (λ (y : ℕ). IsPlaceOf s w.name (g.who y) x i) (same_q q p) (at x i h); yes_notes = yes_; no_notes = no_ } (told_on j (walked went walk notes places back) refl refl (inl refl) (λ q e. inl e)) (early_on w.round n v.kind v.read j (walked went walk notes places back) v.ruling.early refl r.early)
 

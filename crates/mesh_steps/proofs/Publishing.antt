@@ -39,7 +39,7 @@ module _ (s : Setup) (w : Words) (n : ℕ) (v : Views) (g : Ghost) (r : Rule s w
 
   -- the label of a claim, in the first half
   abbrev pub Label : ℕ → ℕ → Progress → Type 0
-  Label x m p = (k : ℕ) × (s.leads k ≡ 1) × IsPlaceOf s w.name (g.who d) x k × (g.who w.round k ≡ 0) × ((b : ℕ) → linked p ≡ b + 1 → w.name (member_of b false) ≡ k)
+  Label x m p = (k : ℕ) × (s.leads k ≡ true) × IsPlaceOf s w.name (g.who d) x k × (g.who w.round k ≡ 0) × ((b : ℕ) → linked p ≡ b + 1 → w.name (member_of b false) ≡ k)
       × ((m ≡ 0) × (s.mate k ≡ 0) ⊎ (y : ℕ) × (i : ℕ) × (m ≡ y + 1) × (s.mate k ≡ i + 1) × IsPlaceOf s w.name (g.who d) y (i + 1) × (g.who w.round (i + 1) ≡ 0)) × HasEntry v.ruling.plan.target k
 
   -- a member's place of a claim, and its name
@@ -229,7 +229,7 @@ module _ (s : Setup) (w : Words) (n : ℕ) (v : Views) (g : Ghost) (r : Rule s w
         at_member : (t : Bool) (y : ℕ) → chained (Placed x m) t ≡ y + 1 → now (w.name (member_of b t)) ≡ b + 1
         at_member t y c = rounds.marked s r.names_apart w.round v.ruling.phase w.name w.head w.hist w.born w.died g.life g.who v.read r.names (low s w n v g r) b x m at (b + 1) t y (ap (λ (l : Life). chained l t) at ∙ c)
 
-        relabel : (z k : ℕ) (q : Progress) → Label z k q → (a : ℕ) × (s.leads a ≡ 1) × IsPlaceOf s w.name (who' d) z a × (who' w.round a ≡ 0) × ((c : ℕ) → linked q ≡ c + 1 → w.name (member_of c false) ≡ a)
+        relabel : (z k : ℕ) (q : Progress) → Label z k q → (a : ℕ) × (s.leads a ≡ true) × IsPlaceOf s w.name (who' d) z a × (who' w.round a ≡ 0) × ((c : ℕ) → linked q ≡ c + 1 → w.name (member_of c false) ≡ a)
             × ((k ≡ 0) × (s.mate a ≡ 0) ⊎ (y : ℕ) × (i : ℕ) × (k ≡ y + 1) × (s.mate a ≡ i + 1) × IsPlaceOf s w.name (who' d) y (i + 1) × (who' w.round (i + 1) ≡ 0)) × HasEntry v.ruling.plan.target a
         relabel z k q l = (l.0, l.1, here z l.0 (seen_stays z l.0 l.2), old_round l.0 ∙ l.3, l.4, ⊎_elim inl (λ t. inr (t.0, t.1, t.2, t.3, here t.0 (t.1 + 1) (seen_stays t.0 (t.1 + 1) t.4), old_round (t.1 + 1) ∙ t.5)) l.5, l.6)
 

@@ -52,7 +52,7 @@ module _ (s : Setup) (w : Words) (n : ℕ) (v : Views) (g : Ghost) (r : Rule s w
   had_at b k h = let f = (r.names.fits w.round now).found k b ((r.walks j).had b k h) in (f.0, f.1, f.2, f.3, found_covers w.hist w.born w.died g.life w.round f.1 b f.5.0 (w.head f.1) f.5.1)
 
   -- a block of a finished round for a name that leads its patch
-  pub gives : (b k : ℕ) → s.leads k ≡ 1 → HasEntry u.had (b, k) → Rule s w n (record v { work = update v.work j (record (v.work j) { given = (b, k) ∷ u.given }) }) g
+  pub gives : (b k : ℕ) → s.leads k ≡ true → HasEntry u.had (b, k) → Rule s w n (record v { work = update v.work j (record (v.work j) { given = (b, k) ∷ u.given }) }) g
   gives b k lead h = let a = had_at b k h in let p = placed (g.life b) a.0 a.1 a.3 in let c = a.4 in let l = r.chains.dieds b p.0 p.1 p.2 in let bo = c.1 in
       reworks s w n v g r j (record (v.work j) { given = (b, k) ∷ u.given })
       record {

@@ -1,5 +1,5 @@
 -- A pass is made, and a pass ends.
-use Rattle.std.proofs.Common.{Bool, cond, ◌==◌, eq-eqb, ne_eqb, ◌≡◌, ◌≢◌, ℕ, suc, ◌+◌, ◌<◌, ◌≤◌, List, [], ◌⊎◌, refl, sym, ap, ◌∙◌, subst, inl, inr, ⊎_elim, arith}
+use Rattle.std.proofs.Common.{Bool, cond, ◌==◌, eq-eqb, ne_eqb, ◌≡◌, ◌≢◌, ℕ, suc, ◌+◌, ◌<◌, ◌≤◌, List, [], ◌⊎◌, refl, sym, ap, ◌∙◌, subst, inl, inr, ⊎_elim, arith, true, false}
 use Rattle.std.proofs.lemmas.List.{append-nil}
 use Rattle.mesh_state.proofs.Lists.{plan_on, history_read}
 use mathlib.Core.Logic.{dite}
@@ -75,13 +75,13 @@ module _ (s : Setup) (w : Words) (n : ℕ) (v : Views) (g : Ghost) (r : Rule s w
     keep = cond (is_reader kind) (v.sure 0) unsure
 
     -- Who may be at work besides: a pass of worker 0 is made in the first half while no other worker's is out and each claim of the owner has its living block, and none is made while it is out
-    abbrev pub MayJoin : ℕ → ℕ → Type 0
+    abbrev pub MayJoin : ℕ → Bool → Type 0
     MayJoin number lone = (((kind ≡ Reader) ⊎ (v.ruling.phase ≡ SecondHalf)) × (lone ≡ v.ruling.lone))
-        ⊎ ((number ≡ 0) × (v.ruling.workers ≡ 0) × ((x m : ℕ) (p : Progress) → HasEntry (v.claims 0) (claim x m p) → (b : ℕ) × (p ≡ Living b)) × (lone ≡ 1))
-        ⊎ ((0 < number) × (v.ruling.lone ≡ 0) × (lone ≡ 0))
+        ⊎ ((number ≡ 0) × (v.ruling.workers ≡ 0) × ((x m : ℕ) (p : Progress) → HasEntry (v.claims 0) (claim x m p) → (b : ℕ) × (p ≡ Living b)) × (lone ≡ true))
+        ⊎ ((0 < number) × (v.ruling.lone ≡ false) × (lone ≡ false))
 
     -- A pass is made: the owner is no longer sure of any word, where it is a pass at work
-    pub splits : (number lone : ℕ) → MayJoin number lone → (notes : List Note) → ((k : Note) → HasEntry notes k → HasEntry (v.read 0).notes k)
+    pub splits : (number : ℕ) (lone : Bool) → MayJoin number lone → (notes : List Note) → ((k : Note) → HasEntry notes k → HasEntry (v.read 0).notes k)
         → Rule s w (n + 1) (record v { kind = kind'; claims = update v.claims n []; work = update v.work n (record idle { half = v.ruling.phase; round = v.ruling.finished + 1; number = number; plan = v.ruling.plan }); sure = update (update v.sure 0 (cond (is_reader kind) (v.sure 0) unsure)) n unsure; read = update v.read n (record (blank notes) { told = v.ruling.history; seen = v.ruling.finished; made = v.ruling.finished }); ruling = record v.ruling { workers = workers; readers = readers; lone = lone } }) g
     splits number lone may notes told = record {
       names_apart = r.names_apart;
@@ -110,12 +110,11 @@ module _ (s : Setup) (w : Words) (n : ℕ) (v : Views) (g : Ghost) (r : Rule s w
         past = update_cases (λ _ u. (q : ℕ) → u.pin ≡ q + 1 → q ≤ w.round) v.read n (new_read notes) (λ q e. absurd (omega arith)) (λ j _. r.pins.past j);
         few = λ j l. update_other v.kind n j kind (λ (e : j ≡ n). omega arith) ∙ r.pins.few j (omega arith);
         readers = λ j o. dite (ℕ_discrete j n) (λ e. let u = update_at v.read n j (new_read notes) e in (ap (λ (x : Read). x.pin) u, ap (λ (x : Read). x.ready) u))
-            (λ f. subst (λ (x : Read). (x.pin ≡ 0) × (x.ready ≡ 0)) (sym (update_other v.read n j (new_read notes) f)) (r.pins.readers j (λ k. o (update_other v.kind n j kind f ∙ k))));
+            (λ f. subst (λ (x : Read). (x.pin ≡ 0) × (x.ready ≡ false)) (sym (update_other v.read n j (new_read notes) f)) (r.pins.readers j (λ k. o (update_other v.kind n j kind f ∙ k))));
         spent = λ j e. dite (ℕ_discrete j n) (λ f. let z = update_at v.kind n j kind f in absurd (⊎_elim (λ t. let y = t.0 in cc) (λ t. let y = t.0 in cc) which))
             (λ f. update_other v.read n j (new_read notes) f ∙ r.pins.spent j (sym (update_other v.kind n j kind f) ∙ e));
-        bit = update_cases (λ _ u. u.ready ≤ 1) v.read n (new_read notes) (omega arith) (λ j _. r.pins.bit j);
         most = r.pins.most;
-        bound = let a = sum (λ (u : Read). u.ready) refl in let b = r.pins.bound in omega arith;
+        bound = let a = sum (λ (u : Read). digit u.ready) refl in let b = r.pins.bound in omega arith;
       };
       works = λ j. dite (ℕ_discrete j n)
           (λ e. subst (λ (u : Work). WorkRule s w.round v.ruling.phase w.name w.born w.died g.life (g.who (w.round + 1)) (kind' j) j u) (sym (update_at v.work n j (new_work number) e))
@@ -168,8 +167,8 @@ module _ (s : Setup) (w : Words) (n : ℕ) (v : Views) (g : Ghost) (r : Rule s w
             (λ a. let t = r.crew.alone j one kj zero_ in ((λ i b. dite (ℕ_discrete i n) (λ f. let c = sym (update_at v.kind n i kind f) ∙ b in absurd (⊎_elim (λ d. cc) (λ d. cc) a.0)) (λ f. t.0 i (sym (update_other v.kind n i kind f) ∙ b))), t.1))
             (⊎_elim (λ a. absurd (no_other a.1 j kj)) (λ a. absurd (r.crew.none j one a.1 kj zero_))) may);
         none = λ j one l k z. dite (ℕ_discrete j n)
-            (λ e. let zero_ = sym (ap (λ (u : Work). u.number) (update_at v.work n j (new_work number) e)) ∙ z in let kj = sym (update_at v.kind n j kind e) ∙ k in ⊎_elim (λ a. ⊎_elim (λ b. cc) (λ b. cc) a.0) (⊎_elim (λ a. let c = a.3 in omega arith) (λ a. let c = a.0 in omega arith)) may)
-            (λ o. let kj = sym (update_other v.kind n j kind o) ∙ k in let zero_ = sym (ap (λ (u : Work). u.number) (update_other v.work n j (new_work number) o)) ∙ z in ⊎_elim (λ a. r.crew.none j one (sym a.1 ∙ l) kj zero_) (⊎_elim (λ a. let c = a.3 in omega arith) (λ a. r.crew.none j one a.1 kj zero_)) may);
+            (λ e. let zero_ = sym (ap (λ (u : Work). u.number) (update_at v.work n j (new_work number) e)) ∙ z in let kj = sym (update_at v.kind n j kind e) ∙ k in ⊎_elim (λ a. ⊎_elim (λ b. cc) (λ b. cc) a.0) (⊎_elim (λ a. let c = a.3 in cc) (λ a. let c = a.0 in omega arith)) may)
+            (λ o. let kj = sym (update_other v.kind n j kind o) ∙ k in let zero_ = sym (ap (λ (u : Work). u.number) (update_other v.work n j (new_work number) o)) ∙ z in ⊎_elim (λ a. r.crew.none j one (sym a.1 ∙ l) kj zero_) (⊎_elim (λ a. let c = a.3 in cc) (λ a. r.crew.none j one a.1 kj zero_)) may);
       };
       inside = r.inside;
       named = r.named;

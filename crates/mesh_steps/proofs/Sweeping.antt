@@ -73,7 +73,7 @@ module _ (s : Setup) (w : Words) (n : ℕ) (v : Views) (g : Ghost) (r : Rule s w
   }
 
   -- what a sweep is to show: the rest of the rule reads nothing that it changes
-  pub sweeps_to : Quiet → (cursor free : ℕ) (row claimed : ℕ → ℕ) (head hist : ℕ → Node) (born died : ℕ → ℕ) (life : ℕ → Life) (stage : ℕ → Stage) (cs : ℕ → List Claim) (us : ℕ → Sure) (hand : List ℕ) (cursor_is free_is low high : ℕ) (undone kept : List ℕ) (placed : List (ℕ × ℕ × ℕ)) (seen quiet : ℕ)
+  pub sweeps_to : Quiet → (cursor free : ℕ) (row claimed : ℕ → ℕ) (head hist : ℕ → Node) (born died : ℕ → ℕ) (life : ℕ → Life) (stage : ℕ → Stage) (cs : ℕ → List Claim) (us : ℕ → Sure) (hand : List ℕ) (cursor_is free_is low high : ℕ) (undone kept : List ℕ) (placed : List (ℕ × ℕ × ℕ)) (seen : ℕ) (quiet : Bool)
       → ClaimsRule s w.round cursor free v.ruling.phase row claimed head born life stage cs → ChainsRule s.elements w.round head hist born died life × Moves Can A s.elements w.round w.head w.hist head hist w.born w.died born died g.life life
       → ((b x m : ℕ) → life b ≡ Placed x m → (g.life b ≡ Placed x m) × (died b ≡ w.died b) × (0 < born b → 0 < w.born b)) → ((x j m : ℕ) (p : Progress) → stage x ≡ Held j m p → j ≡ 0) → OwnSure head hist born died w.name row (us 0)
       → ((b : ℕ) → HasEntry hand b → life b ≡ Free) → StockRule w.round cursor free g.pins (record v.ruling { hand = hand; cursor = cursor_is; free = free_is; low = low; high = high; undone = undone; kept = kept; placed = placed; seen = seen; quiet = quiet }) → NoteRule w.round w.taken life v.read (record v.ruling { hand = hand; cursor = cursor_is; free = free_is; low = low; high = high; undone = undone; kept = kept; placed = placed; seen = seen; quiet = quiet }) → InsideRule s free row life stage hand v.ruling.retired → LabelRule s w.name head hist life → ((j : ℕ) → ListedOnce (cs j)) → FreeRule s.pool cursor free row born life hand low high → KnownRule life stage placed → KeptRule w.round died life kept → ((b x m : ℕ) → g.life b ≡ Placed x m → w.died b ≡ d → (life b ≡ Placed x m) × (died b ≡ w.died b))
@@ -267,7 +267,7 @@ module _ (s : Setup) (w : Words) (n : ℕ) (v : Views) (g : Ghost) (r : Rule s w
 
     -- All blocks of a list become free at once, where the owner has swept the words of the places at which they stand: no word is written
     module _ (gone : ℕ → Bool) (hand undone kept : List ℕ) (placed : List (ℕ × ℕ × ℕ))
-        (clear : (c : ℕ) → gone c ≡ true → (HasEntry v.ruling.undone c × Clear v.ruling.finished × (v.ruling.quiet ≡ 1)) ⊎ ((e y m : ℕ) × Noted (v.sure 0).died c e × (0 < e) × (e ≤ v.ruling.finished) × Clear e × HasEntry v.ruling.placed (c, y, m) × ((t : Bool) (x : ℕ) → stands (Placed y m) t ≡ x + 1 → CleanPlace gone x)))
+        (clear : (c : ℕ) → gone c ≡ true → (HasEntry v.ruling.undone c × Clear v.ruling.finished × (v.ruling.quiet ≡ true)) ⊎ ((e y m : ℕ) × Noted (v.sure 0).died c e × (0 < e) × (e ≤ v.ruling.finished) × Clear e × HasEntry v.ruling.placed (c, y, m) × ((t : Bool) (x : ℕ) → stands (Placed y m) t ≡ x + 1 → CleanPlace gone x)))
         (hands : (c : ℕ) → (HasEntry hand c → HasEntry v.ruling.hand c ⊎ (gone c ≡ true)) × (HasEntry v.ruling.hand c ⊎ (gone c ≡ true) → HasEntry hand c))
         (rests : (c : ℕ) → (HasEntry undone c → HasEntry v.ruling.undone c × (gone c ≡ false)) × (HasEntry v.ruling.undone c → HasEntry undone c ⊎ (gone c ≡ true)))
         (keeps : (c : ℕ) → (HasEntry kept c → HasEntry v.ruling.kept c × (gone c ≡ false)) × (HasEntry v.ruling.kept c → HasEntry kept c ⊎ (gone c ≡ true)))
@@ -307,7 +307,7 @@ module _ (s : Setup) (w : Words) (n : ℕ) (v : Views) (g : Ghost) (r : Rule s w
           at_places (Undone y m) false x h = (y, m, inr refl, h)
 
       -- no reader of a round up to the last has gone to a block that was taken back, nor a worker to any
-      unvisited : (c q : ℕ) → HasEntry v.ruling.undone c → Clear v.ruling.finished → v.ruling.quiet ≡ 1 → A q c → ⊥
+      unvisited : (c q : ℕ) → HasEntry v.ruling.undone c → Clear v.ruling.finished → v.ruling.quiet ≡ true → A q c → ⊥
       unvisited c q h f note a = ⊎_elim
           (λ b. let l = r.pins.past b.0 q b.1 in let e = r.stock.finished in elim (dec_lt q w.round) [ yes k ↦ cleared v.ruling.finished (omega arith) f q (omega arith) b.0 b.1 | no o ↦ r.note.quiet note b.0 c (let e : q ≡ w.round = omega arith in b.1 ∙ ap (λ (i : ℕ). i + 1) e) b.2 h ])
           (λ b. not_work quiet b.0 b.1) a.0

@@ -216,7 +216,7 @@ module _ (s : Setup) (w : Words) (n : ℕ) (v : Views) (g : Ghost) (r : Rule s w
 
     -- the first member's head gets back what it had, and the claim ends
     pub unlinks_first : v.ruling.phase ≡ RollingBack → (x m b : ℕ) (l : Node) (p : Progress) → HasEntry (v.claims 0) (claim x m p) → (p ≡ Half b) ⊎ ((p ≡ Whole b) × (m ≡ 0)) → Noted (v.sure 0).hist (member_of b false) l
-        → Rule s (record w { head = update w.head x l; claimed = update w.claimed x 0 }) n (record v { claims = update v.claims 0 (ended (v.claims 0) x); sure = update v.sure 0 (record (v.sure 0) { head = (x, l) ∷ (v.sure 0).head }); ruling = record v.ruling { undone = b ∷ v.ruling.undone; placed = (b, x, m) ∷ v.ruling.placed; seen = 0; quiet = 0 } }) (record g { stage = update g.stage x Open; life = update g.life b (Undone x m) })
+        → Rule s (record w { head = update w.head x l; claimed = update w.claimed x 0 }) n (record v { claims = update v.claims 0 (ended (v.claims 0) x); sure = update v.sure 0 (record (v.sure 0) { head = (x, l) ∷ (v.sure 0).head }); ruling = record v.ruling { undone = b ∷ v.ruling.undone; placed = (b, x, m) ∷ v.ruling.placed; seen = 0; quiet = false } }) (record g { stage = update g.stage x Open; life = update g.life b (Undone x m) })
     unlinks_first four x m b l p mine how f = let is = r.claims.held 0 x m p mine in let up : uses p ≡ b + 1 = ⊎_elim (λ e. ap uses e) (λ e. ap uses e.0) how in
         let sh : (g.life b ≡ Placed x m) × (w.born b ≡ 0) × (w.head x ≡ node (b + 1) 0) × ((y : ℕ) → m ≡ y + 1 → (w.head y).block ≡ b + 1 → ⊥) =
         ⊎_elim (λ e. subst (Shape w.round w.head w.born g.life x m) e (r.claims.shape x 0 m p is)) (λ e. let t = subst (Shape w.round w.head w.born g.life x m) e.0 (r.claims.shape x 0 m p is) in let z = e.1 in (t.0, t.1, t.2, λ y h. absurd (omega arith))) how in
@@ -224,7 +224,7 @@ module _ (s : Setup) (w : Words) (n : ℕ) (v : Views) (g : Ghost) (r : Rule s w
         let left : (c y k : ℕ) → life' c ≡ Placed y k → (c ≢ b) × (g.life c ≡ Placed y k) = λ c y k u. dite (ℕ_discrete c b) (λ e. absurd (undone_not x m y k (sym (update_at g.life b c (Undone x m) e) ∙ u))) (λ o. (o, sym (off c o) ∙ u)) in
         let mv = undoes Can_ A_ s.elements w.round w.head w.hist w.born w.died g.life r.chains b x m sh.0 sh.1 (ap (λ (i : Node). i.block) sh.2)
         (λ z ne live e. let t = named Can_ A_ s.elements w.round w.head w.hist w.born w.died g.life r.chains z b (w.head z) (r.chains.heads z live) e in ⊎_elim (λ q. ne q) (λ q. sh.3 z q e) (chained_of (g.life b) t.0 x m z sh.0 t.1)) in
-        sweeps_to s w n v g r quiet w.cursor w.free w.row (update w.claimed x 0) (update w.head x l) w.hist w.born w.died life' _ (update v.claims 0 (ended (v.claims 0) x)) (update v.sure 0 (record (v.sure 0) { head = (x, l) ∷ (v.sure 0).head })) v.ruling.hand v.ruling.cursor v.ruling.free v.ruling.low v.ruling.high (b ∷ v.ruling.undone) v.ruling.kept ((b, x, m) ∷ v.ruling.placed) 0 0
+        sweeps_to s w n v g r quiet w.cursor w.free w.row (update w.claimed x 0) (update w.head x l) w.hist w.born w.died life' _ (update v.claims 0 (ended (v.claims 0) x)) (update v.sure 0 (record (v.sure 0) { head = (x, l) ∷ (v.sure 0).head })) v.ruling.hand v.ruling.cursor v.ruling.free v.ruling.low v.ruling.high (b ∷ v.ruling.undone) v.ruling.kept ((b, x, m) ∷ v.ruling.placed) 0 false
         (held.ends s w.round w.cursor w.free v.ruling.phase w.row w.claimed w.head w.born g.life g.stage v.claims r.claims x 0 m p p is (λ t. absurd (omega (arith, ap order four))) (update w.head x l) w.born life'
         (λ z i k q h ne t. let a = apart_heads x z 0 i m k p q is h ne x (inl refl) in shape_on w.round w.head w.born g.life z k (update w.head x l) w.born life' q (λ c u. (off c (λ (e : c ≡ b). ne (one z x 0 m b i k q p h is (u ∙ ap (λ (y : ℕ). y + 1) e) up)), refl)) (update_other w.head x z l ne) (λ c e. update_other w.head x c l (a.1 c e)) t)
         (λ c y k u e i. let t = left c y k u in (t.1, e, λ h. t.0 (one_more c b (sym (ap uses h) ∙ up))))
@@ -234,7 +234,7 @@ module _ (s : Setup) (w : Words) (n : ℕ) (v : Views) (g : Ghost) (r : Rule s w
         (λ c y k u. ((left c y k u).1, refl, λ p. p)) (λ z j k q h. back_own z j k q (dite (ℕ_discrete z x) (λ e. absurd (not_open j k q (sym h ∙ update_at g.stage x z Open e))) (λ o. sym (update_other g.stage x z Open o) ∙ h))) (add_head x l)
         (λ c h. let t = r.hand c h in off c (λ (e : c ≡ b). free_not x m (sym t ∙ ap g.life e ∙ sh.0)) ∙ t)
         (let k = r.stock in record { finished = k.finished; cursor_is = k.cursor_is; free_is = k.free_is; left = k.left })
-        record { undone = λ c h. ⊎_elim (λ e. (x, m, update_at g.life b c (Undone x m) e)) (λ t. let q = r.note.undone c t in (q.0, q.1, off c (λ (f : c ≡ b). undone_not q.0 q.1 x m (sym q.2 ∙ ap g.life f ∙ sh.0)) ∙ q.2)) h; all = λ c y k h. dite (ℕ_discrete c b) (λ f. inl f) (λ o. inr (r.note.all c y k (sym (off c o) ∙ h))); placed = λ c y k h. ⊎_elim (λ q. inr (subst (λ (i : ℕ × ℕ × ℕ). life' i.0 ≡ Undone i.1 i.2) (sym q) (update_same g.life b (Undone x m)))) (λ h. dite (ℕ_discrete c b) (λ f. inr (update_at g.life b c (Undone x m) f ∙ same_places c y k f (r.note.placed c y k h))) (λ o. ⊎_elim (λ e. inl (off c o ∙ e)) (λ e. inr (off c o ∙ e)) (r.note.placed c y k h))) h; seen = λ i e. absurd (omega arith); quiet = λ e. absurd (omega arith) }
+        record { undone = λ c h. ⊎_elim (λ e. (x, m, update_at g.life b c (Undone x m) e)) (λ t. let q = r.note.undone c t in (q.0, q.1, off c (λ (f : c ≡ b). undone_not q.0 q.1 x m (sym q.2 ∙ ap g.life f ∙ sh.0)) ∙ q.2)) h; all = λ c y k h. dite (ℕ_discrete c b) (λ f. inl f) (λ o. inr (r.note.all c y k (sym (off c o) ∙ h))); placed = λ c y k h. ⊎_elim (λ q. inr (subst (λ (i : ℕ × ℕ × ℕ). life' i.0 ≡ Undone i.1 i.2) (sym q) (update_same g.life b (Undone x m)))) (λ h. dite (ℕ_discrete c b) (λ f. inr (update_at g.life b c (Undone x m) f ∙ same_places c y k f (r.note.placed c y k h))) (λ o. ⊎_elim (λ e. inl (off c o ∙ e)) (λ e. inr (off c o ∙ e)) (r.note.placed c y k h))) h; seen = λ i e. absurd (omega arith); quiet = λ e. absurd (cc) }
         (inside_life s w.free w.row g.life life' (update g.stage x Open) v.ruling.hand v.ruling.retired (inside_block s g.life b (Undone x m) (below_pool s w.free w.row g.life g.stage v.ruling.hand v.ruling.retired r.inside b (λ e. free_not x m (sym e ∙ sh.0))) r.inside.blocks) (λ c t y st. r.inside.stand_in c t y (stayed c t y st)) (inside_ends s w.free w.row g.life g.stage v.ruling.hand v.ruling.retired x r.inside))
         (labels_on s w.name w.name (update w.head x l) (update w.head x l) w.hist w.hist g.life life' (λ c t y st. (stays c t y st, refl)) stayed (λ c t y ch. let p = placed (life' c) t y ch in let q = left c p.0 p.1 p.2 in ap (λ (i : Life). chained i t) (sym (off c q.0)) ∙ ch) (λ _ _. refl) (λ _ _ _ _. refl) (λ c y k u. dite (ℕ_discrete c b) (λ e. let t = undone_one x m y k (sym (update_at g.life b c (Undone x m) e) ∙ u) in subst (λ (i : ℕ × ℕ). IsPatch s w.name i.0 i.1) (λ z. (sym e z, t.1 z)) (r.names.patch b x m sh.0)) (λ o. r.named.patch c y k (sym (off c o) ∙ u))) (labels_skip s w.name w.head w.hist g.life x b false l (ap (λ (i : Node). i.block) sh.2) (ap (λ (i : Life). chained i false) sh.0) hh r.named)) (once_update v.claims (ended (v.claims 0) x) (once_ended (v.claims 0) x (r.once 0)) r.once)
         (frees_on s.pool w.cursor w.free w.row w.born w.born g.life life' v.ruling.hand v.ruling.low v.ruling.high (λ c e. sym (off c (λ (f : c ≡ b). free_undone x m (sym e ∙ update_at g.life b c (Undone x m) f))) ∙ e) (λ c e. (off c (λ (f : c ≡ b). free_not x m (sym e ∙ ap g.life f ∙ sh.0)) ∙ e, λ z. z)) r.frees)

@@ -43,23 +43,23 @@ ReadersGoOn = Always (λ s w n v g. (j q x k : ℕ) → v.kind j ≡ Reader → 
 
 -- the law that a reader's pass can see the round, be ready where fewer pins than the limit are taken, then pin the round that ROUND shows, and give its pin back
 abbrev pub PinsGoOn : Type 0
-PinsGoOn = Always (λ s w n v g. (j : ℕ) → v.kind j ≡ Reader → (w.taken < s.limit → Onward s w n v (λ b. ((b.views.read j).ready ≡ 1) × ((b.views.read j).seen ≡ w.round)))
-    × ((v.read j).pin ≡ 0 → (v.read j).ready ≡ 1 → Onward s w n v (λ b. ((b.views.read j).pin ≡ w.round + 1) × ((b.views.read j).seen ≡ w.round)))
+PinsGoOn = Always (λ s w n v g. (j : ℕ) → v.kind j ≡ Reader → (w.taken < s.limit → Onward s w n v (λ b. ((b.views.read j).ready ≡ true) × ((b.views.read j).seen ≡ w.round)))
+    × ((v.read j).pin ≡ 0 → (v.read j).ready ≡ true → Onward s w n v (λ b. ((b.views.read j).pin ≡ w.round + 1) × ((b.views.read j).seen ≡ w.round)))
     × ((q : ℕ) → (v.read j).pin ≡ q + 1 → Onward s w n v (λ b. ((b.views.read j).pin ≡ 0) × (b.words.released q ≡ w.released q + 1))))
 
 -- the law that a load of ROUND makes a pass ready only where it shows fewer pins than the limit
 abbrev pub ReadyBelow : Type 0
-ReadyBelow = (s : Setup) (w : Words) (n : ℕ) (v : Views) (b : State) (j : ℕ) → LoadRound s w n v b → (b.views.read j).ready ≡ 1 → ((v.read j).ready ≡ 1) ⊎ (w.taken < s.limit)
+ReadyBelow = (s : Setup) (w : Words) (n : ℕ) (v : Views) (b : State) (j : ℕ) → LoadRound s w n v b → (b.views.read j).ready ≡ true → ((v.read j).ready ≡ true) ⊎ (w.taken < s.limit)
 
 -- the law of the limit of a table over a mesh: a reader's pass can be ready where fewer than 1048576 pins are taken, and pins fit the lower half of ROUND
 abbrev pub PinsFit : Type 0
 PinsFit = (mesh : Shape) (across : Across) (l : Layout) (passes : ℕ) (w : Words) (n : ℕ) (v : Views) → Lawful (setup_of mesh across l passes) w n v →
-    ((j : ℕ) → v.kind j ≡ Reader → w.taken < 1048576 → Onward (setup_of mesh across l passes) w n v (λ b. (b.views.read j).ready ≡ 1)) × (passes < 2 ^ 31 → w.taken < 2 ^ 32)
+    ((j : ℕ) → v.kind j ≡ Reader → w.taken < 1048576 → Onward (setup_of mesh across l passes) w n v (λ b. (b.views.read j).ready ≡ true)) × (passes < 2 ^ 31 → w.taken < 2 ^ 32)
 
 -- the law that passes are made: a reader's beside as many as the table is for, and a worker's in both halves beside any others but worker 0's in the first half; worker 0's there where no other is out and each claim has its living block
 abbrev pub PassesMade : Type 0
 PassesMade = Always (λ s w n v g. (v.ruling.readers ≤ s.passes → Onward s w n v (λ b. (b.views.kind n ≡ Reader) × ((b.views.read n).told ≡ v.ruling.history) × ((b.views.read n).seen ≡ w.round)))
-    × ((number : ℕ) → (v.ruling.phase ≡ SecondHalf) ⊎ ((v.ruling.phase ≡ FirstHalf) × (((0 < number) × (v.ruling.lone ≡ 0)) ⊎ ((number ≡ 0) × (v.ruling.workers ≡ 0) × ((x m : ℕ) (p : Progress) → HasEntry (v.claims 0) (claim x m p) → (c : ℕ) × (p ≡ Living c)))))
+    × ((number : ℕ) → (v.ruling.phase ≡ SecondHalf) ⊎ ((v.ruling.phase ≡ FirstHalf) × (((0 < number) × (v.ruling.lone ≡ false)) ⊎ ((number ≡ 0) × (v.ruling.workers ≡ 0) × ((x m : ℕ) (p : Progress) → HasEntry (v.claims 0) (claim x m p) → (c : ℕ) × (p ≡ Living c)))))
     → Onward s w n v (λ b. (b.views.kind n ≡ Worker) × ((b.views.work n).number ≡ number) × ((b.views.work n).plan ≡ v.ruling.plan) × ((b.views.read n).told ≡ v.ruling.history))))
 
 -- the seat is of no kind, has read nothing and is sure of no word
@@ -69,7 +69,7 @@ IsSpent v j = (v.kind j ≡ Vacant) × (v.read j ≡ unread) × (v.sure j ≡ un
 -- the law that each worker's pass, and each reader's without a pin, can be joined: the owner has what it knew, and knows that no worker 0 is out; the seat has read nothing and is sure of no word
 abbrev pub PassesJoined : Type 0
 PassesJoined = Always (λ s w n v g. (j : ℕ) → (v.kind j ≡ Reader → (v.read j).pin ≡ 0 → Onward s w n v (λ b. IsSpent b.views j × ((k : Note) → HasEntry (v.read j).notes k → HasEntry (b.views.read 0).notes k)))
-    × (v.kind j ≡ Worker → Onward s w n v (λ b. IsSpent b.views j × (b.views.ruling.lone ≡ 0) × ((c : Claim) → HasEntry (v.claims j) c → HasEntry (b.views.claims 0) c)
+    × (v.kind j ≡ Worker → Onward s w n v (λ b. IsSpent b.views j × (b.views.ruling.lone ≡ false) × ((c : Claim) → HasEntry (v.claims j) c → HasEntry (b.views.claims 0) c)
     × ((k : ℕ) → (HasEntry (v.work j).known k → HasEntry (b.views.work 0).known k) × (HasEntry (v.work j).open_ k → HasEntry (b.views.work 0).open_ k) × (HasEntry (v.work j).retired k → HasEntry (b.views.work 0).retired k)))))
 
 -- the place has no claim of the owner's
@@ -83,7 +83,7 @@ ClaimsGoOn = Always (λ s w n v g. (j x m : ℕ) → v.kind j ≡ Worker → (Ha
 
 -- the law that a patch of one member is claimed, and its drawn and filled block linked whole by one link
 abbrev pub SinglesGoOn : Type 0
-SinglesGoOn = Always (λ s w n v g. (j x k : ℕ) → v.kind j ≡ Worker → (s.leads k ≡ 1) × (s.mate k ≡ 0) → HasEntry (v.work j).found (x, k) →
+SinglesGoOn = Always (λ s w n v g. (j x k : ℕ) → v.kind j ≡ Worker → (s.leads k ≡ true) × (s.mate k ≡ 0) → HasEntry (v.work j).found (x, k) →
     (w.claimed x ≡ 0 → HasEntry (v.work j).absent k → HasEntry v.ruling.plan.target k → Onward s w n v (λ b. HasEntry (b.views.claims j) (claim x 0 Claimed)))
     × ((c : ℕ) (l : Node) → HasEntry (v.claims j) (claim x 0 (Drawn c)) → Noted (v.sure j).died c 0 → Noted (v.sure j).name (member_of c false) k → Noted (v.sure j).name (member_of c true) 0 → ((t u : Bool) → Noted (v.sure j).head (child_place s.elements c t u) (node 0 0))
     → Noted (v.sure j).head x l → Noted (v.sure j).hist (member_of c false) l → Onward s w n v (λ b. HasEntry (b.views.claims j) (claim x 0 (Whole c)))))

@@ -25,7 +25,7 @@ FillsGoOn = Always (λ s w n v g. (j x m c : ℕ) → v.kind j ≡ Worker → (H
 -- the law of the second half: a pass finds the block of a patch, and that a name is not bisected, where its block is retired or the LINK of its place names none or a retired one; and it retires a patch of the retire list where no child of it is bisected, or finds it retired, and knows its members as not bisected
 abbrev pub RetiringGoesOn : Type 0
 RetiringGoesOn = Always (λ s w n v g. (j c k : ℕ) → v.kind j ≡ Worker → v.ruling.phase ≡ SecondHalf →
-    (HasEntry (v.work j).had (c, k) → (s.leads k ≡ 1 → Onward s w n v (λ b. HasEntry (b.views.work j).given (c, k))) × (0 < w.died c → Onward s w n v (λ b. HasEntry (b.views.work j).open_ k)))
+    (HasEntry (v.work j).had (c, k) → (s.leads k ≡ true → Onward s w n v (λ b. HasEntry (b.views.work j).given (c, k))) × (0 < w.died c → Onward s w n v (λ b. HasEntry (b.views.work j).open_ k)))
     × ((x : ℕ) → HasEntry (v.work j).stood (x, k) → ((w.head x).block ≡ 0) ⊎ (0 < (w.head x).died) → Onward s w n v (λ b. HasEntry (b.views.work j).open_ k))
     × (HasEntry (v.work j).given (c, k) → (0 < w.died c → Onward s w n v (λ b. (i : ℕ) → IsMember s k i → HasEntry (b.views.work j).open_ i))
     × (w.died c ≡ 0 → HasEntry v.ruling.plan.retire k → ((i : ℕ) (u : Bool) → IsMember s k i → HasEntry (v.work j).open_ (s.child i u)) → Onward s w n v (λ b. (b.words.died c ≡ w.round + 1) × HasEntry (b.views.work j).retired c × ((i : ℕ) → IsMember s k i → HasEntry (b.views.work j).open_ i)))))
@@ -48,7 +48,7 @@ RoundsGoOn = Always (λ s w n v g. ((p : Plan) (names : List ℕ) → v.ruling.p
 -- the law of what the owner can note: that a round is clear, that the last one is quiet, the places of a living block, and that the last row of the stock names a free block
 abbrev pub NotesGoOn : Type 0
 NotesGoOn = Always (λ s w n v g. ((q k : ℕ) → HasEntry v.ruling.left (q, k) → w.released q ≡ k → Onward s w n v (λ b. HasEntry b.views.ruling.clear q))
-    × Onward s w n v (λ b. b.views.ruling.seen ≡ w.released w.round + 1) × (v.ruling.seen ≡ w.taken + 1 → Onward s w n v (λ b. b.views.ruling.quiet ≡ 1))
+    × Onward s w n v (λ b. b.views.ruling.seen ≡ w.released w.round + 1) × (v.ruling.seen ≡ w.taken + 1 → Onward s w n v (λ b. b.views.ruling.quiet ≡ true))
     × ((c x m : ℕ) → HasEntry (v.claims 0) (claim x m (Living c)) → Onward s w n v (λ b. HasEntry b.views.ruling.placed (c, x, m)))
     × ((i a : ℕ) → v.ruling.workers ≡ 0 → v.ruling.low ≤ i → v.ruling.high ≡ i + 1 → Noted (v.sure 0).row i a → Onward s w n v (λ b. HasEntry b.views.ruling.hand a)))
 

@@ -1,5 +1,5 @@
 -- The owner's loads and notes, the passes that it makes and ends, and the phases of a round.
-use Rattle.std.specs.Prelude.{◌≡◌, ℕ, ◌+◌, ◌<◌, ◌≤◌, ◌==◌, cond, List, [], ◌∷◌, ◌++◌, ◌⊎◌}
+use Rattle.std.specs.Prelude.{◌≡◌, ℕ, ◌+◌, ◌<◌, ◌≤◌, ◌==◌, cond, List, [], ◌∷◌, ◌++◌, ◌⊎◌, true, false, Bool}
 use Rattle.mesh_words.specs.Claims.{Progress, Living, claim}
 use Rattle.mesh_words.specs.Entries.{HasEntry, EntryAt, Noted}
 use Rattle.mesh_words.specs.Functions.{update}
@@ -30,7 +30,7 @@ abbrev pub LoadReleased : StepKind
 LoadReleased s w n v after = after ≡ state w n (record v { ruling = record v.ruling { seen = w.released v.ruling.finished + 1 } })
 
 abbrev pub NoteQuiet : StepKind
-NoteQuiet s w n v after = (v.ruling.seen ≡ w.taken + 1) × (after ≡ state w n (record v { ruling = record v.ruling { quiet = 1 } }))
+NoteQuiet s w n v after = (v.ruling.seen ≡ w.taken + 1) × (after ≡ state w n (record v { ruling = record v.ruling { quiet = true } }))
 
 -- the places of a published block are noted from the owner's claim
 abbrev pub NotePlaces : StepKind
@@ -39,7 +39,7 @@ NotePlaces s w n v after = (b x m : ℕ) × HasEntry (v.claims 0) (claim x m (Li
 -- Split: a pass is made, a worker's in one of the halves or a reader's, with what the owner tells it. In the first half a pass of worker 0 is made while no other worker's is out and each claim of the owner has its living block, and none is made while it is out. Where the pass is a worker's, the owner is no longer sure of any word
 abbrev pub SplitStep : StepKind
 SplitStep s w n v after = (kind : Kind) × (workers readers : ℕ) × (((kind ≡ Worker) × ((v.ruling.phase ≡ FirstHalf) ⊎ (v.ruling.phase ≡ SecondHalf)) × (workers ≡ v.ruling.workers + 1) × (readers ≡ v.ruling.readers)) ⊎ ((kind ≡ Reader) × (v.ruling.readers ≤ s.passes) × (workers ≡ v.ruling.workers) × (readers ≡ v.ruling.readers + 1)))
-    × (number lone : ℕ) × ((((kind ≡ Reader) ⊎ (v.ruling.phase ≡ SecondHalf)) × (lone ≡ v.ruling.lone)) ⊎ ((number ≡ 0) × (v.ruling.workers ≡ 0) × ((x m : ℕ) (p : Progress) → HasEntry (v.claims 0) (claim x m p) → (b : ℕ) × (p ≡ Living b)) × (lone ≡ 1)) ⊎ ((0 < number) × (v.ruling.lone ≡ 0) × (lone ≡ 0)))
+    × (number : ℕ) × (lone : Bool) × ((((kind ≡ Reader) ⊎ (v.ruling.phase ≡ SecondHalf)) × (lone ≡ v.ruling.lone)) ⊎ ((number ≡ 0) × (v.ruling.workers ≡ 0) × ((x m : ℕ) (p : Progress) → HasEntry (v.claims 0) (claim x m p) → (b : ℕ) × (p ≡ Living b)) × (lone ≡ true)) ⊎ ((0 < number) × (v.ruling.lone ≡ false) × (lone ≡ false)))
     × (notes : List Note) × ((k : Note) → HasEntry notes k → HasEntry (v.read 0).notes k)
     × (after ≡ state w (n + 1) (record v {
       kind = update v.kind n kind;
@@ -57,7 +57,7 @@ joined_work a b = record { half = Resting; round = 0; number = 0; plan = no_plan
 -- join of a worker's pass: the owner has its claims and what it knew, and is sure of no word; the seat has nothing left
 abbrev pub JoinWorker : StepKind
 JoinWorker s w n v after = (j : ℕ) × (j ≡ 0 → ⊥) × (v.kind j ≡ Worker) × (workers : ℕ) × (v.ruling.workers ≡ workers + 1)
-    × (after ≡ state w n (record v { kind = update v.kind j Vacant; claims = update (update v.claims 0 (v.claims 0 ++ v.claims j)) j []; work = update (update v.work 0 (joined_work (v.work 0) (v.work j))) j idle; sure = update (update v.sure 0 unsure) j unsure; read = update v.read j unread; ruling = record v.ruling { workers = workers; lone = 0 } }))
+    × (after ≡ state w n (record v { kind = update v.kind j Vacant; claims = update (update v.claims 0 (v.claims 0 ++ v.claims j)) j []; work = update (update v.work 0 (joined_work (v.work 0) (v.work j))) j idle; sure = update (update v.sure 0 unsure) j unsure; read = update v.read j unread; ruling = record v.ruling { workers = workers; lone = false } }))
 
 -- join of a reader's pass without a pin: the owner has its notes, and the seat has nothing left; the owner sees whether the pass was made before the last finished round was
 abbrev pub JoinReader : StepKind
@@ -95,4 +95,4 @@ IsStamped v x b = (l : Node) × Noted (v.sure 0).head x l × ((l.block ≡ b + 1
 abbrev pub AdvanceStep : StepKind
 AdvanceStep s w n v after = (forest : List ℕ) × ((i : ℕ) → HasEntry forest i → HasEntry v.ruling.plan.target i × (IsListed s v.ruling.plan.retire i → ⊥)) × ((i : ℕ) → HasEntry v.ruling.plan.target i → (IsListed s v.ruling.plan.retire i → ⊥) → HasEntry forest i) × (v.ruling.phase ≡ Closing) × (v.claims 0 ≡ [])
     × ((b : ℕ) → HasEntry ((v.work 0).retired ++ v.ruling.retired) b → (x : ℕ) × (m : ℕ) × HasEntry v.ruling.placed (b, x, m) × IsStamped v x b × ((y : ℕ) → m ≡ y + 1 → IsStamped v y b))
-    × (after ≡ state (record w { round = w.round + 1; taken = 0 }) n (record v { work = update v.work 0 idle; ruling = record v.ruling { phase = Resting; finished = v.ruling.finished + 1; early = v.ruling.readers; history = v.ruling.history ++ forest ∷ []; left = (w.round, w.taken) ∷ v.ruling.left; retired = []; kept = ((v.work 0).retired ++ v.ruling.retired) ++ v.ruling.kept; seen = 0; quiet = 0 } }))
+    × (after ≡ state (record w { round = w.round + 1; taken = 0 }) n (record v { work = update v.work 0 idle; ruling = record v.ruling { phase = Resting; finished = v.ruling.finished + 1; early = v.ruling.readers; history = v.ruling.history ++ forest ∷ []; left = (w.round, w.taken) ∷ v.ruling.left; retired = []; kept = ((v.work 0).retired ++ v.ruling.retired) ++ v.ruling.kept; seen = 0; quiet = false } }))

@@ -9,12 +9,12 @@ use Rattle.mesh_steps.specs.WalkSteps.{ReadNext}
 
 -- a load of ROUND: the pass is ready where it shows fewer pins than the limit
 abbrev pub LoadRound : StepKind
-LoadRound s w n v after = (j : ℕ) × (v.kind j ≡ Reader) × (ready : ℕ) × (((ready ≡ 1) × (w.taken < s.limit)) ⊎ (ready ≡ 0)) × (after ≡ state w n (record v { read = update v.read j (record (v.read j) { ready = ready; seen = w.round }) }))
+LoadRound s w n v after = (j : ℕ) × (v.kind j ≡ Reader) × (ready : Bool) × (((ready ≡ true) × (w.taken < s.limit)) ⊎ (ready ≡ false)) × (after ≡ state w n (record v { read = update v.read j (record (v.read j) { ready = ready; seen = w.round }) }))
 
 -- pin: one more is taken of the round that ROUND shows
 abbrev pub PinStep : StepKind
-PinStep s w n v after = (j : ℕ) × (v.kind j ≡ Reader) × ((v.read j).pin ≡ 0) × ((v.read j).ready ≡ 1)
-    × (after ≡ state (record w { taken = w.taken + 1 }) n (record v { read = update v.read j (record (v.read j) { pin = w.round + 1; ready = 0; went = []; walk = Still; places = []; seen = w.round }) }))
+PinStep s w n v after = (j : ℕ) × (v.kind j ≡ Reader) × ((v.read j).pin ≡ 0) × ((v.read j).ready ≡ true)
+    × (after ≡ state (record w { taken = w.taken + 1 }) n (record v { read = update v.read j (record (v.read j) { pin = w.round + 1; ready = false; went = []; walk = Still; places = []; seen = w.round }) }))
 
 -- unpin: it is given back in RELEASED of its round
 abbrev pub UnpinStep : StepKind

@@ -62,7 +62,7 @@ Leaves {A} of gone old new = (a : A) → (HasEntry new a → HasEntry old a × (
 -- Free: the blocks of a list become free. Each was taken back, and no pass has gone to it; or it was retired, its rounds are clear, and the words of the places where it stands were swept; no word changes
 abbrev pub FreeStep : StepKind
 FreeStep s w n v after = (v.ruling.phase ≡ Resting) × (gone : ℕ → Bool) × (hand undone kept : List ℕ) × (placed : List (ℕ × ℕ × ℕ))
-    × ((c : ℕ) → gone c ≡ true → (HasEntry v.ruling.undone c × IsClear v v.ruling.finished × (v.ruling.quiet ≡ 1))
+    × ((c : ℕ) → gone c ≡ true → (HasEntry v.ruling.undone c × IsClear v v.ruling.finished × (v.ruling.quiet ≡ true))
     ⊎ ((e y m : ℕ) × Noted (v.sure 0).died c e × (0 < e) × (e ≤ v.ruling.finished) × IsClear v e × HasEntry v.ruling.placed (c, y, m) × ((t : Bool) (x : ℕ) → stands (Placed y m) t ≡ x + 1 → CleanPlace v gone x)))
     × ((c : ℕ) → (HasEntry hand c → HasEntry v.ruling.hand c ⊎ (gone c ≡ true)) × (HasEntry v.ruling.hand c ⊎ (gone c ≡ true) → HasEntry hand c))
     × Leaves (λ c. c) gone v.ruling.undone undone × Leaves (λ c. c) gone v.ruling.kept kept × Leaves (λ (a : ℕ × ℕ × ℕ). a.0) gone v.ruling.placed placed
@@ -109,7 +109,7 @@ UnlinkSecond s w n v after = (v.ruling.phase ≡ RollingBack) × (x y b : ℕ) �
 -- and the first member's, with which the claim ends
 abbrev pub UnlinkFirst : StepKind
 UnlinkFirst s w n v after = (v.ruling.phase ≡ RollingBack) × (x m b : ℕ) × (l : Node) × (p : Progress) × HasEntry (v.claims 0) (claim x m p) × ((p ≡ Half b) ⊎ ((p ≡ Whole b) × (m ≡ 0))) × Noted (v.sure 0).hist (member_of b false) l
-    × (after ≡ state (record w { head = update w.head x l; claimed = update w.claimed x 0 }) n (record v { claims = update v.claims 0 (ended (v.claims 0) x); sure = update v.sure 0 (record (v.sure 0) { head = (x, l) ∷ (v.sure 0).head }); ruling = record v.ruling { undone = b ∷ v.ruling.undone; placed = (b, x, m) ∷ v.ruling.placed; seen = 0; quiet = 0 } }))
+    × (after ≡ state (record w { head = update w.head x l; claimed = update w.claimed x 0 }) n (record v { claims = update v.claims 0 (ended (v.claims 0) x); sure = update v.sure 0 (record (v.sure 0) { head = (x, l) ∷ (v.sure 0).head }); ruling = record v.ruling { undone = b ∷ v.ruling.undone; placed = (b, x, m) ∷ v.ruling.placed; seen = 0; quiet = false } }))
 
 -- then the block's DIED becomes the round
 abbrev pub BuryStep : StepKind

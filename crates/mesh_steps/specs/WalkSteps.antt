@@ -53,7 +53,7 @@ WorkPasses s w n v after = (j : ℕ) × (v.kind j ≡ Worker) × (x k b : ℕ) �
 
 -- in the second half: the block that the last finished round has for a first member is its patch's
 abbrev pub WorkGives : StepKind
-WorkGives s w n v after = (j : ℕ) × (v.kind j ≡ Worker) × ((v.work j).half ≡ SecondHalf) × (b k : ℕ) × (s.leads k ≡ 1) × HasEntry (v.work j).had (b, k)
+WorkGives s w n v after = (j : ℕ) × (v.kind j ≡ Worker) × ((v.work j).half ≡ SecondHalf) × (b k : ℕ) × (s.leads k ≡ true) × HasEntry (v.work j).had (b, k)
     × (after ≡ state w n (record v { work = update v.work j (record (v.work j) { given = (b, k) ∷ (v.work j).given }) }))
 
 -- its DIED is above 0, or the LINK of the name's place names nothing or has a retired round: the name is not bisected in the round in work

@@ -12,7 +12,7 @@ use Rattle.mesh_steps.specs.States.{StepKind, state}
 
 -- claim: the pass found the places of a patch of the target, and the last finished round has not one of its members, so neither; the claim bit was not set
 abbrev pub ClaimStep : StepKind
-ClaimStep s w n v after = (j x m k : ℕ) × (v.kind j ≡ Worker) × (w.claimed x ≡ 0) × (s.leads k ≡ 1) × (HasEntry (v.work j).absent k ⊎ ((i : ℕ) × (s.mate k ≡ i + 1) × HasEntry (v.work j).absent (i + 1)))
+ClaimStep s w n v after = (j x m k : ℕ) × (v.kind j ≡ Worker) × (w.claimed x ≡ 0) × (s.leads k ≡ true) × (HasEntry (v.work j).absent k ⊎ ((i : ℕ) × (s.mate k ≡ i + 1) × HasEntry (v.work j).absent (i + 1)))
     × HasEntry (v.work j).plan.target k × HasEntry (v.work j).found (x, k)
     × (((m ≡ 0) × (s.mate k ≡ 0)) ⊎ ((y : ℕ) × (i : ℕ) × (m ≡ y + 1) × (s.mate k ≡ i + 1) × HasEntry (v.work j).found (y, i + 1)))
     × (after ≡ state (record w { claimed = update w.claimed x 1 }) n (record v { claims = update v.claims j (claim x m Claimed ∷ v.claims j); sure = update v.sure j unsure }))
@@ -46,7 +46,7 @@ FillChild s w n v after = (j x m b : ℕ) × HasEntry (v.claims j) (claim x m (D
 
 -- link of the first member: the nine words are filled with the patch, DIED 0, empty links of the children, and the old contents of the members' LINK words; a patch of one member is linked whole
 abbrev pub LinkFirst : StepKind
-LinkFirst s w n v after = (j x m b k : ℕ) × HasEntry (v.claims j) (claim x m (Drawn b)) × (v.kind j ≡ Worker) × Noted (v.sure j).died b 0 × Noted (v.sure j).name (member_of b false) k × Noted (v.sure j).name (member_of b true) (s.mate k) × (s.leads k ≡ 1)
+LinkFirst s w n v after = (j x m b k : ℕ) × HasEntry (v.claims j) (claim x m (Drawn b)) × (v.kind j ≡ Worker) × Noted (v.sure j).died b 0 × Noted (v.sure j).name (member_of b false) k × Noted (v.sure j).name (member_of b true) (s.mate k) × (s.leads k ≡ true)
     × ((t c : Bool) → Noted (v.sure j).head (child_place s.elements b t c) (node 0 0)) × ((t : Bool) (y : ℕ) → stands (Placed x m) t ≡ y + 1 → (l : Node) × Noted (v.sure j).head y l × Noted (v.sure j).hist (member_of b t) l)
     × HasEntry (v.work j).found (x, k) × (((m ≡ 0) × (s.mate k ≡ 0)) ⊎ ((y : ℕ) × (i : ℕ) × (m ≡ y + 1) × (s.mate k ≡ i + 1) × HasEntry (v.work j).found (y, i + 1))) × (q : Progress) × ((q ≡ Half b) ⊎ ((q ≡ Whole b) × (m ≡ 0)))
     × (after ≡ state (record w { head = update w.head x (node (b + 1) 0) }) n (record v { claims = update v.claims j (moved_on (v.claims j) x q) }))

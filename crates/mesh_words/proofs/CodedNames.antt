@@ -146,11 +146,11 @@ module _ (mesh : Shape) where
             not : false ≡ true → ⊥
             not e = cc
 
-    leader_not : (n m k : ℕ) → mate n ≡ k + 1 → digit (owner_code mesh across m) ≡ 1 → m ≡ k + 1 → ⊥
+    leader_not : (n m k : ℕ) → mate n ≡ k + 1 → owner_code mesh across m ≡ true → m ≡ k + 1 → ⊥
     leader_not n m k e f g = by (owner_code mesh across m) refl
       where
         by : (t : Bool) → owner_code mesh across m ≡ t → ⊥
-        by false h = let z : ◌≡◌ {A = ℕ} 0 1 = sym (ap digit h) ∙ f in omega arith
+        by false h = let z : false ≡ true = sym h ∙ f in absurd (cc)
         by true h =
             let a = mate_is n k e in let b = both (is_code mesh m) (owns across (name_in (m - 1))) h in
             let p = partners_pair mesh across tells (name_in (n - 1)) a.2.0 a.2.1 (of_code n a.0).2 a.2.2 in
@@ -159,15 +159,15 @@ module _ (mesh : Shape) where
             (sym (ap (is_first (name_in (n - 1))) a.2.2) ∙ a.1)
             (sym (ap (is_first a.2.0) p.back.1) ∙ ap (owns across) (sym name) ∙ b.1)
 
-    none_leads : digit (owner_code mesh across 0) ≡ 1 → ⊥
-    none_leads e = let z : ◌≡◌ {A = ℕ} 0 1 = e in omega arith
+    none_leads : owner_code mesh across 0 ≡ true → ⊥
+    none_leads e = let z : false ≡ true = e in cc
 
 pub codes_apart : CodesApart
 codes_apart mesh across l passes tells = record {
   top_one = λ i j e. let t = code_one (i, []) (j, []) (omega arith) (omega arith) e in ap (λ (n : Name). n.0) t;
   child_one = one mesh;
   top_child = top_not mesh;
-  mates_lead = λ n k e. let a = mate_is mesh across tells n k e in ap digit (both_true (is_code mesh n) (owns across (name_in (n - 1))) a.0 a.1);
+  mates_lead = λ n k e. let a = mate_is mesh across tells n k e in both_true (is_code mesh n) (owns across (name_in (n - 1))) a.0 a.1;
   mate_one = mates mesh across tells;
   mate_leads = leader_not mesh across tells;
   leads_some = none_leads mesh across tells;

@@ -1,5 +1,5 @@
 -- Kinds of seat and phases: each is one of its cases, and the order of phases.
-use Rattle.std.proofs.Common.{◌≡◌, ℕ, ◌<◌, Bool, true, false, refl, ap, arith}
+use Rattle.std.proofs.Common.{◌≡◌, ℕ, ◌<◌, ◌≤◌, Bool, true, false, refl, ap, arith}
 use native.Mathlib.Decide.{ℕ_discrete}
 use Rattle.mesh_names.specs.Names.{digit}
 use Rattle.mesh_words.specs.Views.{Kind, Vacant, Worker, Reader, Owner, is_worker, is_reader, Phase, Resting, FirstHalf, SecondHalf, Closing, RollingBack, order, Precedes}
@@ -88,3 +88,11 @@ past_resting FirstHalf o = omega arith
 past_resting SecondHalf o = omega arith
 past_resting Closing o = omega arith
 past_resting RollingBack o = omega arith
+
+pub digit_low : (b : Bool) → digit b ≤ 1
+digit_low true = omega arith
+digit_low false = omega arith
+
+pub digit_zero : (b : Bool) → digit b ≡ 0 → b ≡ false
+digit_zero true e = absurd (omega arith)
+digit_zero false e = refl

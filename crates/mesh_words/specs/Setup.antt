@@ -1,5 +1,5 @@
 -- What the rule of a table knows: how large the table is, and how elements are named, by codes of names.
-use Rattle.std.specs.Prelude.{◌≡◌, ℕ, ◌+◌, ◌-◌, ◌*◌, Bool, cond, eqb, ltb, ◌&&◌, [], ◌∷◌, option_map}
+use Rattle.std.specs.Prelude.{◌≡◌, ℕ, ◌+◌, ◌-◌, ◌*◌, Bool, cond, eqb, ltb, ◌&&◌, [], ◌∷◌, option_map, true}
 use Rattle.mesh_names.specs.Names.{Name, digit}
 use Rattle.mesh_names.specs.Triangles.{Shape, size, level}
 use Rattle.mesh_names.specs.Partners.{Across, Tells, partner}
@@ -20,8 +20,8 @@ pub record Setup : Type 0 where
   pub child : ℕ → Bool → ℕ
   -- the second member of the patch that the name leads, or 0
   pub mate : ℕ → ℕ
-  -- 1 where the name leads its patch
-  pub leads : ℕ → ℕ
+  -- the name leads its patch
+  pub leads : ℕ → Bool
 
 -- how many places there are
 abbrev pub places : Setup → ℕ
@@ -32,10 +32,10 @@ pub record NamesApart (s : Setup) : Type 0 where
   pub top_one : (i j : ℕ) → s.top i ≡ s.top j → i ≡ j
   pub child_one : (n m : ℕ) (c d : Bool) → s.child n c ≡ s.child m d → (n ≡ m) × (c ≡ d)
   pub top_child : (i n : ℕ) (c : Bool) → s.top i ≡ s.child n c → ⊥
-  pub mates_lead : (n k : ℕ) → s.mate n ≡ k + 1 → s.leads n ≡ 1
+  pub mates_lead : (n k : ℕ) → s.mate n ≡ k + 1 → s.leads n ≡ true
   pub mate_one : (n m k : ℕ) → s.mate n ≡ k + 1 → s.mate m ≡ k + 1 → n ≡ m
-  pub mate_leads : (n m k : ℕ) → s.mate n ≡ k + 1 → s.leads m ≡ 1 → m ≡ k + 1 → ⊥
-  pub leads_some : s.leads 0 ≡ 1 → ⊥
+  pub mate_leads : (n m k : ℕ) → s.mate n ≡ k + 1 → s.leads m ≡ true → m ≡ k + 1 → ⊥
+  pub leads_some : s.leads 0 ≡ true → ⊥
 
 -- the number is the code of a name of the mesh that can be bisected: its level is below 24
 abbrev pub is_code : Shape → ℕ → Bool
@@ -64,7 +64,7 @@ setup_of mesh across l passes = record {
   top = λ i. name_code (i, []);
   child = child_code mesh;
   mate = λ k. cond (owner_code mesh across k) (partner_code across k) 0;
-  leads = λ k. digit (owner_code mesh across k);
+  leads = owner_code mesh across;
 }
 
 -- the law that the names of a mesh are apart

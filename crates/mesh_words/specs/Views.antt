@@ -114,8 +114,8 @@ pub record Note : Type 0 where
 pub record Read : Type 0 where
   -- one more than the pinned round, or 0
   pub pin : ℕ
-  -- 1 where the last step on ROUND was a load that showed fewer pins than the limit
-  pub ready : ℕ
+  -- the last step on ROUND was a load that showed fewer pins than the limit
+  pub ready : Bool
   -- the blocks to which it has gone since it took the pin
   pub went : List ℕ
   pub walk : Walk
@@ -132,7 +132,7 @@ pub record Read : Type 0 where
 
 -- a pass that has read nothing
 abbrev pub unread : Read
-unread = record { pin = 0; ready = 0; went = []; walk = Still; notes = []; places = []; told = []; seen = 0; made = 0; back = 0 }
+unread = record { pin = 0; ready = false; went = []; walk = Still; notes = []; places = []; told = []; seen = 0; made = 0; back = 0 }
 
 -- what the owner knows
 pub record Ruling : Type 0 where
@@ -148,8 +148,8 @@ pub record Ruling : Type 0 where
   pub readers : ℕ
   -- how many of the readers' passes were made before the last finished round was
   pub early : ℕ
-  -- 0 where no pass of worker 0 is out in the first half
-  pub lone : ℕ
+  -- a pass of worker 0 may be out in the first half
+  pub lone : Bool
   -- left rounds with the pins that were taken in them, and left rounds of which no pin is out
   pub left : List (ℕ × ℕ)
   pub clear : List ℕ
@@ -169,9 +169,9 @@ pub record Ruling : Type 0 where
   pub placed : List (ℕ × ℕ × ℕ)
   -- blocks that were taken back and are not free yet
   pub undone : List ℕ
-  -- one more than what was found in RELEASED of the last finished round, or 0; and 1 where no pass with a pin of that round has gone to one of those blocks
+  -- one more than what was found in RELEASED of the last finished round, or 0; and whether no pass with a pin of that round has gone to one of those blocks
   pub seen : ℕ
-  pub quiet : ℕ
+  pub quiet : Bool
 
 -- the views
 pub record Views : Type 0 where

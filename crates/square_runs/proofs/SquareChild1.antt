@@ -28,7 +28,7 @@ abbrev pub u40 : Views
 u40 = worker_made 2 1 u39
 
 pub s40 : Step pair_setup (state pair.opened 2 u39) (state pair.opened 3 u40)
-s40 = BySplitStep (Worker, 1, 0, inl (refl, inl refl, refl, refl), 1, 0, inr (inr (lt01, refl, refl)), [], (λ k h. absurd h), refl)
+s40 = BySplitStep (Worker, 1, 0, inl (refl, inl refl, refl, refl), 1, false, inr (inr (lt01, refl, refl)), [], (λ k h. absurd h), refl)
 
 abbrev pub u41 : Views
 u41 = goes_to 2 0 name0 0 false u40

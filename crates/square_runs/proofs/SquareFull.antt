@@ -1,5 +1,5 @@
 -- A run on the square in which the pool is full when the patch is claimed, and the round is refused.
-use Rattle.std.proofs.Common.{◌≡◌, ℕ, ◌+◌, ◌<◌, ◌≤◌, List, [], ◌∷◌, refl, subst, inl, inr, arith}
+use Rattle.std.proofs.Common.{◌≡◌, ℕ, ◌+◌, ◌<◌, ◌≤◌, List, [], ◌∷◌, refl, subst, inl, inr, arith, false}
 use Rattle.mesh_words.specs.Claims.{Progress, Claimed, Failed, Drawn, Half, Whole, Living}
 use Rattle.mesh_words.specs.Views.{Views, Worker, FirstHalf, SecondHalf, RollingBack}
 use Rattle.mesh_words.specs.Words.{node}
@@ -58,7 +58,7 @@ abbrev pub u61 : Views
 u61 = worker_made 4 1 u60
 
 s61 : Step square_setup (state finished2 4 u60) (state finished2 5 u61)
-s61 = BySplitStep (Worker, 1, 1, inl (refl, inl refl, refl, refl), 1, 0, inr (inr (lt01, refl, refl)), [], (λ k h. absurd h), refl)
+s61 = BySplitStep (Worker, 1, 1, inl (refl, inl refl, refl, refl), 1, false, inr (inr (lt01, refl, refl)), [], (λ k h. absurd h), refl)
 
 abbrev pub u62 : Views
 u62 = found_at 4 0 name0 u61

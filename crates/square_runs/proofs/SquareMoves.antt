@@ -21,7 +21,7 @@ abbrev pub closed : Views → Views
 closed v = record v { work = update v.work 0 idle; ruling = record v.ruling { phase = Closing; retired = (v.work 0).retired ++ v.ruling.retired } }
 
 abbrev pub advanced : List ℕ → ℕ → ℕ → Views → Views
-advanced forest q taken v = record v { work = update v.work 0 idle; ruling = record v.ruling { phase = Resting; finished = v.ruling.finished + 1; early = v.ruling.readers; history = v.ruling.history ++ forest ∷ []; left = (q, taken) ∷ v.ruling.left; retired = []; kept = ((v.work 0).retired ++ v.ruling.retired) ++ v.ruling.kept; seen = 0; quiet = 0 } }
+advanced forest q taken v = record v { work = update v.work 0 idle; ruling = record v.ruling { phase = Resting; finished = v.ruling.finished + 1; early = v.ruling.readers; history = v.ruling.history ++ forest ∷ []; left = (q, taken) ∷ v.ruling.left; retired = []; kept = ((v.work 0).retired ++ v.ruling.retired) ++ v.ruling.kept; seen = 0; quiet = false } }
 
 abbrev pub refused : Views → Views
 refused v = record v { work = update v.work 0 idle; ruling = record v.ruling { phase = RollingBack } }
@@ -31,13 +31,13 @@ restored v = record v { work = update v.work 0 idle; ruling = record v.ruling { 
 
 -- it makes the passes n and joins a worker's, after which so many are out
 abbrev pub worker_made : ℕ → ℕ → Views → Views
-worker_made n number v = record v { kind = update v.kind n Worker; claims = update v.claims n []; work = update v.work n (record idle { half = v.ruling.phase; round = v.ruling.finished + 1; number = number; plan = v.ruling.plan }); sure = update (update v.sure 0 unsure) n unsure; read = update v.read n (record (blank []) { told = v.ruling.history; seen = v.ruling.finished; made = v.ruling.finished }); ruling = record v.ruling { workers = v.ruling.workers + 1; lone = 0 } }
+worker_made n number v = record v { kind = update v.kind n Worker; claims = update v.claims n []; work = update v.work n (record idle { half = v.ruling.phase; round = v.ruling.finished + 1; number = number; plan = v.ruling.plan }); sure = update (update v.sure 0 unsure) n unsure; read = update v.read n (record (blank []) { told = v.ruling.history; seen = v.ruling.finished; made = v.ruling.finished }); ruling = record v.ruling { workers = v.ruling.workers + 1; lone = false } }
 
 abbrev pub reader_made : ℕ → Views → Views
 reader_made n v = record v { kind = update v.kind n Reader; claims = update v.claims n []; work = update v.work n (record idle { half = v.ruling.phase; round = v.ruling.finished + 1; number = 1; plan = v.ruling.plan }); sure = update (update v.sure 0 (v.sure 0)) n unsure; read = update v.read n (record (blank []) { told = v.ruling.history; seen = v.ruling.finished; made = v.ruling.finished }); ruling = record v.ruling { readers = v.ruling.readers + 1 } }
 
 abbrev pub joined : ℕ → ℕ → Views → Views
-joined j workers v = record v { kind = update v.kind j Vacant; claims = update (update v.claims 0 (v.claims 0 ++ v.claims j)) j []; work = update (update v.work 0 (joined_work (v.work 0) (v.work j))) j idle; sure = update (update v.sure 0 unsure) j unsure; read = update v.read j unread; ruling = record v.ruling { workers = workers; lone = 0 } }
+joined j workers v = record v { kind = update v.kind j Vacant; claims = update (update v.claims 0 (v.claims 0 ++ v.claims j)) j []; work = update (update v.work 0 (joined_work (v.work 0) (v.work j))) j idle; sure = update (update v.sure 0 unsure) j unsure; read = update v.read j unread; ruling = record v.ruling { workers = workers; lone = false } }
 
 -- and notes numbers, blocks and rounds
 abbrev pub cursor_seen : ℕ → Views → Views
@@ -136,11 +136,11 @@ abbrev pub opens_all : ℕ → List ℕ → Views → Views
 opens_all j names v = record v { work = update v.work j (record (v.work j) { open_ = names }) }
 
 -- a reader's: it sees the round q, pins it, and walks
-abbrev pub sees_round : ℕ → ℕ → ℕ → Views → Views
+abbrev pub sees_round : ℕ → Bool → ℕ → Views → Views
 sees_round j ready q v = record v { read = update v.read j (record (v.read j) { ready = ready; seen = q }) }
 
 abbrev pub pins_round : ℕ → ℕ → Views → Views
-pins_round j q v = record v { read = update v.read j (record (v.read j) { pin = q + 1; ready = 0; went = []; walk = Still; places = []; seen = q }) }
+pins_round j q v = record v { read = update v.read j (record (v.read j) { pin = q + 1; ready = false; went = []; walk = Still; places = []; seen = q }) }
 
 abbrev pub reads_to : ℕ → ℕ → ℕ → ℕ → Bool → Views → Views
 reads_to j x k b t v = record v { read = update v.read j (record (v.read j) { went = b ∷ (v.read j).went; walk = At x k b t }) }

@@ -25,10 +25,10 @@ s1 : Step square_setup (state (fresh_words 1) 1 u0) (state (fresh_words 1) 1 u1)
 s1 = ByBeginStep (first_plan, [], refl, first_aim, lt04, refl, refl, refl)
 
 abbrev pub u2 : Views
-u2 = record u1 { kind = update u1.kind 1 Worker; claims = update u1.claims 1 []; work = update u1.work 1 (record idle { half = u1.ruling.phase; round = u1.ruling.finished + 1; number = 0; plan = u1.ruling.plan }); sure = update (update u1.sure 0 unsure) 1 unsure; read = update u1.read 1 (record (blank []) { told = u1.ruling.history; seen = u1.ruling.finished; made = u1.ruling.finished }); ruling = record u1.ruling { workers = 1; readers = 0; lone = 1 } }
+u2 = record u1 { kind = update u1.kind 1 Worker; claims = update u1.claims 1 []; work = update u1.work 1 (record idle { half = u1.ruling.phase; round = u1.ruling.finished + 1; number = 0; plan = u1.ruling.plan }); sure = update (update u1.sure 0 unsure) 1 unsure; read = update u1.read 1 (record (blank []) { told = u1.ruling.history; seen = u1.ruling.finished; made = u1.ruling.finished }); ruling = record u1.ruling { workers = 1; readers = 0; lone = true } }
 
 s2 : Step square_setup (state (fresh_words 1) 1 u1) (state (fresh_words 1) 2 u2)
-s2 = BySplitStep (Worker, 1, 0, (inl (refl, inl refl, refl, refl)), 0, 1, (inr (inl (refl, refl, (λ x m p h. absurd h), refl))), [], (λ k h. absurd h), refl)
+s2 = BySplitStep (Worker, 1, 0, (inl (refl, inl refl, refl, refl)), 0, true, (inr (inl (refl, refl, (λ x m p h. absurd h), refl))), [], (λ k h. absurd h), refl)
 
 abbrev pub u3 : Views
 u3 = record u2 { work = update u2.work 1 (record (u2.work 1) { went = (u2.work 1).went; walk = (u2.work 1).walk; found = (0, square_setup.top 0) ∷ (u2.work 1).found; known = (u2.work 1).known; absent = (u2.work 1).absent; stood = (u2.work 1).stood; had = (u2.work 1).had }) }
@@ -151,7 +151,7 @@ s22 : Step square_setup (state linked1 2 u21) (state published 2 u22)
 s22 = ByPublishStep (1, 0, 2, 0, (inl refl), refl, (name0 ∷ []), (λ k h. ⊎_elim (λ e. inr (0, inl refl, inr (inl (ap (λ (i : ℕ). (0, i)) e)))) (λ f. absurd f) h), refl)
 
 abbrev pub u23 : Views
-u23 = record u22 { kind = update u22.kind 1 Vacant; claims = update (update u22.claims 0 (u22.claims 0 ++ u22.claims 1)) 1 []; work = update (update u22.work 0 record { half = Resting; round = 0; number = 0; plan = no_plan; drawn = (u22.work 0).drawn ++ (u22.work 1).drawn; found = (u22.work 0).found ++ (u22.work 1).found; known = (u22.work 0).known ++ (u22.work 1).known; open_ = (u22.work 0).open_ ++ (u22.work 1).open_; given = (u22.work 0).given ++ (u22.work 1).given; absent = (u22.work 0).absent ++ (u22.work 1).absent; stood = (u22.work 0).stood ++ (u22.work 1).stood; had = (u22.work 0).had ++ (u22.work 1).had; grown = (u22.work 0).grown ++ (u22.work 1).grown; retired = (u22.work 0).retired ++ (u22.work 1).retired; went = []; walk = Still }) 1 idle; sure = update (update u22.sure 0 unsure) 1 unsure; read = update u22.read 1 unread; ruling = record u22.ruling { workers = 0; lone = 0 } }
+u23 = record u22 { kind = update u22.kind 1 Vacant; claims = update (update u22.claims 0 (u22.claims 0 ++ u22.claims 1)) 1 []; work = update (update u22.work 0 record { half = Resting; round = 0; number = 0; plan = no_plan; drawn = (u22.work 0).drawn ++ (u22.work 1).drawn; found = (u22.work 0).found ++ (u22.work 1).found; known = (u22.work 0).known ++ (u22.work 1).known; open_ = (u22.work 0).open_ ++ (u22.work 1).open_; given = (u22.work 0).given ++ (u22.work 1).given; absent = (u22.work 0).absent ++ (u22.work 1).absent; stood = (u22.work 0).stood ++ (u22.work 1).stood; had = (u22.work 0).had ++ (u22.work 1).had; grown = (u22.work 0).grown ++ (u22.work 1).grown; retired = (u22.work 0).retired ++ (u22.work 1).retired; went = []; walk = Still }) 1 idle; sure = update (update u22.sure 0 unsure) 1 unsure; read = update u22.read 1 unread; ruling = record u22.ruling { workers = 0; lone = false } }
 
 s23 : Step square_setup (state published 2 u22) (state published 2 u23)
 s23 = ByJoinWorker (1, (en 1 0 lt01), refl, 0, refl, refl)
@@ -196,7 +196,7 @@ s28 : Step square_setup (state unpublished 2 u27) (state unlinked1 2 u28)
 s28 = ByUnlinkSecond k28
 
 abbrev pub u29 : Views
-u29 = record u28 { claims = update u28.claims 0 (ended (u28.claims 0) 0); sure = update u28.sure 0 (record (u28.sure 0) { head = (0, node 0 0) ∷ (u28.sure 0).head }); ruling = record u28.ruling { undone = 0 ∷ u28.ruling.undone; placed = (0, 0, 2) ∷ u28.ruling.placed; seen = 0; quiet = 0 } }
+u29 = record u28 { claims = update u28.claims 0 (ended (u28.claims 0) 0); sure = update u28.sure 0 (record (u28.sure 0) { head = (0, node 0 0) ∷ (u28.sure 0).head }); ruling = record u28.ruling { undone = 0 ∷ u28.ruling.undone; placed = (0, 0, 2) ∷ u28.ruling.placed; seen = 0; quiet = false } }
 
 pub k29 : UnlinkFirst square_setup unlinked1 2 u28 (state unlinked0 2 u29)
 k29 = (refl, 0, 2, 0, node 0 0, Half 0, inl refl, inl refl, inr (en 1 0 lt01, inl (refl, refl)), refl)
@@ -232,7 +232,7 @@ s32 : Step square_setup (state buried 2 u31) (state buried 2 u32)
 s32 = ByLoadReleased k32
 
 abbrev pub u33 : Views
-u33 = record u32 { ruling = record u32.ruling { quiet = 1 } }
+u33 = record u32 { ruling = record u32.ruling { quiet = true } }
 
 pub k33 : NoteQuiet square_setup buried 2 u32 (state buried 2 u33)
 k33 = (refl, refl)

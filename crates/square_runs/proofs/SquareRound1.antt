@@ -49,10 +49,10 @@ pub r1 : Rule square_setup (fresh_words 1) 1 v1 g1
 r1 = begins square_setup (fresh_words 1) 1 v0 g0 r0 first_plan [] refl first_aim lt04 refl refl
 
 abbrev pub v2 : Views
-v2 = record v1 { kind = update v1.kind 1 Worker; claims = update v1.claims 1 []; work = update v1.work 1 (record idle { half = v1.ruling.phase; round = v1.ruling.finished + 1; number = 1; plan = v1.ruling.plan }); sure = update (update v1.sure 0 unsure) 1 unsure; read = update v1.read 1 (record (blank []) { told = v1.ruling.history; seen = v1.ruling.finished; made = v1.ruling.finished }); ruling = record v1.ruling { workers = 1; readers = 0; lone = 0 } }
+v2 = record v1 { kind = update v1.kind 1 Worker; claims = update v1.claims 1 []; work = update v1.work 1 (record idle { half = v1.ruling.phase; round = v1.ruling.finished + 1; number = 1; plan = v1.ruling.plan }); sure = update (update v1.sure 0 unsure) 1 unsure; read = update v1.read 1 (record (blank []) { told = v1.ruling.history; seen = v1.ruling.finished; made = v1.ruling.finished }); ruling = record v1.ruling { workers = 1; readers = 0; lone = false } }
 
 pub r2 : Rule square_setup (fresh_words 1) 2 v2 g1
-r2 = splits square_setup (fresh_words 1) 1 v1 g1 r1 Worker 1 0 (inl (refl, inl refl, refl, refl)) 1 0 (inr (inr (lt01, refl, refl))) [] (λ k h. absurd h)
+r2 = splits square_setup (fresh_words 1) 1 v1 g1 r1 Worker 1 0 (inl (refl, inl refl, refl, refl)) 1 false (inr (inr (lt01, refl, refl))) [] (λ k h. absurd h)
 
 abbrev pub v3 : Views
 v3 = record v2 { work = update v2.work 1 (record (v2.work 1) { went = (v2.work 1).went; walk = (v2.work 1).walk; found = (0, square_setup.top 0) ∷ (v2.work 1).found; known = (v2.work 1).known; absent = (v2.work 1).absent; stood = (v2.work 1).stood; had = (v2.work 1).had }) }
@@ -190,7 +190,7 @@ pub r22 : Rule square_setup published 2 v22 g22
 r22 = publishes square_setup linked1 2 v21 g21 r21 1 0 2 0 (inl refl) refl (name0 ∷ []) (λ k h. ⊎_elim (λ e. inr (0, inl refl, inr (inl (ap (λ (i : ℕ). (0, i)) e)))) (λ f. absurd f) h)
 
 abbrev pub v23 : Views
-v23 = record v22 { kind = update v22.kind 1 Vacant; claims = update (update v22.claims 0 (v22.claims 0 ++ v22.claims 1)) 1 []; work = update (update v22.work 0 record { half = Resting; round = 0; number = 0; plan = no_plan; drawn = (v22.work 0).drawn ++ (v22.work 1).drawn; found = (v22.work 0).found ++ (v22.work 1).found; known = (v22.work 0).known ++ (v22.work 1).known; open_ = (v22.work 0).open_ ++ (v22.work 1).open_; given = (v22.work 0).given ++ (v22.work 1).given; absent = (v22.work 0).absent ++ (v22.work 1).absent; stood = (v22.work 0).stood ++ (v22.work 1).stood; had = (v22.work 0).had ++ (v22.work 1).had; grown = (v22.work 0).grown ++ (v22.work 1).grown; retired = (v22.work 0).retired ++ (v22.work 1).retired; went = []; walk = Still }) 1 idle; sure = update (update v22.sure 0 unsure) 1 unsure; read = update v22.read 1 unread; ruling = record v22.ruling { workers = 0; lone = 0 } }
+v23 = record v22 { kind = update v22.kind 1 Vacant; claims = update (update v22.claims 0 (v22.claims 0 ++ v22.claims 1)) 1 []; work = update (update v22.work 0 record { half = Resting; round = 0; number = 0; plan = no_plan; drawn = (v22.work 0).drawn ++ (v22.work 1).drawn; found = (v22.work 0).found ++ (v22.work 1).found; known = (v22.work 0).known ++ (v22.work 1).known; open_ = (v22.work 0).open_ ++ (v22.work 1).open_; given = (v22.work 0).given ++ (v22.work 1).given; absent = (v22.work 0).absent ++ (v22.work 1).absent; stood = (v22.work 0).stood ++ (v22.work 1).stood; had = (v22.work 0).had ++ (v22.work 1).had; grown = (v22.work 0).grown ++ (v22.work 1).grown; retired = (v22.work 0).retired ++ (v22.work 1).retired; went = []; walk = Still }) 1 idle; sure = update (update v22.sure 0 unsure) 1 unsure; read = update v22.read 1 unread; ruling = record v22.ruling { workers = 0; lone = false } }
 
 abbrev pub g23 : Ghost
 g23 = record g22 { stage = λ x. moved 1 (g22.stage x) }
@@ -232,7 +232,7 @@ pub r27 : Rule square_setup unclaimed 2 v27 g27
 r27 = unclaims square_setup published 2 v26 g25 r26 three not_less 0 2 (Living 0) (inl refl) only_zero not_living
 
 abbrev pub v28 : Views
-v28 = record v27 { work = update v27.work 0 idle; ruling = record v27.ruling { phase = Resting; finished = v27.ruling.finished + 1; early = v27.ruling.readers; history = v27.ruling.history ++ both ∷ []; left = (unclaimed.round, unclaimed.taken) ∷ v27.ruling.left; retired = []; kept = ((v27.work 0).retired ++ v27.ruling.retired) ++ v27.ruling.kept; seen = 0; quiet = 0 } }
+v28 = record v27 { work = update v27.work 0 idle; ruling = record v27.ruling { phase = Resting; finished = v27.ruling.finished + 1; early = v27.ruling.readers; history = v27.ruling.history ++ both ∷ []; left = (unclaimed.round, unclaimed.taken) ∷ v27.ruling.left; retired = []; kept = ((v27.work 0).retired ++ v27.ruling.retired) ++ v27.ruling.kept; seen = 0; quiet = false } }
 
 abbrev pub g28 : Ghost
 g28 = record g27 { who = update g27.who (unclaimed.round + 1 + 1) (g27.who (unclaimed.round + 1)) }

@@ -60,19 +60,19 @@ pub r34 : Rule square_setup rewound 2 v34 g28
 r34 = rewinds square_setup stopped 2 v33 g28 r33 refl refl
 
 abbrev pub v35 : Views
-v35 = record v34 { kind = update v34.kind 2 Reader; claims = update v34.claims 2 []; work = update v34.work 2 (record idle { half = v34.ruling.phase; round = v34.ruling.finished + 1; number = 1; plan = v34.ruling.plan }); sure = update (update v34.sure 0 (v34.sure 0)) 2 unsure; read = update v34.read 2 (record (blank []) { told = v34.ruling.history; seen = v34.ruling.finished; made = v34.ruling.finished }); ruling = record v34.ruling { workers = 0; readers = 1; lone = 0 } }
+v35 = record v34 { kind = update v34.kind 2 Reader; claims = update v34.claims 2 []; work = update v34.work 2 (record idle { half = v34.ruling.phase; round = v34.ruling.finished + 1; number = 1; plan = v34.ruling.plan }); sure = update (update v34.sure 0 (v34.sure 0)) 2 unsure; read = update v34.read 2 (record (blank []) { told = v34.ruling.history; seen = v34.ruling.finished; made = v34.ruling.finished }); ruling = record v34.ruling { workers = 0; readers = 1; lone = false } }
 
 pub r35 : Rule square_setup rewound 3 v35 g28
-r35 = splits square_setup rewound 2 v34 g28 r34 Reader 0 1 (inr (refl, le01, refl, refl)) 1 0 (inl (inl refl, refl)) [] (λ k h. absurd h)
+r35 = splits square_setup rewound 2 v34 g28 r34 Reader 0 1 (inr (refl, le01, refl, refl)) 1 false (inl (inl refl, refl)) [] (λ k h. absurd h)
 
 abbrev pub v36 : Views
-v36 = record v35 { read = update v35.read 2 (record (v35.read 2) { ready = 1; seen = rewound.round }) }
+v36 = record v35 { read = update v35.read 2 (record (v35.read 2) { ready = true; seen = rewound.round }) }
 
 pub r36 : Rule square_setup rewound 3 v36 g28
-r36 = shows_round square_setup rewound 3 v35 g28 r35 2 refl 1 (inl (refl, many))
+r36 = shows_round square_setup rewound 3 v35 g28 r35 2 refl true (inl (refl, many))
 
 abbrev pub v37 : Views
-v37 = record v36 { read = update v36.read 2 (record (v36.read 2) { pin = rewound.round + 1; ready = 0; went = []; walk = Still; places = []; seen = rewound.round }) }
+v37 = record v36 { read = update v36.read 2 (record (v36.read 2) { pin = rewound.round + 1; ready = false; went = []; walk = Still; places = []; seen = rewound.round }) }
 
 abbrev pub g37 : Ghost
 g37 = record g28 { pins = update g28.pins rewound.round (g28.pins rewound.round + 1) }
@@ -99,10 +99,10 @@ pub r39 : Rule square_setup pinned 3 v39 g39
 r39 = plans square_setup pinned 3 v38 g38 r38 (name0 ∷ []) (λ i h. h) refl refl no_claim
 
 abbrev pub v40 : Views
-v40 = record v39 { kind = update v39.kind 3 Worker; claims = update v39.claims 3 []; work = update v39.work 3 (record idle { half = v39.ruling.phase; round = v39.ruling.finished + 1; number = 1; plan = v39.ruling.plan }); sure = update (update v39.sure 0 unsure) 3 unsure; read = update v39.read 3 (record (blank []) { told = v39.ruling.history; seen = v39.ruling.finished; made = v39.ruling.finished }); ruling = record v39.ruling { workers = 1; readers = 1; lone = 0 } }
+v40 = record v39 { kind = update v39.kind 3 Worker; claims = update v39.claims 3 []; work = update v39.work 3 (record idle { half = v39.ruling.phase; round = v39.ruling.finished + 1; number = 1; plan = v39.ruling.plan }); sure = update (update v39.sure 0 unsure) 3 unsure; read = update v39.read 3 (record (blank []) { told = v39.ruling.history; seen = v39.ruling.finished; made = v39.ruling.finished }); ruling = record v39.ruling { workers = 1; readers = 1; lone = false } }
 
 pub r40 : Rule square_setup pinned 4 v40 g39
-r40 = splits square_setup pinned 3 v39 g39 r39 Worker 1 1 (inl (refl, inr refl, refl, refl)) 1 0 (inl (inr refl, refl)) [] (λ k h. absurd h)
+r40 = splits square_setup pinned 3 v39 g39 r39 Worker 1 1 (inl (refl, inr refl, refl, refl)) 1 false (inl (inr refl, refl)) [] (λ k h. absurd h)
 
 pub t41 : Bool
 t41 = (goes_to square_setup pinned 4 v40 g39 r40 3 refl 0 name0 0 (node 1 0) (inl ((inr (inr (lt02, refl))), refl)) refl (inl refl)).0
@@ -192,7 +192,7 @@ pub held1 : who_left 1 name1 ≡ 1
 held1 = (r50.walks 3).had 0 name1 (inl refl)
 
 abbrev pub v51 : Views
-v51 = record v50 { kind = update v50.kind 3 Vacant; claims = update (update v50.claims 0 (v50.claims 0 ++ v50.claims 3)) 3 []; work = update (update v50.work 0 record { half = Resting; round = 0; number = 0; plan = no_plan; drawn = (v50.work 0).drawn ++ (v50.work 3).drawn; found = (v50.work 0).found ++ (v50.work 3).found; known = (v50.work 0).known ++ (v50.work 3).known; open_ = (v50.work 0).open_ ++ (v50.work 3).open_; given = (v50.work 0).given ++ (v50.work 3).given; absent = (v50.work 0).absent ++ (v50.work 3).absent; stood = (v50.work 0).stood ++ (v50.work 3).stood; had = (v50.work 0).had ++ (v50.work 3).had; grown = (v50.work 0).grown ++ (v50.work 3).grown; retired = (v50.work 0).retired ++ (v50.work 3).retired; went = []; walk = Still }) 3 idle; sure = update (update v50.sure 0 unsure) 3 unsure; read = update v50.read 3 unread; ruling = record v50.ruling { workers = 0; lone = 0 } }
+v51 = record v50 { kind = update v50.kind 3 Vacant; claims = update (update v50.claims 0 (v50.claims 0 ++ v50.claims 3)) 3 []; work = update (update v50.work 0 record { half = Resting; round = 0; number = 0; plan = no_plan; drawn = (v50.work 0).drawn ++ (v50.work 3).drawn; found = (v50.work 0).found ++ (v50.work 3).found; known = (v50.work 0).known ++ (v50.work 3).known; open_ = (v50.work 0).open_ ++ (v50.work 3).open_; given = (v50.work 0).given ++ (v50.work 3).given; absent = (v50.work 0).absent ++ (v50.work 3).absent; stood = (v50.work 0).stood ++ (v50.work 3).stood; had = (v50.work 0).had ++ (v50.work 3).had; grown = (v50.work 0).grown ++ (v50.work 3).grown; retired = (v50.work 0).retired ++ (v50.work 3).retired; went = []; walk = Still }) 3 idle; sure = update (update v50.sure 0 unsure) 3 unsure; read = update v50.read 3 unread; ruling = record v50.ruling { workers = 0; lone = false } }
 
 abbrev pub g51 : Ghost
 g51 = record g50 { stage = λ x. moved 3 (g50.stage x) }
@@ -240,7 +240,7 @@ pub r57 : Rule square_setup stamped1 4 v57 g52
 r57 = stamps_head square_setup stamped0 4 v56 g52 r56 three refl 1 0 0 2 true (inl refl) (λ h. h) refl (inr (ne 0 1 lt01, inl (refl, refl))) (inl (refl, refl))
 
 abbrev pub v58 : Views
-v58 = record v57 { work = update v57.work 0 idle; ruling = record v57.ruling { phase = Resting; finished = v57.ruling.finished + 1; early = v57.ruling.readers; history = v57.ruling.history ++ [] ∷ []; left = (stamped1.round, stamped1.taken) ∷ v57.ruling.left; retired = []; kept = ((v57.work 0).retired ++ v57.ruling.retired) ++ v57.ruling.kept; seen = 0; quiet = 0 } }
+v58 = record v57 { work = update v57.work 0 idle; ruling = record v57.ruling { phase = Resting; finished = v57.ruling.finished + 1; early = v57.ruling.readers; history = v57.ruling.history ++ [] ∷ []; left = (stamped1.round, stamped1.taken) ∷ v57.ruling.left; retired = []; kept = ((v57.work 0).retired ++ v57.ruling.retired) ++ v57.ruling.kept; seen = 0; quiet = false } }
 
 abbrev pub g58 : Ghost
 g58 = record g52 { who = update g52.who (stamped1.round + 1 + 1) (g52.who (stamped1.round + 1)) }

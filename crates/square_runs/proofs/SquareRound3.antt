@@ -134,10 +134,10 @@ pub r75 : Rule square_setup opened 4 v75 g75
 r75 = begins square_setup opened 4 v74 g70 r74 first_plan [] refl first_aim lt24 refl refl
 
 abbrev pub v76 : Views
-v76 = record v75 { kind = update v75.kind 4 Worker; claims = update v75.claims 4 []; work = update v75.work 4 (record idle { half = v75.ruling.phase; round = v75.ruling.finished + 1; number = 1; plan = v75.ruling.plan }); sure = update (update v75.sure 0 unsure) 4 unsure; read = update v75.read 4 (record (blank []) { told = v75.ruling.history; seen = v75.ruling.finished; made = v75.ruling.finished }); ruling = record v75.ruling { workers = 1; readers = 1; lone = 0 } }
+v76 = record v75 { kind = update v75.kind 4 Worker; claims = update v75.claims 4 []; work = update v75.work 4 (record idle { half = v75.ruling.phase; round = v75.ruling.finished + 1; number = 1; plan = v75.ruling.plan }); sure = update (update v75.sure 0 unsure) 4 unsure; read = update v75.read 4 (record (blank []) { told = v75.ruling.history; seen = v75.ruling.finished; made = v75.ruling.finished }); ruling = record v75.ruling { workers = 1; readers = 1; lone = false } }
 
 pub r76 : Rule square_setup opened 5 v76 g75
-r76 = splits square_setup opened 4 v75 g75 r75 Worker 1 1 (inl (refl, inl refl, refl, refl)) 1 0 (inr (inr (lt01, refl, refl))) [] (λ k h. absurd h)
+r76 = splits square_setup opened 4 v75 g75 r75 Worker 1 1 (inl (refl, inl refl, refl, refl)) 1 false (inr (inr (lt01, refl, refl))) [] (λ k h. absurd h)
 
 abbrev pub v77 : Views
 v77 = record v76 { work = update v76.work 4 (record (v76.work 4) { went = (v76.work 4).went; walk = (v76.work 4).walk; found = (0, square_setup.top 0) ∷ (v76.work 4).found; known = (v76.work 4).known; absent = (v76.work 4).absent; stood = (v76.work 4).stood; had = (v76.work 4).had }) }

@@ -22,7 +22,7 @@ pub s1 : Step square_setup (state (fresh_words 1) 1 v0) (state (fresh_words 1) 1
 s1 = ByBeginStep k1
 
 pub k2 : SplitStep square_setup (fresh_words 1) 1 v1 (state (fresh_words 1) 2 v2)
-k2 = (Worker, 1, 0, (inl (refl, inl refl, refl, refl)), 1, 0, (inr (inr (lt01, refl, refl))), [], (λ k h. absurd h), refl)
+k2 = (Worker, 1, 0, (inl (refl, inl refl, refl, refl)), 1, false, (inr (inr (lt01, refl, refl))), [], (λ k h. absurd h), refl)
 
 pub s2 : Step square_setup (state (fresh_words 1) 1 v1) (state (fresh_words 1) 2 v2)
 s2 = BySplitStep k2

@@ -54,10 +54,10 @@ pub s34 : Step square_setup (state stopped 2 v33) (state rewound 2 v34)
 s34 = ByRewindStep k34
 
 pub s35 : Step square_setup (state rewound 2 v34) (state rewound 3 v35)
-s35 = BySplitStep (Reader, 0, 1, (inr (refl, le01, refl, refl)), 1, 0, (inl (inl refl, refl)), [], (λ k h. absurd h), refl)
+s35 = BySplitStep (Reader, 0, 1, (inr (refl, le01, refl, refl)), 1, false, (inl (inl refl, refl)), [], (λ k h. absurd h), refl)
 
 pub k36 : LoadRound square_setup rewound 3 v35 (state rewound 3 v36)
-k36 = (2, refl, 1, (inl (refl, many)), refl)
+k36 = (2, refl, true, (inl (refl, many)), refl)
 
 pub s36 : Step square_setup (state rewound 3 v35) (state rewound 3 v36)
 s36 = ByLoadRound k36
@@ -75,7 +75,7 @@ pub s39 : Step square_setup (state pinned 3 v38) (state pinned 3 v39)
 s39 = ByPlanStep ((name0 ∷ []), (λ i h. h), refl, refl, no_claim, refl)
 
 pub s40 : Step square_setup (state pinned 3 v39) (state pinned 4 v40)
-s40 = BySplitStep (Worker, 1, 1, (inl (refl, inr refl, refl, refl)), 1, 0, (inl (inr refl, refl)), [], (λ k h. absurd h), refl)
+s40 = BySplitStep (Worker, 1, 1, (inl (refl, inr refl, refl, refl)), 1, false, (inl (inr refl, refl)), [], (λ k h. absurd h), refl)
 
 pub k41 : WorkGoes square_setup pinned 4 v40 (state pinned 4 v41)
 k41 = (3, refl, 0, name0, 0, (node 1 0), (inl ((inr (inr (lt02, refl))), refl)), refl, (inl refl), t41, ((walk_sides square_setup pinned 4 v41 (g39, r41) 3 0 name0 0 t41).0 refl t41).1 refl, refl)

@@ -90,7 +90,7 @@ pub s75 : Step square_setup (state opened 4 v74) (state opened 4 v75)
 s75 = ByBeginStep (first_plan, [], refl, first_aim, lt24, refl, refl, refl)
 
 pub s76 : Step square_setup (state opened 4 v75) (state opened 5 v76)
-s76 = BySplitStep (Worker, 1, 1, (inl (refl, inl refl, refl, refl)), 1, 0, (inr (inr (lt01, refl, refl))), [], (λ k h. absurd h), refl)
+s76 = BySplitStep (Worker, 1, 1, (inl (refl, inl refl, refl, refl)), 1, false, (inr (inr (lt01, refl, refl))), [], (λ k h. absurd h), refl)
 
 pub s77 : Step square_setup (state opened 5 v76) (state opened 5 v77)
 s77 = ByWorkTop (4, refl, refl, 0, lt02, refl)

@@ -30,7 +30,7 @@ abbrev pub u2 : Views
 u2 = worker_made 1 1 u1
 
 pub s2 : Step pair_setup (state (fresh_words 2) 1 u1) (state (fresh_words 2) 2 u2)
-s2 = BySplitStep (Worker, 1, 0, inl (refl, inl refl, refl, refl), 1, 0, inr (inr (lt01, refl, refl)), [], (λ k h. absurd h), refl)
+s2 = BySplitStep (Worker, 1, 0, inl (refl, inl refl, refl, refl), 1, false, inr (inr (lt01, refl, refl)), [], (λ k h. absurd h), refl)
 
 abbrev pub u3 : Views
 u3 = found_at 1 0 name0 u2

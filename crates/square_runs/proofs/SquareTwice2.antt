@@ -32,7 +32,7 @@ abbrev pub u41 : Views
 u41 = worker_made 2 1 u40
 
 pub s41 : Step pair_setup (state opened 2 u40) (state opened 3 u41)
-s41 = BySplitStep (Worker, 1, 0, inl (refl, inr refl, refl, refl), 1, 0, inl (inr refl, refl), [], (λ k h. absurd h), refl)
+s41 = BySplitStep (Worker, 1, 0, inl (refl, inr refl, refl, refl), 1, false, inl (inr refl, refl), [], (λ k h. absurd h), refl)
 
 abbrev pub u42 : Views
 u42 = goes_to 2 0 name0 0 false u41
@@ -98,7 +98,7 @@ abbrev pub u52 : Views
 u52 = worker_made 3 2 u51
 
 pub s52 : Step pair_setup (state retired 3 u51) (state retired 4 u52)
-s52 = BySplitStep (Worker, 2, 0, inl (refl, inr refl, refl, refl), 2, 0, inl (inr refl, refl), [], (λ k h. absurd h), refl)
+s52 = BySplitStep (Worker, 2, 0, inl (refl, inr refl, refl, refl), 2, false, inl (inr refl, refl), [], (λ k h. absurd h), refl)
 
 abbrev pub u53 : Views
 u53 = goes_to 3 0 name0 0 false u52
@@ -195,13 +195,13 @@ abbrev pub u67 : Views
 u67 = reader_made 4 u66
 
 pub s67 : Step pair_setup (state finished2 4 u66) (state finished2 5 u67)
-s67 = BySplitStep (Reader, 0, 1, inr (refl, le01, refl, refl), 1, 0, inl (inl refl, refl), [], (λ k h. absurd h), refl)
+s67 = BySplitStep (Reader, 0, 1, inr (refl, le01, refl, refl), 1, false, inl (inl refl, refl), [], (λ k h. absurd h), refl)
 
 abbrev pub u68 : Views
-u68 = sees_round 4 1 2 u67
+u68 = sees_round 4 true 2 u67
 
 pub s68 : Step pair_setup (state finished2 5 u67) (state finished2 5 u68)
-s68 = ByLoadRound (4, refl, 1, inl (refl, many), refl)
+s68 = ByLoadRound (4, refl, true, inl (refl, many), refl)
 
 abbrev pub u69 : Views
 u69 = pins_round 4 2 u68

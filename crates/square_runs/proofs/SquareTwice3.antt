@@ -34,13 +34,13 @@ abbrev pub u72 : Views
 u72 = worker_made 5 1 u71
 
 pub s72 : Step pair_setup (state pinned 5 u71) (state pinned 6 u72)
-s72 = BySplitStep (Worker, 1, 1, inl (refl, inl refl, refl, refl), 1, 0, inr (inr (lt01, refl, refl)), [], (λ k h. absurd h), refl)
+s72 = BySplitStep (Worker, 1, 1, inl (refl, inl refl, refl, refl), 1, false, inr (inr (lt01, refl, refl)), [], (λ k h. absurd h), refl)
 
 abbrev pub u73 : Views
 u73 = worker_made 6 2 u72
 
 pub s73 : Step pair_setup (state pinned 6 u72) (state pinned 7 u73)
-s73 = BySplitStep (Worker, 2, 1, inl (refl, inl refl, refl, refl), 2, 0, inr (inr (lt02, refl, refl)), [], (λ k h. absurd h), refl)
+s73 = BySplitStep (Worker, 2, 1, inl (refl, inl refl, refl, refl), 2, false, inr (inr (lt02, refl, refl)), [], (λ k h. absurd h), refl)
 
 abbrev pub u74 : Views
 u74 = found_at 5 0 name0 u73
