@@ -24,3 +24,6 @@ pub mod ChildNotes
 pub mod SquareChild1
 pub mod SquareChild
 pub mod ChildReads
+pub mod Segments
+pub mod FreedNotes
+pub mod SquareFreed

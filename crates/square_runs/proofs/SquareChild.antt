@@ -4,9 +4,10 @@ use Rattle.mesh_state.specs.Fresh.{fresh_words}
 use Rattle.mesh_steps.specs.States.{State, state}
 use Rattle.mesh_steps.specs.Steps.{Run}
 use Rattle.square_runs.specs.SquareKinds.{fresh_state}
+use Rattle.square_runs.specs.SquareRun.{Along}
 use Rattle.square_runs.specs.SquareTwice as pair
 use Rattle.square_runs.specs.SquareTwice.{pair_setup}
-use Rattle.square_runs.specs.SquareChild.{SquareChild, claimed, drawn, history0, history1, undead, named0, named1, kid0, kid1, kid2, kid3, linked, published, unclaimed, finished2}
+use Rattle.square_runs.specs.SquareChild.{SquareChild, child_words, claimed, drawn, history0, history1, undead, named0, named1, kid0, kid1, kid2, kid3, linked, published, unclaimed, finished2}
 use Rattle.square_runs.proofs.SquareTwice1.{u1, u2, u3, u4, u5, u6, u7, u8, u9, u10, u11, u12, u13, u14, u15, u16, u17, u18, u19, u20, u21, u22, u23, u24, u25, u26, u27, u28, u29, u30, u31, u32, u33, u34, u35, u36, u37, u38, s1, s2, s3, s4, s5, s6, s7, s8, s9, s10, s11, s12, s13, s14, s15, s16, s17, s18, s19, s20, s21, s22, s23, s24, s25, s26, s27, s28, s29, s30, s31, s32, s33, s34, s35, s36, s37, s38}
 use Rattle.square_runs.proofs.SquareChild1.{u39, u40, u41, u42, u43, u44, u45, u46, u47, u48, u49, u50, u51, u52, u53, u54, u55, u56, u57, u58, u59, u60, u61, u62, u63, s39, s40, s41, s42, s43, s44, s45, s46, s47, s48, s49, s50, s51, s52, s53, s54, s55, s56, s57, s58, s59, s60, s61, s62, s63}
 
@@ -16,5 +17,8 @@ child_states = state (fresh_words 2) 1 u1 ∷ state (fresh_words 2) 2 u2 ∷ sta
 pub child_run : Run pair_setup (fresh_state 2) child_states
 child_run = (s1, (s2, (s3, (s4, (s5, (s6, (s7, (s8, (s9, (s10, (s11, (s12, (s13, (s14, (s15, (s16, (s17, (s18, (s19, (s20, (s21, (s22, (s23, (s24, (s25, (s26, (s27, (s28, (s29, (s30, (s31, (s32, (s33, (s34, (s35, (s36, (s37, (s38, (s39, (s40, (s41, (s42, (s43, (s44, (s45, (s46, (s47, (s48, (s49, (s50, (s51, (s52, (s53, (s54, (s55, (s56, (s57, (s58, (s59, (s60, (s61, (s62, (s63, tt)))))))))))))))))))))))))))))))))))))))))))))))))))))))))))))))
 
+pub child_along : Along (fresh_state 2 ∷ child_states) child_words
+child_along = (refl, inr (refl, inr (refl, inr (refl, inr (refl, inr (refl, inr (refl, inl (refl, inl (refl, inr (refl, inr (refl, inl (refl, inl (refl, inl (refl, inl (refl, inl (refl, inl (refl, inl (refl, inl (refl, inl (refl, inl (refl, inl (refl, inl (refl, inr (refl, inr (refl, inr (refl, inr (refl, inl (refl, inl (refl, inr (refl, inr (refl, inr (refl, inr (refl, inr (refl, inl (refl, inl (refl, inr (refl, inl (refl, inl (refl, inr (refl, inr (refl, inr (refl, inr (refl, inr (refl, inl (refl, inl (refl, inr (refl, inl (refl, inl (refl, inl (refl, inl (refl, inl (refl, inl (refl, inl (refl, inl (refl, inl (refl, inl (refl, inl (refl, inr (refl, inr (refl, inr (refl, inr (refl, inl (refl, inl (refl, inl refl))))))))))))))))))))))))))))))))))))))))))))))))))))))))))))))))
+
 pub square_child : SquareChild
-square_child = (child_states, child_run, (refl, inr (refl, inr (refl, inr (refl, inr (refl, inr (refl, inr (refl, inl (refl, inl (refl, inr (refl, inr (refl, inl (refl, inl (refl, inl (refl, inl (refl, inl (refl, inl (refl, inl (refl, inl (refl, inl (refl, inl (refl, inl (refl, inl (refl, inr (refl, inr (refl, inr (refl, inr (refl, inl (refl, inl (refl, inr (refl, inr (refl, inr (refl, inr (refl, inr (refl, inl (refl, inl (refl, inr (refl, inl (refl, inl (refl, inr (refl, inr (refl, inr (refl, inr (refl, inr (refl, inl (refl, inl (refl, inr (refl, inl (refl, inl (refl, inl (refl, inl (refl, inl (refl, inl (refl, inl (refl, inl (refl, inl (refl, inl (refl, inl (refl, inr (refl, inr (refl, inr (refl, inr (refl, inl (refl, inl (refl, inl refl)))))))))))))))))))))))))))))))))))))))))))))))))))))))))))))))))
+square_child = (child_states, child_run, child_along)

@@ -3,3 +3,4 @@ pub mod SquareKinds
 pub mod SquareFull
 pub mod SquareTwice
 pub mod SquareChild
+pub mod SquareFreed

@@ -1,5 +1,6 @@
 //! Laws over the definitions alone.
 ghost use Rattle.square_runs.specs.SquareChild.{ChildReads, SquareChild};
+ghost use Rattle.square_runs.specs.SquareFreed.{FreesAlone, SquareFreed};
 ghost use Rattle.square_runs.specs.SquareFull.{SquareFull, SquareUndrawn};
 ghost use Rattle.square_runs.specs.SquareKinds.{KindsOccur, RunsLawful, TwoWords, WorkersClaim};
 ghost use Rattle.square_runs.specs.SquareRun.{SquareFollows, SquareReads, SquareRefused, SquareRuns, SquareVisits};
@@ -19,6 +20,8 @@ pub fn laws()
     ensures twice_reads { TwiceReads }
     ensures child { SquareChild }
     ensures child_reads { ChildReads }
+    ensures freed { SquareFreed }
+    ensures frees_alone { FreesAlone }
     ensures lawful { RunsLawful }
     ensures two_words { TwoWords }
     ensures workers_claim { WorkersClaim }

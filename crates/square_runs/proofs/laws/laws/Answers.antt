@@ -3,6 +3,7 @@ use Rattle.square_runs.proofs.SquareReads.{square_reads}
 use Rattle.square_runs.proofs.SquareFollows.{square_follows}
 use Rattle.square_runs.proofs.SquareRefused.{square_refused}
 use Rattle.square_runs.proofs.SquareVisits.{square_visits}
+use Rattle.square_runs.proofs.SquareFreed.{square_freed, frees_alone}
 use Rattle.square_runs.proofs.SquareFull.{square_full}
 use Rattle.square_runs.proofs.SquareUndrawn.{square_undrawn}
 use Rattle.square_runs.proofs.SquareTwice.{square_twice}
@@ -56,3 +57,9 @@ returns-clause-two_words c = two_words
 
 pub returns-clause-workers_claim : goal.returns-clause-workers_claim
 returns-clause-workers_claim c = workers_claim
+
+pub returns-clause-freed : goal.returns-clause-freed
+returns-clause-freed c = square_freed
+
+pub returns-clause-frees_alone : goal.returns-clause-frees_alone
+returns-clause-frees_alone c = frees_alone
