@@ -27,3 +27,7 @@ pub mod ChildReads
 pub mod Segments
 pub mod FreedNotes
 pub mod SquareFreed
+pub mod StockNotes
+pub mod SquareStock1
+pub mod SquareStock2
+pub mod SquareStock3

@@ -4,3 +4,6 @@ pub mod SquareFull
 pub mod SquareTwice
 pub mod SquareChild
 pub mod SquareFreed
+pub mod PatchWords
+pub mod ChildWords
+pub mod SquareStock
