@@ -18,10 +18,14 @@ use Rattle.mesh_state.specs.Lists.{PlanRule, HistoryRule, DrawnRule, DrawnFor, C
 use Rattle.mesh_state.specs.Inside.{InsideRule, LabelRule, ListedOnce}
 use Rattle.mesh_state.specs.Owner.{OwnerRule, StockRule, NoteRule, FreeRule, KnownRule, KeptRule, EarlyRule}
 
+-- the patch that n leads has no second member, or it stands at the place m - 1, and is not bisected at the last finished round
+abbrev pub SecondLabel : Setup → ℕ → (ℕ → ℕ) → (ℕ → ℕ → ℕ) → ℕ → ℕ → Type 0
+SecondLabel s round name who m n = ((m ≡ 0) × (s.mate n ≡ 0)) ⊎ ((y : ℕ) × (k : ℕ) × (m ≡ y + 1) × (s.mate n ≡ k + 1) × IsPlaceOf s name (who (round + 1)) y (k + 1) × (who round (k + 1) ≡ 0))
+
 -- in the first half the members of a claim's patch stand at its places, are not bisected at the last finished round, and the first is of the round's target
 abbrev pub Labels : Setup → ℕ → Phase → (ℕ → ℕ) → (ℕ → Stage) → (ℕ → ℕ → ℕ) → List ℕ → Type 0
 Labels s round phase name stage who target = (x j m : ℕ) (p : Progress) → stage x ≡ Held j m p → phase ≡ FirstHalf → (n : ℕ) × (s.leads n ≡ true) × IsPlaceOf s name (who (round + 1)) x n × (who round n ≡ 0) × ((b : ℕ) → linked p ≡ b + 1 → name (member_of b false) ≡ n)
-    × ((m ≡ 0) × (s.mate n ≡ 0) ⊎ (y : ℕ) × (k : ℕ) × (m ≡ y + 1) × (s.mate n ≡ k + 1) × IsPlaceOf s name (who (round + 1)) y (k + 1) × (who round (k + 1) ≡ 0)) × HasEntry target n
+    × SecondLabel s round name who m n × HasEntry target n
 
 -- n is the number of seats that were ever made
 pub record Rule (s : Setup) (w : Words) (n : ℕ) (v : Views) (g : Ghost) : Type 0 where

@@ -1,7 +1,7 @@
 -- What the rule says of what seats know, and of blocks and claims of the round in work.
-use Rattle.std.specs.Prelude.{◌≡◌, ℕ, ◌+◌, ◌<◌, ◌≤◌, Bool, false, [], ◌⊎◌, ◌↔◌}
-use Rattle.mesh_words.specs.Views.{Resting, FirstHalf, SecondHalf, Closing, RollingBack, Worker, Reader, Owner, Still, unread, Vacant, is_worker, is_reader, Precedes}
-use Rattle.mesh_words.specs.Claims.{Progress, Drawn, Half, Living, claim}
+use Rattle.std.specs.Prelude.{◌≡◌, ℕ, ◌+◌, ◌<◌, ◌≤◌, Bool, false, List, [], ◌⊎◌, ◌↔◌}
+use Rattle.mesh_words.specs.Views.{Resting, FirstHalf, SecondHalf, Closing, RollingBack, Worker, Reader, Owner, Still, Work, unread, Vacant, is_worker, is_reader, Precedes}
+use Rattle.mesh_words.specs.Claims.{Progress, Drawn, Half, Living, Claim, claim}
 use Rattle.mesh_words.specs.Entries.{HasEntry, Noted}
 use Rattle.mesh_words.specs.Places.{member_of, child_place}
 use Rattle.mesh_words.specs.Sums.{sum_below, one_where}
@@ -92,9 +92,13 @@ abbrev pub BlocksKnown : Type 0
 BlocksKnown = Always (λ s w n v g. (b : ℕ) → (HasEntry v.ruling.undone b ↔ ((x : ℕ) × (m : ℕ) × (g.life b ≡ Undone x m))) × (HasEntry v.ruling.hand b → g.life b ≡ Free)
     × ((x m : ℕ) → HasEntry v.ruling.placed (b, x, m) → (g.life b ≡ Placed x m) ⊎ (g.life b ≡ Undone x m)))
 
--- a seat that is neither the owner's nor a worker's, as one that was joined, has no claim, draw, finding or walk at work; one that is not a reader's has no pin and is not ready for one; one of no kind, as one that was joined, was told nothing and has read and noted nothing; and a seat that was never made is of no kind
+-- there is no claim, draw, finding or walk at work
+abbrev pub HasNoWork : List Claim → Work → Type 0
+HasNoWork claims u = ((x m : ℕ) (p : Progress) → HasEntry claims (claim x m p) → ⊥) × (u.drawn ≡ []) × (u.found ≡ []) × (u.known ≡ []) × (u.open_ ≡ []) × (u.given ≡ []) × (u.absent ≡ []) × (u.stood ≡ []) × (u.had ≡ []) × (u.grown ≡ []) × (u.retired ≡ []) × (u.went ≡ []) × (u.walk ≡ Still)
+
+-- a seat that is neither the owner's nor a worker's has no work; one that is not a reader's has no pin and is not ready for one; one of no kind, as one that was joined, was told nothing and has read and noted nothing; and a seat that was never made is of no kind
 abbrev pub OthersEmpty : Type 0
-OthersEmpty = Always (λ s w n v g. (j : ℕ) → ((v.kind j ≡ Worker → ⊥) → (j ≡ 0 → ⊥) → ((x m : ℕ) (p : Progress) → HasEntry (v.claims j) (claim x m p) → ⊥) × ((v.work j).drawn ≡ []) × ((v.work j).found ≡ []) × ((v.work j).known ≡ []) × ((v.work j).open_ ≡ []) × ((v.work j).given ≡ []) × ((v.work j).absent ≡ []) × ((v.work j).stood ≡ []) × ((v.work j).had ≡ []) × ((v.work j).grown ≡ []) × ((v.work j).retired ≡ []) × ((v.work j).went ≡ []) × ((v.work j).walk ≡ Still))
+OthersEmpty = Always (λ s w n v g. (j : ℕ) → ((v.kind j ≡ Worker → ⊥) → (j ≡ 0 → ⊥) → HasNoWork (v.claims j) (v.work j))
     × ((v.kind j ≡ Reader → ⊥) → ((v.read j).pin ≡ 0) × ((v.read j).ready ≡ false)) × (v.kind j ≡ Vacant → v.read j ≡ unread) × (n ≤ j → v.kind j ≡ Vacant))
 
 -- the owner's seat is the first, and no other; it knows how many workers' and readers' passes are out; and workers' are so in the two halves alone

@@ -13,6 +13,7 @@ use Rattle.mesh_state.specs.Laws.{Always}
 use Rattle.mesh_state.specs.Rule.{Lawful}
 use Rattle.mesh_steps.specs.States.{State, state}
 use Rattle.mesh_steps.specs.Steps.{Step}
+use Rattle.mesh_steps.specs.OwnerSteps.{AllLiving}
 use Rattle.mesh_steps.specs.PinSteps.{LoadRound}
 use Rattle.mesh_steps.specs.WalkSteps.{WorkNext, ReadNext}
 
@@ -59,7 +60,7 @@ PinsFit = (mesh : Shape) (across : Across) (l : Layout) (passes : ℕ) (w : Word
 -- the law that passes are made: a reader's beside as many as the table is for, and a worker's in both halves beside any others but worker 0's in the first half; worker 0's there where no other is out and each claim has its living block
 abbrev pub PassesMade : Type 0
 PassesMade = Always (λ s w n v g. (v.ruling.readers ≤ s.passes → Onward s w n v (λ b. (b.views.kind n ≡ Reader) × ((b.views.read n).told ≡ v.ruling.history) × ((b.views.read n).seen ≡ w.round)))
-    × ((number : ℕ) → (v.ruling.phase ≡ SecondHalf) ⊎ ((v.ruling.phase ≡ FirstHalf) × (((0 < number) × (v.ruling.lone ≡ false)) ⊎ ((number ≡ 0) × (v.ruling.workers ≡ 0) × ((x m : ℕ) (p : Progress) → HasEntry (v.claims 0) (claim x m p) → (c : ℕ) × (p ≡ Living c)))))
+    × ((number : ℕ) → (v.ruling.phase ≡ SecondHalf) ⊎ ((v.ruling.phase ≡ FirstHalf) × (((0 < number) × (v.ruling.lone ≡ false)) ⊎ ((number ≡ 0) × (v.ruling.workers ≡ 0) × AllLiving v)))
     → Onward s w n v (λ b. (b.views.kind n ≡ Worker) × ((b.views.work n).number ≡ number) × ((b.views.work n).plan ≡ v.ruling.plan) × ((b.views.read n).told ≡ v.ruling.history))))
 
 -- the seat is of no kind, has read nothing and is sure of no word

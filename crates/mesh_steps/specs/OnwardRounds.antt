@@ -1,6 +1,6 @@
 -- Which steps a worker's pass has for its block and in the second half, and which the owner has, so that rounds go on.
 use Rattle.std.specs.Prelude.{◌≡◌, ℕ, ◌+◌, ◌<◌, ◌≤◌, Bool, true, List, [], ◌⊎◌}
-use Rattle.mesh_words.specs.Claims.{Progress, Drawn, Half, Whole, Living, claim}
+use Rattle.mesh_words.specs.Claims.{Drawn, Half, Whole, Living, claim}
 use Rattle.mesh_words.specs.Entries.{HasEntry, EntryAt, Noted}
 use Rattle.mesh_words.specs.Places.{member_of, child_place}
 use Rattle.mesh_words.specs.Views.{Resting, FirstHalf, SecondHalf, Closing, RollingBack, Worker, Plan, At, Past}
@@ -8,7 +8,8 @@ use Rattle.mesh_words.specs.Words.{Node}
 use Rattle.mesh_state.specs.Laws.{Always}
 use Rattle.mesh_state.specs.Lists.{IsTarget, IsMember, IsListed}
 use Rattle.mesh_steps.specs.Onward.{Onward, IsEnded, HasChildren}
-use Rattle.mesh_steps.specs.SweepSteps.{IsLaid}
+use Rattle.mesh_steps.specs.OwnerSteps.{AllLiving}
+use Rattle.mesh_steps.specs.SweepSteps.{AllLaid, LaidOnce, HandKeeps}
 
 -- the law that each seat can note a word that it loads
 abbrev pub LoadsGoOn : Type 0
@@ -40,7 +41,7 @@ GrownGoesOn = Always (λ s w n v g. (j x k : ℕ) → v.kind j ≡ Worker → v.
 abbrev pub RoundsGoOn : Type 0
 RoundsGoOn = Always (λ s w n v g. ((p : Plan) (names : List ℕ) → v.ruling.phase ≡ Resting → v.ruling.cursor ≡ 1 → w.round < s.rounds → EntryAt v.ruling.history w.round names → IsTarget s (HasEntry names) p → Onward s w n v (λ b. (b.views.ruling.phase ≡ FirstHalf) × (b.views.ruling.plan ≡ p)))
     × (v.ruling.workers ≡ 0 → v.ruling.phase ≡ FirstHalf → Onward s w n v (λ b. b.views.ruling.phase ≡ RollingBack)
-    × ((retire : List ℕ) → ((i : ℕ) → HasEntry v.ruling.plan.needs i → HasEntry (v.work 0).known i) → ((x m : ℕ) (p : Progress) → HasEntry (v.claims 0) (claim x m p) → (c : ℕ) × (p ≡ Living c)) → Onward s w n v (λ b. (b.views.ruling.phase ≡ SecondHalf) × (b.views.ruling.plan.retire ≡ retire))))
+    × ((retire : List ℕ) → ((i : ℕ) → HasEntry v.ruling.plan.needs i → HasEntry (v.work 0).known i) → AllLiving v → Onward s w n v (λ b. (b.views.ruling.phase ≡ SecondHalf) × (b.views.ruling.plan.retire ≡ retire))))
     × (v.ruling.workers ≡ 0 → v.ruling.phase ≡ SecondHalf → ((i : ℕ) → IsListed s v.ruling.plan.retire i → HasEntry (v.work 0).open_ i) → Onward s w n v (λ b. b.views.ruling.phase ≡ Closing))
     × ((x m c : ℕ) → v.ruling.phase ≡ Closing → HasEntry (v.claims 0) (claim x m (Living c)) → Onward s w n v (λ b. IsEnded b x))
     × (v.ruling.phase ≡ RollingBack → v.claims 0 ≡ [] → Onward s w n v (λ b. b.views.ruling.phase ≡ Resting)))
@@ -56,6 +57,6 @@ NotesGoOn = Always (λ s w n v g. ((q k : ℕ) → HasEntry v.ruling.left (q, k)
 abbrev pub RowsGoOn : Type 0
 RowsGoOn = Always (λ s w n v g. v.ruling.phase ≡ Resting → ((c : ℕ) → HasEntry v.ruling.hand c → Onward s w n v (λ b. (b.words.born c ≡ 0) × Noted (b.views.sure 0).born c 0))
     × (v.ruling.free ≡ 1 → Onward s w n v (λ b. (b.words.cursor ≡ 0) × (b.views.ruling.cursor ≡ 1)) × ((i c : ℕ) → (i < v.ruling.low) ⊎ (v.ruling.high ≤ i) → Onward s w n v (λ b. (b.words.row i ≡ c) × Noted (b.views.sure 0).row i c))
-    × ((k : ℕ) (hand : List ℕ) → v.ruling.cursor ≡ 1 → (v.ruling.low < v.ruling.high → v.ruling.high ≤ k) → ((i : ℕ) → i < k → ((v.ruling.low ≤ i) × (i < v.ruling.high)) ⊎ ((c : ℕ) × IsLaid v k i c × HasEntry v.ruling.hand c × Noted (v.sure 0).born c 0))
-    → ((i j c : ℕ) → IsLaid v k i c → IsLaid v k j c → i ≡ j) → ((c : ℕ) → (HasEntry hand c → HasEntry v.ruling.hand c × ((i : ℕ) → IsLaid v k i c → ⊥)) × (HasEntry v.ruling.hand c → HasEntry hand c ⊎ ((i : ℕ) × IsLaid v k i c)))
+    × ((k : ℕ) (hand : List ℕ) → v.ruling.cursor ≡ 1 → (v.ruling.low < v.ruling.high → v.ruling.high ≤ k) → AllLaid v k
+    → LaidOnce v k → HandKeeps v k hand
     → Onward s w n v (λ b. (b.words.free ≡ k) × (b.views.ruling.hand ≡ hand)))))

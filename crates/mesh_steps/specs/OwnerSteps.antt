@@ -3,7 +3,7 @@ use Rattle.std.specs.Prelude.{◌≡◌, ℕ, ◌+◌, ◌<◌, ◌≤◌, ◌==
 use Rattle.mesh_words.specs.Claims.{Progress, Living, claim}
 use Rattle.mesh_words.specs.Entries.{HasEntry, EntryAt, Noted}
 use Rattle.mesh_words.specs.Functions.{update}
-use Rattle.mesh_words.specs.Views.{Resting, FirstHalf, SecondHalf, Closing, RollingBack, Worker, Reader, no_plan, Plan, Still, Note, Work, unread, unsure, Views, Kind, Vacant, is_reader}
+use Rattle.mesh_words.specs.Views.{Resting, FirstHalf, SecondHalf, Closing, RollingBack, Worker, Reader, no_plan, Plan, Still, Note, Work, Ruling, unread, unsure, Views, Kind, Vacant, is_reader}
 use Rattle.mesh_words.specs.Words.{Node}
 use Rattle.mesh_state.specs.Fresh.{idle, blank}
 use Rattle.mesh_state.specs.Lists.{IsTarget, IsListed}
@@ -36,10 +36,24 @@ NoteQuiet s w n v after = (v.ruling.seen ≡ w.taken + 1) × (after ≡ state w 
 abbrev pub NotePlaces : StepKind
 NotePlaces s w n v after = (b x m : ℕ) × HasEntry (v.claims 0) (claim x m (Living b)) × (after ≡ state w n (record v { ruling = record v.ruling { placed = (b, x, m) ∷ v.ruling.placed } }))
 
+-- each claim of the owner has its living block
+abbrev pub AllLiving : Views → Type 0
+AllLiving v = (x m : ℕ) (p : Progress) → HasEntry (v.claims 0) (claim x m p) → (b : ℕ) × (p ≡ Living b)
+
+-- a pass of this kind may be made, a worker's in one of the halves, or a reader's beside so many; and how many there are with it
+abbrev pub CountsPass : ℕ → Ruling → Kind → ℕ → ℕ → Type 0
+CountsPass passes u kind workers readers = ((kind ≡ Worker) × ((u.phase ≡ FirstHalf) ⊎ (u.phase ≡ SecondHalf)) × (workers ≡ u.workers + 1) × (readers ≡ u.readers))
+    ⊎ ((kind ≡ Reader) × (u.readers ≤ passes) × (workers ≡ u.workers) × (readers ≡ u.readers + 1))
+
+-- in the first half worker 0 is made while no other worker's pass is out and each claim of the owner has its living block, and another one while worker 0 is not out
+abbrev pub NumbersPass : Views → Kind → ℕ → Bool → Type 0
+NumbersPass v kind number lone = (((kind ≡ Reader) ⊎ (v.ruling.phase ≡ SecondHalf)) × (lone ≡ v.ruling.lone))
+    ⊎ ((number ≡ 0) × (v.ruling.workers ≡ 0) × AllLiving v × (lone ≡ true)) ⊎ ((0 < number) × (v.ruling.lone ≡ false) × (lone ≡ false))
+
 -- Split: a pass is made, a worker's in one of the halves or a reader's, with what the owner tells it. In the first half a pass of worker 0 is made while no other worker's is out and each claim of the owner has its living block, and none is made while it is out. Where the pass is a worker's, the owner is no longer sure of any word
 abbrev pub SplitStep : StepKind
-SplitStep s w n v after = (kind : Kind) × (workers readers : ℕ) × (((kind ≡ Worker) × ((v.ruling.phase ≡ FirstHalf) ⊎ (v.ruling.phase ≡ SecondHalf)) × (workers ≡ v.ruling.workers + 1) × (readers ≡ v.ruling.readers)) ⊎ ((kind ≡ Reader) × (v.ruling.readers ≤ s.passes) × (workers ≡ v.ruling.workers) × (readers ≡ v.ruling.readers + 1)))
-    × (number : ℕ) × (lone : Bool) × ((((kind ≡ Reader) ⊎ (v.ruling.phase ≡ SecondHalf)) × (lone ≡ v.ruling.lone)) ⊎ ((number ≡ 0) × (v.ruling.workers ≡ 0) × ((x m : ℕ) (p : Progress) → HasEntry (v.claims 0) (claim x m p) → (b : ℕ) × (p ≡ Living b)) × (lone ≡ true)) ⊎ ((0 < number) × (v.ruling.lone ≡ false) × (lone ≡ false)))
+SplitStep s w n v after = (kind : Kind) × (workers readers : ℕ) × CountsPass s.passes v.ruling kind workers readers
+    × (number : ℕ) × (lone : Bool) × NumbersPass v kind number lone
     × (notes : List Note) × ((k : Note) → HasEntry notes k → HasEntry (v.read 0).notes k)
     × (after ≡ state w (n + 1) (record v {
       kind = update v.kind n kind;
@@ -71,7 +85,7 @@ BeginStep s w n v after = (plan : Plan) × (names : List ℕ) × EntryAt v.rulin
 
 -- the second half is planned: no pass is at work, each name that the round needs is known as bisected, and each claim has its living block
 abbrev pub PlanStep : StepKind
-PlanStep s w n v after = (retire : List ℕ) × ((i : ℕ) → HasEntry v.ruling.plan.needs i → HasEntry (v.work 0).known i) × (v.ruling.phase ≡ FirstHalf) × (v.ruling.workers ≡ 0) × ((x m : ℕ) (p : Progress) → HasEntry (v.claims 0) (claim x m p) → (b : ℕ) × (p ≡ Living b))
+PlanStep s w n v after = (retire : List ℕ) × ((i : ℕ) → HasEntry v.ruling.plan.needs i → HasEntry (v.work 0).known i) × (v.ruling.phase ≡ FirstHalf) × (v.ruling.workers ≡ 0) × AllLiving v
     × (after ≡ state w n (record v { work = update v.work 0 idle; ruling = record v.ruling { phase = SecondHalf; plan = record v.ruling.plan { retire = retire } } }))
 
 -- the round is closed: each name of the retire list is known as not bisected
@@ -91,8 +105,13 @@ RestoreStep s w n v after = (v.ruling.phase ≡ RollingBack) × (v.claims 0 ≡ 
 abbrev pub IsStamped : Views → ℕ → ℕ → Type 0
 IsStamped v x b = (l : Node) × Noted (v.sure 0).head x l × ((l.block ≡ b + 1 → ⊥) ⊎ (0 < l.died))
 
+-- so it is at the places of each block that was retired in the round
+abbrev pub AllStamped : Views → Type 0
+AllStamped v = (b : ℕ) → HasEntry ((v.work 0).retired ++ v.ruling.retired) b
+    → (x : ℕ) × (m : ℕ) × HasEntry v.ruling.placed (b, x, m) × IsStamped v x b × ((y : ℕ) → m ≡ y + 1 → IsStamped v y b)
+
 -- advance: no claim is left, and the LINK words of each block that was retired in the round are stamped; the history gets the target less the retire list's patches
 abbrev pub AdvanceStep : StepKind
 AdvanceStep s w n v after = (forest : List ℕ) × ((i : ℕ) → HasEntry forest i → HasEntry v.ruling.plan.target i × (IsListed s v.ruling.plan.retire i → ⊥)) × ((i : ℕ) → HasEntry v.ruling.plan.target i → (IsListed s v.ruling.plan.retire i → ⊥) → HasEntry forest i) × (v.ruling.phase ≡ Closing) × (v.claims 0 ≡ [])
-    × ((b : ℕ) → HasEntry ((v.work 0).retired ++ v.ruling.retired) b → (x : ℕ) × (m : ℕ) × HasEntry v.ruling.placed (b, x, m) × IsStamped v x b × ((y : ℕ) → m ≡ y + 1 → IsStamped v y b))
+    × AllStamped v
     × (after ≡ state (record w { round = w.round + 1; taken = 0 }) n (record v { work = update v.work 0 idle; ruling = record v.ruling { phase = Resting; finished = v.ruling.finished + 1; early = v.ruling.readers; history = v.ruling.history ++ forest ∷ []; left = (w.round, w.taken) ∷ v.ruling.left; retired = []; kept = ((v.work 0).retired ++ v.ruling.retired) ++ v.ruling.kept; seen = 0; quiet = false } }))

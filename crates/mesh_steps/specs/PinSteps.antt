@@ -1,11 +1,11 @@
 -- The steps of readers' passes: pins, and walks at the pinned round.
 use Rattle.std.specs.Prelude.{◌≡◌, ℕ, ◌+◌, ◌<◌, ◌≤◌, Bool, true, false, [], ◌∷◌, ◌⊎◌}
 use Rattle.mesh_words.specs.Functions.{update}
-use Rattle.mesh_words.specs.Places.{member_of, child_place}
+use Rattle.mesh_words.specs.Places.{member_of}
 use Rattle.mesh_words.specs.Views.{Reader, Still, At, Past}
 use Rattle.mesh_words.specs.Words.{Node}
 use Rattle.mesh_steps.specs.States.{StepKind, state}
-use Rattle.mesh_steps.specs.WalkSteps.{ReadNext}
+use Rattle.mesh_steps.specs.WalkSteps.{ReadNext, with_children}
 
 -- a load of ROUND: the pass is ready where it shows fewer pins than the limit
 abbrev pub LoadRound : StepKind
@@ -34,7 +34,7 @@ ReadGoes s w n v after = (j q : ℕ) × (v.kind j ≡ Reader) × ((v.read j).pin
 -- BORN is above 0 and not above q: the name is bisected at q
 abbrev pub ReadFinds : StepKind
 ReadFinds s w n v after = (j q : ℕ) × (v.kind j ≡ Reader) × ((v.read j).pin ≡ q + 1) × (x k b : ℕ) × (t : Bool) × ((v.read j).walk ≡ At x k b t) × (0 < w.born b) × (w.born b ≤ q)
-    × (after ≡ state w n (record v { read = update v.read j (record (v.read j) { walk = Still; notes = record { round = q; name = k; bisected = true } ∷ (v.read j).notes; places = (child_place s.elements b t false, s.child k false) ∷ (child_place s.elements b t true, s.child k true) ∷ (v.read j).places }) }))
+    × (after ≡ state w n (record v { read = update v.read j (record (v.read j) { walk = Still; notes = record { round = q; name = k; bisected = true } ∷ (v.read j).notes; places = with_children s b t k (v.read j).places }) }))
 
 -- or the block is passed by
 abbrev pub ReadPasses : StepKind

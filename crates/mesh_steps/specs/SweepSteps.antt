@@ -59,12 +59,21 @@ CleanPlace v gone x = CleanHead v gone x × ((b y m : ℕ) (t : Bool) → HasEnt
 abbrev pub Leaves : {A : Type 0} → (A → ℕ) → (ℕ → Bool) → List A → List A → Type 0
 Leaves {A} of gone old new = (a : A) → (HasEntry new a → HasEntry old a × (gone (of a) ≡ false)) × (HasEntry old a → HasEntry new a ⊎ (gone (of a) ≡ true))
 
--- Free: the blocks of a list become free. Each was taken back, and no pass has gone to it; or it was retired, its rounds are clear, and the words of the places where it stands were swept; no word changes
+-- a block may be free: it was taken back, and no pass has gone to it; or it was retired, its rounds are clear, and the words of the places where it stands were swept
+abbrev pub MayFree : Views → (ℕ → Bool) → ℕ → Type 0
+MayFree v gone c = (HasEntry v.ruling.undone c × IsClear v v.ruling.finished × (v.ruling.quiet ≡ true))
+    ⊎ ((e y m : ℕ) × Noted (v.sure 0).died c e × (0 < e) × (e ≤ v.ruling.finished) × IsClear v e × HasEntry v.ruling.placed (c, y, m)
+    × ((t : Bool) (x : ℕ) → stands (Placed y m) t ≡ x + 1 → CleanPlace v gone x))
+
+-- the new hand has the blocks of the old one and those that become free
+abbrev pub HandGets : List ℕ → (ℕ → Bool) → List ℕ → Type 0
+HandGets old gone new = (c : ℕ) → (HasEntry new c → HasEntry old c ⊎ (gone c ≡ true)) × (HasEntry old c ⊎ (gone c ≡ true) → HasEntry new c)
+
+-- Free: the blocks of a list become free, and leave the owner's lists for its hand; no word changes
 abbrev pub FreeStep : StepKind
 FreeStep s w n v after = (v.ruling.phase ≡ Resting) × (gone : ℕ → Bool) × (hand undone kept : List ℕ) × (placed : List (ℕ × ℕ × ℕ))
-    × ((c : ℕ) → gone c ≡ true → (HasEntry v.ruling.undone c × IsClear v v.ruling.finished × (v.ruling.quiet ≡ true))
-    ⊎ ((e y m : ℕ) × Noted (v.sure 0).died c e × (0 < e) × (e ≤ v.ruling.finished) × IsClear v e × HasEntry v.ruling.placed (c, y, m) × ((t : Bool) (x : ℕ) → stands (Placed y m) t ≡ x + 1 → CleanPlace v gone x)))
-    × ((c : ℕ) → (HasEntry hand c → HasEntry v.ruling.hand c ⊎ (gone c ≡ true)) × (HasEntry v.ruling.hand c ⊎ (gone c ≡ true) → HasEntry hand c))
+    × ((c : ℕ) → gone c ≡ true → MayFree v gone c)
+    × HandGets v.ruling.hand gone hand
     × Leaves (λ c. c) gone v.ruling.undone undone × Leaves (λ c. c) gone v.ruling.kept kept × Leaves (λ (a : ℕ × ℕ × ℕ). a.0) gone v.ruling.placed placed
     × (after ≡ state w n (record v { ruling = record v.ruling { hand = hand; undone = undone; kept = kept; placed = placed } }))
 
@@ -88,12 +97,24 @@ RowStep s w n v after = (v.ruling.phase ≡ Resting) × (i b : ℕ) × (v.ruling
 abbrev pub IsLaid : Views → ℕ → ℕ → ℕ → Type 0
 IsLaid v k i b = (i < k) × ((i < v.ruling.low) ⊎ (v.ruling.high ≤ i)) × Noted (v.sure 0).row i b
 
+-- each row below k is of the stock, or names a block of the hand with BORN 0
+abbrev pub AllLaid : Views → ℕ → Type 0
+AllLaid v k = (i : ℕ) → i < k → ((v.ruling.low ≤ i) × (i < v.ruling.high)) ⊎ ((b : ℕ) × IsLaid v k i b × HasEntry v.ruling.hand b × Noted (v.sure 0).born b 0)
+
+-- and no block is laid twice
+abbrev pub LaidOnce : Views → ℕ → Type 0
+LaidOnce v k = (i j b : ℕ) → IsLaid v k i b → IsLaid v k j b → i ≡ j
+
+-- the new hand has what was in the hand and was not laid
+abbrev pub HandKeeps : Views → ℕ → List ℕ → Type 0
+HandKeeps v k hand = (b : ℕ) → (HasEntry hand b → HasEntry v.ruling.hand b × ((i : ℕ) → IsLaid v k i b → ⊥)) × (HasEntry v.ruling.hand b → HasEntry hand b ⊎ ((i : ℕ) × IsLaid v k i b))
+
 -- each row below FREE is then of the stock, or names a block of the hand with BORN 0; the stock's rows are all below it, and the hand has what was not laid
 abbrev pub OpenStep : StepKind
 OpenStep s w n v after = (v.ruling.phase ≡ Resting) × (k : ℕ) × (hand : List ℕ) × (v.ruling.free ≡ 1) × (v.ruling.cursor ≡ 1) × (v.ruling.low < v.ruling.high → v.ruling.high ≤ k)
-    × ((i : ℕ) → i < k → ((v.ruling.low ≤ i) × (i < v.ruling.high)) ⊎ ((b : ℕ) × IsLaid v k i b × HasEntry v.ruling.hand b × Noted (v.sure 0).born b 0))
-    × ((i j b : ℕ) → IsLaid v k i b → IsLaid v k j b → i ≡ j)
-    × ((b : ℕ) → (HasEntry hand b → HasEntry v.ruling.hand b × ((i : ℕ) → IsLaid v k i b → ⊥)) × (HasEntry v.ruling.hand b → HasEntry hand b ⊎ ((i : ℕ) × IsLaid v k i b)))
+    × AllLaid v k
+    × LaidOnce v k
+    × HandKeeps v k hand
     × (after ≡ state (record w { free = k }) n (record v { ruling = record v.ruling { hand = hand; free = k + 1; low = 0; high = 0 } }))
 
 -- Taking back: BORN of a claim's block becomes 0

@@ -8,6 +8,10 @@ use Rattle.mesh_words.specs.Views.{FirstHalf, SecondHalf, Worker, Work, Read, St
 use Rattle.mesh_words.specs.Words.{Node, node, Words}
 use Rattle.mesh_steps.specs.States.{StepKind, state}
 
+-- the places with those of the children of the element k, which stand at the member t of the block b
+abbrev pub with_children : Setup → ℕ → Bool → ℕ → List (ℕ × ℕ) → List (ℕ × ℕ)
+with_children s b t k places = (child_place s.elements b t false, s.child k false) ∷ (child_place s.elements b t true, s.child k true) ∷ places
+
 -- the word l is the one that a worker's walk for the element k at the place x loads next: the LINK of a place that it found, or of a macro element, or the HISTORY word of the block that it passed by
 abbrev pub WorkNext : Setup → Words → Work → ℕ → ℕ → Node → Type 0
 WorkNext s w u x k l = ((HasEntry u.found (x, k) ⊎ HasEntry u.stood (x, k) ⊎ ((x < s.elements) × (k ≡ s.top x))) × (l ≡ w.head x)) ⊎ ((b : ℕ) × (t : Bool) × (u.walk ≡ Past x k b t) × (l ≡ w.hist (member_of b t)))
@@ -33,12 +37,12 @@ WorkGoes s w n v after = (j : ℕ) × (v.kind j ≡ Worker) × (x k b : ℕ) × 
 -- BORN in the first half is above 0: the name is bisected, and its children stand at the block
 abbrev pub WorkFinds : StepKind
 WorkFinds s w n v after = (j : ℕ) × (v.kind j ≡ Worker) × ((v.work j).half ≡ FirstHalf) × (x k b : ℕ) × (t : Bool) × ((v.work j).walk ≡ At x k b t) × (0 < w.born b)
-    × (after ≡ state w n (record v { work = update v.work j (record (v.work j) { walk = Still; found = (child_place s.elements b t false, s.child k false) ∷ (child_place s.elements b t true, s.child k true) ∷ (v.work j).found; known = k ∷ (v.work j).known }) }))
+    × (after ≡ state w n (record v { work = update v.work j (record (v.work j) { walk = Still; found = with_children s b t k (v.work j).found; known = k ∷ (v.work j).known }) }))
 
 -- BORN in the second half is of a finished round: the last finished round has the name by this block
 abbrev pub WorkHad : StepKind
 WorkHad s w n v after = (j : ℕ) × (v.kind j ≡ Worker) × (x k b : ℕ) × (t : Bool) × ((v.work j).walk ≡ At x k b t) × ((v.work j).half ≡ SecondHalf) × (0 < w.born b) × (w.born b < (v.work j).round)
-    × (after ≡ state w n (record v { work = update v.work j (record (v.work j) { walk = Still; stood = (child_place s.elements b t false, s.child k false) ∷ (child_place s.elements b t true, s.child k true) ∷ (v.work j).stood; had = (b, k) ∷ (v.work j).had }) }))
+    × (after ≡ state w n (record v { work = update v.work j (record (v.work j) { walk = Still; stood = with_children s b t k (v.work j).stood; had = (b, k) ∷ (v.work j).had }) }))
 
 -- and the NAME words of the block name its other member, which it bisects too
 abbrev pub WorkBoth : StepKind
@@ -48,7 +52,7 @@ WorkBoth s w n v after = (j : ℕ) × (v.kind j ≡ Worker) × ((v.work j).half 
 -- BORN is 0, or the round in work: the block is passed by; and in the second half the children of one that was born in the round in work stand at the block
 abbrev pub WorkPasses : StepKind
 WorkPasses s w n v after = (j : ℕ) × (v.kind j ≡ Worker) × (x k b : ℕ) × (t : Bool) × ((v.work j).walk ≡ At x k b t) × ((w.born b ≡ 0) ⊎ ((v.work j).round ≤ w.born b))
-    × (grown : List (ℕ × ℕ)) × ((grown ≡ (v.work j).grown) ⊎ (((v.work j).half ≡ SecondHalf) × ((v.work j).round ≤ w.born b) × (grown ≡ (child_place s.elements b t false, s.child k false) ∷ (child_place s.elements b t true, s.child k true) ∷ (v.work j).grown)))
+    × (grown : List (ℕ × ℕ)) × ((grown ≡ (v.work j).grown) ⊎ (((v.work j).half ≡ SecondHalf) × ((v.work j).round ≤ w.born b) × (grown ≡ with_children s b t k (v.work j).grown)))
     × (after ≡ state w n (record v { work = update v.work j (record (v.work j) { walk = Past x k b t; grown = grown }) }))
 
 -- in the second half: the block that the last finished round has for a first member is its patch's
@@ -65,7 +69,7 @@ WorkDead s w n v after = (j : ℕ) × (v.kind j ≡ Worker) × ((v.work j).half 
 abbrev pub WorkOpen : StepKind
 WorkOpen s w n v after = (j : ℕ) × (v.kind j ≡ Worker) × ((v.work j).half ≡ SecondHalf) × (x k : ℕ) × (HasEntry (v.work j).stood (x, k) ⊎ HasEntry (v.work j).grown (x, k)) × (open_ : List ℕ) × (grown : List (ℕ × ℕ))
     × (((((w.head x).block ≡ 0) ⊎ (0 < (w.head x).died)) × (open_ ≡ k ∷ (v.work j).open_) × (grown ≡ (v.work j).grown))
-    ⊎ ((b : ℕ) × (t : Bool) × HasEntry (v.work j).grown (x, k) × (w.head x ≡ node (b + 1) 0) × (w.name (member_of b t) ≡ k) × (open_ ≡ (v.work j).open_) × (grown ≡ (child_place s.elements b t false, s.child k false) ∷ (child_place s.elements b t true, s.child k true) ∷ (v.work j).grown)))
+    ⊎ ((b : ℕ) × (t : Bool) × HasEntry (v.work j).grown (x, k) × (w.head x ≡ node (b + 1) 0) × (w.name (member_of b t) ≡ k) × (open_ ≡ (v.work j).open_) × (grown ≡ with_children s b t k (v.work j).grown)))
     × (after ≡ state w n (record v { work = update v.work j (record (v.work j) { open_ = open_; grown = grown }) }))
 
 -- any seat notes a word that it loads: the node of a LINK word, a HISTORY word, BORN, DIED, NAME or a row

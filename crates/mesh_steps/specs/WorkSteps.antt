@@ -4,17 +4,34 @@ use Rattle.mesh_words.specs.Claims.{Progress, Claimed, Failed, Drawn, Half, Whol
 use Rattle.mesh_words.specs.Entries.{HasEntry, Noted}
 use Rattle.mesh_words.specs.Functions.{update}
 use Rattle.mesh_words.specs.Places.{member_of, child_place}
-use Rattle.mesh_words.specs.Views.{SecondHalf, Worker, unsure}
+use Rattle.mesh_words.specs.Setup.{Setup}
+use Rattle.mesh_words.specs.Views.{SecondHalf, Worker, Work, Sure, unsure}
 use Rattle.mesh_words.specs.Words.{Node, node}
 use Rattle.mesh_state.specs.Ghosts.{Placed, stands}
 use Rattle.mesh_state.specs.Lists.{IsMember}
 use Rattle.mesh_steps.specs.States.{StepKind, state}
 
+-- the pass found one member of the patch that k leads, the first or the second, absent from the last finished round
+abbrev pub IsAbsent : Setup → Work → ℕ → Type 0
+IsAbsent s u k = HasEntry u.absent k ⊎ ((i : ℕ) × (s.mate k ≡ i + 1) × HasEntry u.absent (i + 1))
+
+-- the patch that k leads has no second member, or the pass found it at the place m - 1
+abbrev pub SecondFound : Setup → Work → ℕ → ℕ → Type 0
+SecondFound s u m k = ((m ≡ 0) × (s.mate k ≡ 0)) ⊎ ((y : ℕ) × (i : ℕ) × (m ≡ y + 1) × (s.mate k ≡ i + 1) × HasEntry u.found (y, i + 1))
+
+-- the seat is sure that the LINK words of the block's children name nothing
+abbrev pub NoChildren : Setup → Sure → ℕ → Type 0
+NoChildren s u b = (t c : Bool) → Noted u.head (child_place s.elements b t c) (node 0 0)
+
+-- and that the HISTORY words of the block's members are what the LINK words of their places x and m - 1 were
+abbrev pub OldLinks : Sure → ℕ → ℕ → ℕ → Type 0
+OldLinks u b x m = (t : Bool) (y : ℕ) → stands (Placed x m) t ≡ y + 1 → (l : Node) × Noted u.head y l × Noted u.hist (member_of b t) l
+
 -- claim: the pass found the places of a patch of the target, and the last finished round has not one of its members, so neither; the claim bit was not set
 abbrev pub ClaimStep : StepKind
-ClaimStep s w n v after = (j x m k : ℕ) × (v.kind j ≡ Worker) × (w.claimed x ≡ 0) × (s.leads k ≡ true) × (HasEntry (v.work j).absent k ⊎ ((i : ℕ) × (s.mate k ≡ i + 1) × HasEntry (v.work j).absent (i + 1)))
+ClaimStep s w n v after = (j x m k : ℕ) × (v.kind j ≡ Worker) × (w.claimed x ≡ 0) × (s.leads k ≡ true) × IsAbsent s (v.work j) k
     × HasEntry (v.work j).plan.target k × HasEntry (v.work j).found (x, k)
-    × (((m ≡ 0) × (s.mate k ≡ 0)) ⊎ ((y : ℕ) × (i : ℕ) × (m ≡ y + 1) × (s.mate k ≡ i + 1) × HasEntry (v.work j).found (y, i + 1)))
+    × SecondFound s (v.work j) m k
     × (after ≡ state (record w { claimed = update w.claimed x 1 }) n (record v { claims = update v.claims j (claim x m Claimed ∷ v.claims j); sure = update v.sure j unsure }))
 
 -- draw: the number found is below FREE, and the claim gets the row's block; the pass has not seen FREE and the row yet, and learns by loads of them which of this and the next it was
@@ -47,8 +64,8 @@ FillChild s w n v after = (j x m b : ℕ) × HasEntry (v.claims j) (claim x m (D
 -- link of the first member: the nine words are filled with the patch, DIED 0, empty links of the children, and the old contents of the members' LINK words; a patch of one member is linked whole
 abbrev pub LinkFirst : StepKind
 LinkFirst s w n v after = (j x m b k : ℕ) × HasEntry (v.claims j) (claim x m (Drawn b)) × (v.kind j ≡ Worker) × Noted (v.sure j).died b 0 × Noted (v.sure j).name (member_of b false) k × Noted (v.sure j).name (member_of b true) (s.mate k) × (s.leads k ≡ true)
-    × ((t c : Bool) → Noted (v.sure j).head (child_place s.elements b t c) (node 0 0)) × ((t : Bool) (y : ℕ) → stands (Placed x m) t ≡ y + 1 → (l : Node) × Noted (v.sure j).head y l × Noted (v.sure j).hist (member_of b t) l)
-    × HasEntry (v.work j).found (x, k) × (((m ≡ 0) × (s.mate k ≡ 0)) ⊎ ((y : ℕ) × (i : ℕ) × (m ≡ y + 1) × (s.mate k ≡ i + 1) × HasEntry (v.work j).found (y, i + 1))) × (q : Progress) × ((q ≡ Half b) ⊎ ((q ≡ Whole b) × (m ≡ 0)))
+    × NoChildren s (v.sure j) b × OldLinks (v.sure j) b x m
+    × HasEntry (v.work j).found (x, k) × SecondFound s (v.work j) m k × (q : Progress) × ((q ≡ Half b) ⊎ ((q ≡ Whole b) × (m ≡ 0)))
     × (after ≡ state (record w { head = update w.head x (node (b + 1) 0) }) n (record v { claims = update v.claims j (moved_on (v.claims j) x q) }))
 
 -- and of the second, whose HISTORY word has the old content of its LINK word

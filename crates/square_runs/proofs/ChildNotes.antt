@@ -41,7 +41,7 @@ join n (inl e) = inl e
 join n (inr (inl e)) = inr (inl e)
 join n (inr (inr f)) = absurd f
 
-child_closed : IsClosed pair_setup (HasEntry child_names)
+pub child_closed : IsClosed pair_setup (HasEntry child_names)
 child_closed = record {
   parents = λ n c h. ⊎_elim (λ k. join n (both_closed.parents n c k)) (λ e. inl (apart.child_one n name0 c false e).0) (split (pair_setup.child n c) h);
   seconds = λ n k e h. ⊎_elim (λ b. join (k + 1) (both_closed.seconds n k e b)) (λ f. let z : 0 ≡ k + 1 = sym (ap pair_setup.mate f) ∙ e in absurd (omega arith)) (split n h);

@@ -24,3 +24,10 @@ pub mod ChildNotes
 pub mod SquareChild1
 pub mod SquareChild
 pub mod ChildReads
+pub mod Segments
+pub mod FreedNotes
+pub mod SquareFreed
+pub mod StockNotes
+pub mod SquareStock1
+pub mod SquareStock2
+pub mod SquareStock3

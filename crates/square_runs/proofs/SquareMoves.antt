@@ -119,6 +119,16 @@ finds_known s j k b t v = record v { work = update v.work j (record (v.work j) {
 abbrev pub finds_had : Setup → ℕ → ℕ → ℕ → Bool → Views → Views
 finds_had s j k b t v = record v { work = update v.work j (record (v.work j) { walk = Still; stood = (child_place s.elements b t false, s.child k false) ∷ (child_place s.elements b t true, s.child k true) ∷ (v.work j).stood; had = (b, k) ∷ (v.work j).had }) }
 
+-- the other member with the first, and children of blocks that were born in the round
+abbrev pub finds_both : Setup → ℕ → ℕ → ℕ → Bool → Views → Views
+finds_both s j k b t v = record v { work = update v.work j (record (v.work j) { stood = (child_place s.elements b t false, s.child k false) ∷ (child_place s.elements b t true, s.child k true) ∷ (v.work j).stood; had = (b, k) ∷ (v.work j).had }) }
+
+abbrev pub passes_grown : Setup → ℕ → ℕ → ℕ → ℕ → Bool → Views → Views
+passes_grown s j x k b t v = record v { work = update v.work j (record (v.work j) { walk = Past x k b t; grown = (child_place s.elements b t false, s.child k false) ∷ (child_place s.elements b t true, s.child k true) ∷ (v.work j).grown }) }
+
+abbrev pub grows : Setup → ℕ → ℕ → ℕ → Bool → Views → Views
+grows s j k b t v = record v { work = update v.work j (record (v.work j) { grown = (child_place s.elements b t false, s.child k false) ∷ (child_place s.elements b t true, s.child k true) ∷ (v.work j).grown }) }
+
 abbrev pub is_given : ℕ → ℕ → ℕ → Views → Views
 is_given j b k v = record v { work = update v.work j (record (v.work j) { given = (b, k) ∷ (v.work j).given }) }
 

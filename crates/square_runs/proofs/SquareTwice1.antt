@@ -1,5 +1,5 @@
 -- The run that bisects the patch of the square twice: round 1, and before round 2.
-use Rattle.std.proofs.Common.{true, false, [], ◌∷◌, refl, inl, inr, arith}
+use Rattle.std.proofs.Common.{◌++◌, true, false, List, [], ◌∷◌, refl, inl, inr, arith}
 use Rattle.mesh_words.specs.Claims.{Half, Whole, Living}
 use Rattle.mesh_words.specs.Places.{member_of, child_place}
 use Rattle.mesh_words.specs.Views.{Views, Worker}
@@ -7,13 +7,15 @@ use Rattle.mesh_words.specs.Words.{node}
 use Rattle.mesh_state.specs.Fresh.{fresh_words, fresh_views}
 use Rattle.mesh_steps.specs.WalkSteps.{LoadBorn}
 use Rattle.mesh_steps.specs.OwnerSteps.{NoteFree}
-use Rattle.mesh_steps.specs.States.{state}
-use Rattle.mesh_steps.specs.Steps.{Step, ByClaimStep, ByDrawStep, ByFillHistory, ByFillName, ByFillDied, ByFillChild, ByLinkFirst, ByLinkSecond, ByPublishStep, ByWorkTop, ByWorkEnds, ByLoadHead, ByLoadBorn, ByLoadRow, ByLoadCursor, ByLoadFree, ByNoteFree, ByNotePlaces, BySplitStep, ByJoinWorker, ByBeginStep, ByPlanStep, ByCloseStep, ByAdvanceStep, ByUnclaimStep, ByStopStep, ByRewindStep, ByRowStep, ByOpenStep}
-use Rattle.square_runs.specs.SquareRun.{name0, name1}
-use Rattle.square_runs.specs.SquareTwice.{pair_setup, claimed, drawn, history0, history1, undead, named0, named1, child0, child1, child2, child3, linked0, linked1, published, unclaimed, finished1, stopped, rewound, laid, opened}
+use Rattle.mesh_steps.specs.States.{State, state}
+use Rattle.mesh_steps.specs.Steps.{Run, Step, ByClaimStep, ByDrawStep, ByFillHistory, ByFillName, ByFillDied, ByFillChild, ByLinkFirst, ByLinkSecond, ByPublishStep, ByWorkTop, ByWorkEnds, ByLoadHead, ByLoadBorn, ByLoadRow, ByLoadCursor, ByLoadFree, ByNoteFree, ByNotePlaces, BySplitStep, ByJoinWorker, ByBeginStep, ByPlanStep, ByCloseStep, ByAdvanceStep, ByUnclaimStep, ByStopStep, ByRewindStep, ByRowStep, ByOpenStep}
+use Rattle.square_runs.specs.SquareKinds.{fresh_state}
+use Rattle.square_runs.specs.SquareRun.{name0, name1, Along}
+use Rattle.square_runs.specs.SquareTwice.{pair_setup, first_words, row_words, opened_words, claimed, drawn, history0, history1, undead, named0, named1, child0, child1, child2, child3, linked0, linked1, published, unclaimed, finished1, stopped, rewound, laid, opened}
 use Rattle.square_runs.proofs.SquareLists.{both, first_plan, none_listed, both_stay}
 use Rattle.square_runs.proofs.SquareMoves.{begun, planned, closed, advanced, worker_made, joined, cursor_seen, free_seen, stopped_at, takes_row, opened_at, placed_at, claims_at, draws_for, comes_to, unclaims, sure_head, sure_hist, sure_born, sure_died, sure_name, sure_row, found_at, finds_absent, knows}
 use Rattle.square_runs.proofs.SquareNotes.{lt01, lt02, lt12, le00, le11, one_row, one_laid, ne, en, not_less, same_below_one, kids_noted, past_four, old_words, living_claim, three, only_zero, not_living, lt04, no_half}
+use Rattle.square_runs.proofs.Segments.{run_append, along_on}
 use Rattle.square_runs.proofs.SquarePair.{pair_first, bisects_first}
 
 abbrev pub u0 : Views
@@ -254,3 +256,28 @@ u38 = opened_at 1 u37
 
 pub s38 : Step pair_setup (state laid 2 u37) (state opened 2 u38)
 s38 = ByOpenStep (refl, 1, [], refl, refl, (λ _. le11), one_row 1 1 ((0, 0) ∷ (1, 1) ∷ []), (λ i k b l m. same_below_one i k l.0 m.0), one_laid 1 1 ((0, 0) ∷ (1, 1) ∷ []), refl)
+
+-- both parts, as runs
+abbrev pub first_states : List State
+first_states = state (fresh_words 2) 1 u1 ∷ state (fresh_words 2) 2 u2 ∷ state (fresh_words 2) 2 u3 ∷ state (fresh_words 2) 2 u4 ∷ state (fresh_words 2) 2 u5 ∷ state (fresh_words 2) 2 u6 ∷ state claimed 2 u7 ∷ state drawn 2 u8 ∷ state drawn 2 u9 ∷ state drawn 2 u10 ∷ state history0 2 u11 ∷ state history1 2 u12 ∷ state undead 2 u13 ∷ state named0 2 u14 ∷ state named1 2 u15 ∷ state child0 2 u16 ∷ state child1 2 u17 ∷ state child2 2 u18 ∷ state child3 2 u19 ∷ state linked0 2 u20 ∷ state linked1 2 u21 ∷ state published 2 u22 ∷ state published 2 u23 ∷ state published 2 u24 ∷ state published 2 u25 ∷ state published 2 u26 ∷ state unclaimed 2 u27 ∷ state finished1 2 u28 ∷ []
+
+pub first_run : Run pair_setup (fresh_state 2) first_states
+first_run = (s1, (s2, (s3, (s4, (s5, (s6, (s7, (s8, (s9, (s10, (s11, (s12, (s13, (s14, (s15, (s16, (s17, (s18, (s19, (s20, (s21, (s22, (s23, (s24, (s25, (s26, (s27, (s28, tt))))))))))))))))))))))))))))
+
+pub first_along : Along (fresh_state 2 ∷ first_states) first_words
+first_along = (refl, inr (refl, inr (refl, inr (refl, inr (refl, inr (refl, inr (refl, inl (refl, inl (refl, inr (refl, inr (refl, inl (refl, inl (refl, inl (refl, inl (refl, inl (refl, inl (refl, inl (refl, inl (refl, inl (refl, inl (refl, inl (refl, inl (refl, inr (refl, inr (refl, inr (refl, inr (refl, inl (refl, inl (refl, inl refl)))))))))))))))))))))))))))))
+
+abbrev pub row_states : List State
+row_states = state finished1 2 u29 ∷ state finished1 2 u30 ∷ state finished1 2 u31 ∷ state finished1 2 u32 ∷ state finished1 2 u33 ∷ state stopped 2 u34 ∷ state rewound 2 u35 ∷ state rewound 2 u36 ∷ state laid 2 u37 ∷ state opened 2 u38 ∷ []
+
+row_along : Along row_states (finished1 ∷ row_words)
+row_along = (refl, inr (refl, inr (refl, inr (refl, inr (refl, inl (refl, inl (refl, inr (refl, inl (refl, inl (refl, inl refl))))))))))
+
+abbrev pub opened_states : List State
+opened_states = first_states ++ row_states
+
+pub opened_run : Run pair_setup (fresh_state 2) opened_states
+opened_run = run_append pair_setup (fresh_state 2) first_states row_states first_run (s29, (s30, (s31, (s32, (s33, (s34, (s35, (s36, (s37, (s38, tt))))))))))
+
+pub opened_along : Along (fresh_state 2 ∷ opened_states) opened_words
+opened_along = along_on (fresh_state 2) first_states row_states finished1 first_words row_words first_along row_along

@@ -3,3 +3,7 @@ pub mod SquareKinds
 pub mod SquareFull
 pub mod SquareTwice
 pub mod SquareChild
+pub mod SquareFreed
+pub mod PatchWords
+pub mod ChildWords
+pub mod SquareStock

@@ -1,10 +1,9 @@
 -- A further run with two blocks: after the patch of the square its first child is bisected, whose refinement edge is of the boundary, so that it is a patch of one member. Each line changes one word.
-use Rattle.std.specs.Prelude.{ℕ, ◌+◌, true, false, List, [], ◌∷◌}
+use Rattle.std.specs.Prelude.{ℕ, ◌+◌, true, false, List, [], ◌∷◌, ◌++◌}
 use Rattle.mesh_words.specs.Functions.{update}
 use Rattle.mesh_words.specs.NameWords.{name_code}
 use Rattle.mesh_words.specs.Places.{member_of, child_place}
 use Rattle.mesh_words.specs.Words.{Words, node}
-use Rattle.mesh_state.specs.Fresh.{fresh_words}
 use Rattle.mesh_steps.specs.States.{State}
 use Rattle.mesh_steps.specs.Steps.{Run}
 use Rattle.square_runs.specs.SquareRun.{name0, name1, Along}
@@ -68,9 +67,12 @@ unclaimed = let w = published in record w { claimed = update w.claimed at_child 
 abbrev pub finished2 : Words
 finished2 = let w = unclaimed in record w { round = 2; taken = 0 }
 
--- the words of the run, in order
+-- these words in order, after those with which the other run begins
+abbrev pub rest_words : List Words
+rest_words = claimed ∷ drawn ∷ history0 ∷ history1 ∷ undead ∷ named0 ∷ named1 ∷ kid0 ∷ kid1 ∷ kid2 ∷ kid3 ∷ linked ∷ published ∷ unclaimed ∷ finished2 ∷ []
+
 abbrev pub child_words : List Words
-child_words = fresh_words 2 ∷ pair.claimed ∷ pair.drawn ∷ pair.history0 ∷ pair.history1 ∷ pair.undead ∷ pair.named0 ∷ pair.named1 ∷ pair.child0 ∷ pair.child1 ∷ pair.child2 ∷ pair.child3 ∷ pair.linked0 ∷ pair.linked1 ∷ pair.published ∷ pair.unclaimed ∷ pair.finished1 ∷ pair.stopped ∷ pair.rewound ∷ pair.laid ∷ pair.opened ∷ claimed ∷ drawn ∷ history0 ∷ history1 ∷ undead ∷ named0 ∷ named1 ∷ kid0 ∷ kid1 ∷ kid2 ∷ kid3 ∷ linked ∷ published ∷ unclaimed ∷ finished2 ∷ []
+child_words = pair.opened_words ++ rest_words
 
 -- the law that the run is one: its states come from the fresh one, each by a step from the one before, and have these words
 abbrev pub SquareChild : Type 0

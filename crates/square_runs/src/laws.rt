@@ -1,8 +1,10 @@
 //! Laws over the definitions alone.
 ghost use Rattle.square_runs.specs.SquareChild.{ChildReads, SquareChild};
+ghost use Rattle.square_runs.specs.SquareFreed.{FreesAlone, SquareFreed};
 ghost use Rattle.square_runs.specs.SquareFull.{SquareFull, SquareUndrawn};
 ghost use Rattle.square_runs.specs.SquareKinds.{KindsOccur, RunsLawful, TwoWords, WorkersClaim};
 ghost use Rattle.square_runs.specs.SquareRun.{SquareFollows, SquareReads, SquareRefused, SquareRuns, SquareVisits};
+ghost use Rattle.square_runs.specs.SquareStock.{GrownWalked, RowKept, SquareStock, StockDrawn};
 ghost use Rattle.square_runs.specs.SquareTwice.{SquareTwice, TwiceReads};
 
 /// There are runs of steps on the square, from the claim of its patch to the second draw of its block,
@@ -19,6 +21,12 @@ pub fn laws()
     ensures twice_reads { TwiceReads }
     ensures child { SquareChild }
     ensures child_reads { ChildReads }
+    ensures freed { SquareFreed }
+    ensures frees_alone { FreesAlone }
+    ensures stock { SquareStock }
+    ensures row_kept { RowKept }
+    ensures stock_drawn { StockDrawn }
+    ensures grown { GrownWalked }
     ensures lawful { RunsLawful }
     ensures two_words { TwoWords }
     ensures workers_claim { WorkersClaim }

@@ -3,6 +3,8 @@ use Rattle.square_runs.proofs.SquareReads.{square_reads}
 use Rattle.square_runs.proofs.SquareFollows.{square_follows}
 use Rattle.square_runs.proofs.SquareRefused.{square_refused}
 use Rattle.square_runs.proofs.SquareVisits.{square_visits}
+use Rattle.square_runs.proofs.SquareFreed.{square_freed, frees_alone}
+use Rattle.square_runs.proofs.SquareStock3.{square_stock, row_kept, stock_drawn, grown_walked}
 use Rattle.square_runs.proofs.SquareFull.{square_full}
 use Rattle.square_runs.proofs.SquareUndrawn.{square_undrawn}
 use Rattle.square_runs.proofs.SquareTwice.{square_twice}
@@ -56,3 +58,21 @@ returns-clause-two_words c = two_words
 
 pub returns-clause-workers_claim : goal.returns-clause-workers_claim
 returns-clause-workers_claim c = workers_claim
+
+pub returns-clause-freed : goal.returns-clause-freed
+returns-clause-freed c = square_freed
+
+pub returns-clause-frees_alone : goal.returns-clause-frees_alone
+returns-clause-frees_alone c = frees_alone
+
+pub returns-clause-stock : goal.returns-clause-stock
+returns-clause-stock c = square_stock
+
+pub returns-clause-row_kept : goal.returns-clause-row_kept
+returns-clause-row_kept c = row_kept
+
+pub returns-clause-stock_drawn : goal.returns-clause-stock_drawn
+returns-clause-stock_drawn c = stock_drawn
+
+pub returns-clause-grown : goal.returns-clause-grown
+returns-clause-grown c = grown_walked
