@@ -1,20 +1,15 @@
--- What a step changes: at most one word, which the seat that steps may change, and the view of that seat, but at split and join, where there is another seat.
+-- What a step changes: it writes at most one word, which the seat that steps may write, and the view of that seat, but at split and join, where there is another seat.
 use Rattle.std.specs.Prelude.{◌≡◌, ℕ, ◌+◌, Bool, ◌⊎◌}
 use Rattle.mesh_words.specs.Claims.{Claimed, Drawn, Half, Whole, claim}
 use Rattle.mesh_words.specs.Entries.{HasEntry}
 use Rattle.mesh_words.specs.Functions.{update}
+use Rattle.mesh_words.specs.Writes.{Write, WriteNothing, WriteRound, WriteCursor, WriteFree, WriteReleased, WriteRow, WriteClaim, WriteLink, WriteLinkAndClaim, WriteHistory, WriteBorn, WriteDied, WriteName, written}
 use Rattle.mesh_words.specs.Places.{member_of, child_place}
 use Rattle.mesh_words.specs.Setup.{Setup}
 use Rattle.mesh_words.specs.Words.{Node, node, Words}
 use Rattle.mesh_words.specs.Views.{Resting, FirstHalf, SecondHalf, Closing, Worker, Reader, Views}
 use Rattle.mesh_steps.specs.States.{State}
 use Rattle.mesh_steps.specs.Steps.{Step}
-
--- one word of the words a is another in b: ROUND, CURSOR, FREE, RELEASED of a round, a row, a LINK word, which is a claim bit and a node, or a word of a block
-abbrev pub ChangesWord : Words → Words → Type 0
-ChangesWord a b = ((r t : ℕ) × (b ≡ record a { round = r; taken = t })) ⊎ ((k : ℕ) × (b ≡ record a { cursor = k })) ⊎ ((k : ℕ) × (b ≡ record a { free = k })) ⊎ ((q k : ℕ) × (b ≡ record a { released = update a.released q k })) ⊎ ((i k : ℕ) × (b ≡ record a { row = update a.row i k }))
-    ⊎ ((x k : ℕ) × (b ≡ record a { claimed = update a.claimed x k })) ⊎ ((x : ℕ) × (l : Node) × (b ≡ record a { head = update a.head x l })) ⊎ ((x k : ℕ) × (l : Node) × (b ≡ record a { head = update a.head x l; claimed = update a.claimed x k }))
-    ⊎ ((h : ℕ) × (l : Node) × (b ≡ record a { hist = update a.hist h l })) ⊎ ((c k : ℕ) × (b ≡ record a { born = update a.born c k })) ⊎ ((c k : ℕ) × (b ≡ record a { died = update a.died c k })) ⊎ ((h k : ℕ) × (b ≡ record a { name = update a.name h k }))
 
 -- the functions agree but at j and k
 abbrev pub ChangesAt : {A : Type 0} → ℕ → ℕ → (ℕ → A) → (ℕ → A) → Type 0
@@ -24,36 +19,77 @@ ChangesAt {A} j k f g = (g ≡ f) ⊎ ((a : A) × (g ≡ update f j a)) ⊎ ((a 
 abbrev pub ChangesViews : ℕ → ℕ → Views → Views → Type 0
 ChangesViews j k a b = ChangesAt j k a.kind b.kind × ChangesAt j k a.claims b.claims × ChangesAt j k a.work b.work × ChangesAt j k a.sure b.sure × ChangesAt j k a.read b.read × ((b.ruling ≡ a.ruling) ⊎ (j ≡ 0))
 
--- a word of the block c changes, HISTORY, NAME or DIED, or the LINK of one of its children
-abbrev pub FillsBlock : Setup → Words → ℕ → Words → Type 0
-FillsBlock s w c a = ((t : Bool) × (((l : Node) × (a ≡ record w { hist = update w.hist (member_of c t) l })) ⊎ ((k : ℕ) × (a ≡ record w { name = update w.name (member_of c t) k })) ⊎ ((u : Bool) × (l : Node) × (a ≡ record w { head = update w.head (child_place s.elements c t u) l })))) ⊎ ((k : ℕ) × (a ≡ record w { died = update w.died c k }))
+-- the block c was drawn for a claim of the seat, and is not linked yet
+abbrev pub HasDrawn : Views → ℕ → ℕ → Type 0
+HasDrawn v j c = (x m : ℕ) × HasEntry (v.claims j) (claim x m (Drawn c))
 
--- a worker's pass sets a claim bit, draws for its claim, fills the block that it drew, leads the LINK words of its claim's places to it, sets its BORN, and DIED of a block that it found for a patch
-abbrev pub WorkerChanges : Setup → Words → Views → ℕ → Words → Type 0
-WorkerChanges s w v j a = (v.kind j ≡ Worker) × (((x : ℕ) × (w.claimed x ≡ 0) × (a ≡ record w { claimed = update w.claimed x 1 })) ⊎ ((x m : ℕ) × HasEntry (v.claims j) (claim x m Claimed) × (a ≡ record w { cursor = w.cursor + 1 }))
-    ⊎ ((x m c : ℕ) × HasEntry (v.claims j) (claim x m (Drawn c)) × FillsBlock s w c a) ⊎ ((x m c : ℕ) × HasEntry (v.claims j) (claim x m (Drawn c)) × (a ≡ record w { head = update w.head x (node (c + 1) 0) }))
-    ⊎ ((x y c : ℕ) × HasEntry (v.claims j) (claim x (y + 1) (Half c)) × (a ≡ record w { head = update w.head y (node (c + 1) 0) })) ⊎ ((x m c : ℕ) × HasEntry (v.claims j) (claim x m (Whole c)) × (a ≡ record w { born = update w.born c (v.work j).round }))
-    ⊎ ((c k : ℕ) × HasEntry (v.work j).given (c, k) × (w.died c ≡ 0) × (a ≡ record w { died = update w.died c (v.work j).round })))
+-- the member h is of such a block
+abbrev pub FillsMember : Views → ℕ → ℕ → Type 0
+FillsMember v j h = (c : ℕ) × (t : Bool) × HasDrawn v j c × (h ≡ member_of c t)
+
+-- the LINK word of x is of a child of such a block; or it is of the first or second place of a claim of the seat, and l leads to the claim's block
+abbrev pub LeadsLink : Setup → Views → ℕ → ℕ → Node → Type 0
+LeadsLink s v j x l = ((c : ℕ) × (t u : Bool) × HasDrawn v j c × (x ≡ child_place s.elements c t u))
+    ⊎ ((c : ℕ) × (((m : ℕ) × HasEntry (v.claims j) (claim x m (Drawn c))) ⊎ ((y : ℕ) × HasEntry (v.claims j) (claim y (x + 1) (Half c)))) × (l ≡ node (c + 1) 0))
+
+-- A worker's pass sets a claim bit, draws for its claim, fills the block that it drew, leads the LINK words of its claim's places to it, sets its BORN, and DIED of a block that it found for a patch
+abbrev pub WorkerWrites : Setup → Words → Views → ℕ → Write → Type 0
+WorkerWrites s w v j WriteNothing = Unit {0}
+WorkerWrites s w v j (WriteRound r t) = ⊥
+WorkerWrites s w v j (WriteCursor k) = (k ≡ w.cursor + 1) × ((x m : ℕ) × HasEntry (v.claims j) (claim x m Claimed))
+WorkerWrites s w v j (WriteFree k) = ⊥
+WorkerWrites s w v j (WriteReleased q k) = ⊥
+WorkerWrites s w v j (WriteRow i k) = ⊥
+WorkerWrites s w v j (WriteClaim x k) = (w.claimed x ≡ 0) × (k ≡ 1)
+WorkerWrites s w v j (WriteLink x l) = LeadsLink s v j x l
+WorkerWrites s w v j (WriteLinkAndClaim x l k) = ⊥
+WorkerWrites s w v j (WriteHistory h l) = FillsMember v j h
+WorkerWrites s w v j (WriteBorn c k) = (k ≡ (v.work j).round) × ((x m : ℕ) × HasEntry (v.claims j) (claim x m (Whole c)))
+WorkerWrites s w v j (WriteDied c k) = HasDrawn v j c ⊎ ((w.died c ≡ 0) × (k ≡ (v.work j).round) × ((n : ℕ) × HasEntry (v.work j).given (c, n)))
+WorkerWrites s w v j (WriteName h k) = FillsMember v j h
 
 -- a reader's pass takes a pin of the round that ROUND shows, and gives its own back
-abbrev pub ReaderChanges : Words → Views → ℕ → Words → Type 0
-ReaderChanges w v j a = (v.kind j ≡ Reader) × ((((v.read j).pin ≡ 0) × (a ≡ record w { taken = w.taken + 1 })) ⊎ ((q : ℕ) × ((v.read j).pin ≡ q + 1) × (a ≡ record w { released = update w.released q (w.released q + 1) })))
+abbrev pub ReaderWrites : Words → Views → ℕ → Write → Type 0
+ReaderWrites w v j WriteNothing = Unit {0}
+ReaderWrites w v j (WriteRound r t) = (r ≡ w.round) × (t ≡ w.taken + 1) × ((v.read j).pin ≡ 0)
+ReaderWrites w v j (WriteCursor k) = ⊥
+ReaderWrites w v j (WriteFree k) = ⊥
+ReaderWrites w v j (WriteReleased q k) = (k ≡ w.released q + 1) × ((v.read j).pin ≡ q + 1)
+ReaderWrites w v j (WriteRow i k) = ⊥
+ReaderWrites w v j (WriteClaim x k) = ⊥
+ReaderWrites w v j (WriteLink x l) = ⊥
+ReaderWrites w v j (WriteLinkAndClaim x l k) = ⊥
+ReaderWrites w v j (WriteHistory h l) = ⊥
+ReaderWrites w v j (WriteBorn c k) = ⊥
+ReaderWrites w v j (WriteDied c k) = ⊥
+ReaderWrites w v j (WriteName h k) = ⊥
 
--- the owner, in neither half: it ends a closed round; between rounds it changes CURSOR, FREE, rows and HISTORY words; it takes claim bits away, changes LINK words, and sets BORN to 0, and DIED of a block that was taken back
-abbrev pub OwnerChanges : Words → Views → ℕ → Words → Type 0
-OwnerChanges w v j a = (j ≡ 0) × ((v.ruling.phase ≡ FirstHalf → ⊥) × (v.ruling.phase ≡ SecondHalf → ⊥)) × (((v.ruling.phase ≡ Closing) × (a ≡ record w { round = w.round + 1; taken = 0 }))
-    ⊎ ((v.ruling.phase ≡ Resting) × ((a ≡ record w { cursor = 0 }) ⊎ ((k : ℕ) × (a ≡ record w { free = k })) ⊎ ((i k : ℕ) × (a ≡ record w { row = update w.row i k })) ⊎ ((h : ℕ) × (l : Node) × (a ≡ record w { hist = update w.hist h l }))))
-    ⊎ ((x : ℕ) × (a ≡ record w { claimed = update w.claimed x 0 })) ⊎ ((x : ℕ) × (l : Node) × (a ≡ record w { head = update w.head x l })) ⊎ ((x : ℕ) × (l : Node) × (a ≡ record w { head = update w.head x l; claimed = update w.claimed x 0 }))
-    ⊎ ((c : ℕ) × (a ≡ record w { born = update w.born c 0 })) ⊎ ((c : ℕ) × HasEntry v.ruling.undone c × (a ≡ record w { died = update w.died c (v.ruling.finished + 1) })))
+-- The owner ends a closed round; between rounds it writes CURSOR, FREE, rows and HISTORY words; it takes claim bits away, writes LINK words, and sets BORN to 0, and DIED of a block that was taken back
+abbrev pub OwnerWrites : Words → Views → Write → Type 0
+OwnerWrites w v WriteNothing = Unit {0}
+OwnerWrites w v (WriteRound r t) = (r ≡ w.round + 1) × (t ≡ 0) × (v.ruling.phase ≡ Closing)
+OwnerWrites w v (WriteCursor k) = (k ≡ 0) × (v.ruling.phase ≡ Resting)
+OwnerWrites w v (WriteFree k) = v.ruling.phase ≡ Resting
+OwnerWrites w v (WriteReleased q k) = ⊥
+OwnerWrites w v (WriteRow i k) = v.ruling.phase ≡ Resting
+OwnerWrites w v (WriteClaim x k) = k ≡ 0
+OwnerWrites w v (WriteLink x l) = Unit {0}
+OwnerWrites w v (WriteLinkAndClaim x l k) = k ≡ 0
+OwnerWrites w v (WriteHistory h l) = v.ruling.phase ≡ Resting
+OwnerWrites w v (WriteBorn c k) = k ≡ 0
+OwnerWrites w v (WriteDied c k) = (k ≡ v.ruling.finished + 1) × HasEntry v.ruling.undone c
+OwnerWrites w v (WriteName h k) = ⊥
 
--- the seat j may make the words w those of a: no word changes, or one that its kind of seat may change so
-abbrev pub MayChange : Setup → Words → Views → ℕ → Words → Type 0
-MayChange s w v j a = (a ≡ w) ⊎ WorkerChanges s w v j a ⊎ ReaderChanges w v j a ⊎ OwnerChanges w v j a
+-- the seat j may write so: nothing, or a word that its kind of seat may write, which the owner does in neither half
+abbrev pub MayWrite : Setup → Words → Views → ℕ → Write → Type 0
+MayWrite s w v j u = (u ≡ WriteNothing) ⊎ ((v.kind j ≡ Worker) × WorkerWrites s w v j u) ⊎ ((v.kind j ≡ Reader) × ReaderWrites w v j u)
+    ⊎ ((j ≡ 0) × ((v.ruling.phase ≡ FirstHalf → ⊥) × (v.ruling.phase ≡ SecondHalf → ⊥)) × OwnerWrites w v u)
 
--- the seat j steps; another seat k changes only by a step of the owner, and one is made only then
+-- one write is made, by the seat j, which steps; another seat k changes only by a step of the owner, and one is made only then
 abbrev pub IsLocal : Setup → Words → ℕ → Views → State → Type 0
-IsLocal s w n v b = ((b.words ≡ w) ⊎ ChangesWord w b.words) × ((j k : ℕ) × MayChange s w v j b.words × ((k ≡ j) ⊎ (j ≡ 0)) × ((b.seats ≡ n) ⊎ ((j ≡ 0) × (k ≡ n) × (b.seats ≡ n + 1))) × ChangesViews j k v b.views)
+IsLocal s w n v b = (u : Write) × (b.words ≡ written w u)
+    × ((j k : ℕ) × MayWrite s w v j u × ((k ≡ j) ⊎ (j ≡ 0)) × ((b.seats ≡ n) ⊎ ((j ≡ 0) × (k ≡ n) × (b.seats ≡ n + 1))) × ChangesViews j k v b.views)
 
--- the law that each step changes at most one word, which its seat may change so, and the view of that seat alone, but for the seat that a split makes or a join ends
+-- the law that each step writes at most one word, which its seat may write so, and changes the view of that seat alone, but for the seat that a split makes or a join ends
 abbrev pub StepsLocal : Type 0
 StepsLocal = (s : Setup) (a b : State) → Step s a b → IsLocal s a.words a.seats a.views b

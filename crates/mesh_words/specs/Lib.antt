@@ -11,3 +11,4 @@ pub mod Claims
 pub mod Views
 pub mod Setup
 pub mod FreshWords
+pub mod Writes

@@ -1,10 +1,11 @@
 -- Each kind of step occurs in a run on the square, and what a run reaches is lawful.
-use Rattle.std.proofs.Common.{◌≡◌, ℕ, zero, suc, List, [], ◌∷◌, refl, ap, subst, inl, inr, arith}
+use Rattle.std.proofs.Common.{◌≡◌, ℕ, zero, suc, List, [], ◌∷◌, refl, sym, ◌∙◌, ap, subst, inl, inr, arith}
 use Rattle.mesh_words.specs.Functions.{update}
 use Rattle.mesh_words.specs.Views.{Views}
 use Rattle.mesh_words.specs.Words.{Words}
 use Rattle.mesh_words.proofs.Functions.{update_cases}
-use Rattle.mesh_steps.specs.Local.{OwnerChanges}
+use Rattle.mesh_words.specs.Writes.{Write, WriteNothing, WriteRound, WriteCursor, WriteFree, WriteReleased, WriteRow, WriteClaim, WriteLink, WriteLinkAndClaim, WriteHistory, WriteBorn, WriteDied, WriteName, written}
+use Rattle.mesh_steps.specs.Local.{ReaderWrites, OwnerWrites}
 use Rattle.mesh_names.specs.Squares.{square}
 use Rattle.mesh_names.specs.Validity.{across_of}
 use Rattle.mesh_names.proofs.Squares.{squares_fit}
@@ -60,18 +61,19 @@ counted : (w : Words) → one.drawn ≡ w → w.cursor ≡ 0 → ⊥
 counted w e z = let a : 1 ≡ w.cursor = ap (λ (u : Words). u.cursor) e in omega arith
 
 pub two_words : TwoWords
-two_words (inl h) = counted _ h.2 refl
-two_words (inr (inl h)) = let a : ◌≡◌ {A = ℕ} 1 0 = ap (λ (u : Words). u.claimed 0) h.1 in omega arith
-two_words (inr (inr (inl h))) = counted _ h.1 refl
-two_words (inr (inr (inr (inl h)))) = counted _ h.2 refl
-two_words (inr (inr (inr (inr (inl h))))) = counted _ h.2 refl
-two_words (inr (inr (inr (inr (inr (inl h)))))) = counted _ h.2 refl
-two_words (inr (inr (inr (inr (inr (inr (inl h))))))) = counted _ h.2 refl
-two_words (inr (inr (inr (inr (inr (inr (inr (inl h)))))))) = counted _ h.3 refl
-two_words (inr (inr (inr (inr (inr (inr (inr (inr (inl h))))))))) = counted _ h.2 refl
-two_words (inr (inr (inr (inr (inr (inr (inr (inr (inr (inl h)))))))))) = counted _ h.2 refl
-two_words (inr (inr (inr (inr (inr (inr (inr (inr (inr (inr (inl h))))))))))) = counted _ h.2 refl
-two_words (inr (inr (inr (inr (inr (inr (inr (inr (inr (inr (inr h))))))))))) = counted _ h.2 refl
+two_words WriteNothing e = counted _ (sym e) refl
+two_words (WriteRound r t) e = counted _ (sym e) refl
+two_words (WriteCursor k) e = let a : ◌≡◌ {A = ℕ} 1 0 = ap (λ (u : Words). u.claimed 0) (sym e) in omega arith
+two_words (WriteFree k) e = counted _ (sym e) refl
+two_words (WriteReleased q k) e = counted _ (sym e) refl
+two_words (WriteRow i k) e = counted _ (sym e) refl
+two_words (WriteClaim x k) e = counted _ (sym e) refl
+two_words (WriteLink x l) e = counted _ (sym e) refl
+two_words (WriteLinkAndClaim x l k) e = counted _ (sym e) refl
+two_words (WriteHistory h l) e = counted _ (sym e) refl
+two_words (WriteBorn c k) e = counted _ (sym e) refl
+two_words (WriteDied c k) e = counted _ (sym e) refl
+two_words (WriteName h k) e = counted _ (sym e) refl
 
 -- the claim bit is set after the claim
 unset : (w : Words) → one.claimed ≡ w → w.claimed 0 ≡ 0 → ⊥
@@ -80,24 +82,41 @@ unset w e z = let a : 1 ≡ w.claimed 0 = ap (λ (u : Words). u.claimed 0) e in 
 taken_away : (x : ℕ) → update (fresh_words 1).claimed x 0 0 ≡ 0
 taken_away x = update_cases (λ _ b. b ≡ 0) (fresh_words 1).claimed x 0 refl (λ _ _. refl) 0
 
-not_owners : (v : Views) (j : ℕ) → OwnerChanges (fresh_words 1) v j one.claimed → ⊥
-not_owners v j (_, _, inl h) = unset _ h.1 refl
-not_owners v j (_, _, inr (inl (_, inl e))) = unset _ e refl
-not_owners v j (_, _, inr (inl (_, inr (inl h)))) = unset _ h.1 refl
-not_owners v j (_, _, inr (inl (_, inr (inr (inl h))))) = unset _ h.2 refl
-not_owners v j (_, _, inr (inl (_, inr (inr (inr h))))) = unset _ h.2 refl
-not_owners v j (_, _, inr (inr (inl h))) = unset _ h.1 (taken_away h.0)
-not_owners v j (_, _, inr (inr (inr (inl h)))) = unset _ h.2 refl
-not_owners v j (_, _, inr (inr (inr (inr (inl h))))) = unset _ h.2 (taken_away h.0)
-not_owners v j (_, _, inr (inr (inr (inr (inr (inl h)))))) = unset _ h.1 refl
-not_owners v j (_, _, inr (inr (inr (inr (inr (inr h)))))) = unset _ h.2 refl
+not_readers : (v : Views) (j : ℕ) (u : Write) → written (fresh_words 1) u ≡ one.claimed → ReaderWrites (fresh_words 1) v j u → ⊥
+not_readers v j WriteNothing e may = unset _ (sym e) refl
+not_readers v j (WriteRound r t) e may = unset _ (sym e) refl
+not_readers v j (WriteCursor k) e may = may
+not_readers v j (WriteFree k) e may = may
+not_readers v j (WriteReleased q k) e may = unset _ (sym e) refl
+not_readers v j (WriteRow i k) e may = may
+not_readers v j (WriteClaim x k) e may = may
+not_readers v j (WriteLink x l) e may = may
+not_readers v j (WriteLinkAndClaim x l k) e may = may
+not_readers v j (WriteHistory h l) e may = may
+not_readers v j (WriteBorn c k) e may = may
+not_readers v j (WriteDied c k) e may = may
+not_readers v j (WriteName h k) e may = may
+
+not_owners : (v : Views) (u : Write) → written (fresh_words 1) u ≡ one.claimed → OwnerWrites (fresh_words 1) v u → ⊥
+not_owners v WriteNothing e may = unset _ (sym e) refl
+not_owners v (WriteRound r t) e may = unset _ (sym e) refl
+not_owners v (WriteCursor k) e may = unset _ (sym e) refl
+not_owners v (WriteFree k) e may = unset _ (sym e) refl
+not_owners v (WriteReleased q k) e may = may
+not_owners v (WriteRow i k) e may = unset _ (sym e) refl
+not_owners v (WriteClaim x k) e may = unset _ (sym e) (subst (λ (i : ℕ). update (fresh_words 1).claimed x i 0 ≡ 0) (sym may) (taken_away x))
+not_owners v (WriteLink x l) e may = unset _ (sym e) refl
+not_owners v (WriteLinkAndClaim x l k) e may = unset _ (sym e) (subst (λ (i : ℕ). update (fresh_words 1).claimed x i 0 ≡ 0) (sym may) (taken_away x))
+not_owners v (WriteHistory h l) e may = unset _ (sym e) refl
+not_owners v (WriteBorn c k) e may = unset _ (sym e) refl
+not_owners v (WriteDied c k) e may = unset _ (sym e) refl
+not_owners v (WriteName h k) e may = may
 
 pub workers_claim : WorkersClaim
-workers_claim v j (inl e) = absurd (unset _ e refl)
-workers_claim v j (inr (inl h)) = h.0
-workers_claim v j (inr (inr (inl (_, inl h)))) = absurd (unset _ h.1 refl)
-workers_claim v j (inr (inr (inl (_, inr h)))) = absurd (unset _ h.2 refl)
-workers_claim v j (inr (inr (inr h))) = absurd (not_owners v j h)
+workers_claim v j u e (inl n) = absurd (unset (fresh_words 1) (sym e ∙ ap (written (fresh_words 1)) n) refl)
+workers_claim v j u e (inr (inl may)) = may.0
+workers_claim v j u e (inr (inr (inl may))) = absurd (not_readers v j u e may.1)
+workers_claim v j u e (inr (inr (inr may))) = absurd (not_owners v u e may.2)
 
 pub kinds_occur : KindsOccur
 kinds_occur = record {

@@ -12,7 +12,8 @@ use Rattle.mesh_steps.specs.OwnerSteps.{NoteClear, LoadCursor, LoadFree, NoteFre
 use Rattle.mesh_steps.specs.SweepSteps.{StampStep, UnclaimStep, CutLink, CutHistory, FreeStep, ZeroStep, StopStep, RewindStep, RowStep, OpenStep, UnbearStep, UnlinkSecond, UnlinkFirst, BuryStep, UndrawStep}
 use Rattle.mesh_steps.specs.States.{StepKind, State, state, IsLawful}
 use Rattle.mesh_steps.specs.Steps.{Run, Step}
-use Rattle.mesh_steps.specs.Local.{ChangesWord, MayChange}
+use Rattle.mesh_words.specs.Writes.{Write, WriteClaim, written}
+use Rattle.mesh_steps.specs.Local.{MayWrite}
 use Rattle.square_runs.specs.SquareRun.{claimed, drawn}
 
 -- a table over the square with so many blocks, for four rounds and one reader's pass, and its fresh state
@@ -41,11 +42,11 @@ Occurs pool K = (a b : State) × RunsTo pool a × K (square_with pool) a.words a
 
 -- the law that a claim and a draw are not one change of a word
 abbrev pub TwoWords : Type 0
-TwoWords = ChangesWord (fresh_words 1) drawn → ⊥
+TwoWords = (u : Write) → written (fresh_words 1) u ≡ drawn → ⊥
 
 -- the law that the first claim of a run is a change that a worker's pass alone may make
 abbrev pub WorkersClaim : Type 0
-WorkersClaim = (v : Views) (j : ℕ) → MayChange (square_with 1) (fresh_words 1) v j claimed → v.kind j ≡ Worker
+WorkersClaim = (v : Views) (j : ℕ) (u : Write) → written (fresh_words 1) u ≡ claimed → MayWrite (square_with 1) (fresh_words 1) v j u → v.kind j ≡ Worker
 
 -- the law that each kind of step occurs, with one block or with two
 pub record KindsOccur : Type 0 where
