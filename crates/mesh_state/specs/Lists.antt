@@ -22,7 +22,8 @@ pub record IsTarget (s : Setup) (Old : ℕ → Type 0) (p : Plan) : Type 0 where
   pub closed : IsClosed s (HasEntry p.target)
   pub olds : (n : ℕ) → Old n → HasEntry p.target n
   pub needs : (n : ℕ) → HasEntry p.needs n → HasEntry p.target n
-  pub least : (other : ℕ → ℕ) → IsClosed s (Holds other) → ((n : ℕ) → Old n → Holds other n) → ((n : ℕ) → HasEntry p.needs n → Holds other n) → (n : ℕ) → HasEntry p.target n → Holds other n
+  pub least : (other : ℕ → ℕ) → IsClosed s (Holds other) → ((n : ℕ) → Old n → Holds other n) → ((n : ℕ) → HasEntry p.needs n → Holds other n) → (n : ℕ)
+      → HasEntry p.target n → Holds other n
 
 -- n is a member of the patch whose first member is k
 abbrev pub IsMember : Setup → ℕ → ℕ → Type 0
@@ -66,13 +67,15 @@ pub record DrawnRule (phase cursor free : ℕ) (row : ℕ → ℕ) (kind : ℕ �
 
 -- in the first half each claim for which a draw was made has its block, or none, by a draw that the claim's seat has
 abbrev pub DrawnFor : ℕ → (ℕ → Work) → (ℕ → Stage) → Type 0
-DrawnFor phase work stage = (x j m : ℕ) (p : Progress) → phase ≡ first_half → stage x ≡ Held j m p → draws p ≡ 1 → (i : ℕ) × HasEntry (work j).drawn (i, block_of p)
+DrawnFor phase work stage = (x j m : ℕ) (p : Progress) → phase ≡ first_half → stage x ≡ Held j m p → draws p ≡ 1 → (i : ℕ)
+    × HasEntry (work j).drawn (i, block_of p)
 
 -- who is at work
 pub record CrewRule (s : Setup) (round phase : ℕ) (kind : ℕ → ℕ) (work : ℕ → Work) (stage : ℕ → Stage) (lone : ℕ) : Type 0 where
   -- a round in work is one of those for which the table was made
   pub rounds : (round ≤ s.rounds) × (resting < phase → round < s.rounds)
   -- while a pass of worker 0 is out in the first half, no other worker's is, and each claim without a living block is its own
-  pub alone : (j : ℕ) → phase ≡ first_half → kind j ≡ worker → (work j).number ≡ 0 → ((i : ℕ) → kind i ≡ worker → i ≡ j) × ((x i m : ℕ) (p : Progress) → stage x ≡ Held i m p → (i ≡ j) ⊎ ((b : ℕ) × (p ≡ Living b)))
+  pub alone : (j : ℕ) → phase ≡ first_half → kind j ≡ worker → (work j).number ≡ 0 → ((i : ℕ) → kind i ≡ worker → i ≡ j)
+      × ((x i m : ℕ) (p : Progress) → stage x ≡ Held i m p → (i ≡ j) ⊎ ((b : ℕ) × (p ≡ Living b)))
   -- the owner knows where none is out
   pub none : (j : ℕ) → phase ≡ first_half → lone ≡ 0 → kind j ≡ worker → (work j).number ≡ 0 → ⊥

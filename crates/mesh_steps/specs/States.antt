@@ -16,6 +16,7 @@ state w n v = record { words = w; seats = n; views = v }
 abbrev pub IsLawful : Setup → State → Type 0
 IsLawful s a = Lawful s a.words a.seats a.views
 
--- A kind of step: from words, seats and views to the state after it. Its condition speaks of the view of the seat that steps, of the numbers that it is given, and of the numbers that it finds in the words
+-- A kind of step: from words, seats and views to the state after it. Its condition speaks of the view of the
+-- seat that steps, of the numbers that it is given, and of the numbers that it finds in the words
 abbrev pub Kind : Type 1
 Kind = Setup → Words → ℕ → Views → State → Type 0

@@ -1,4 +1,5 @@
--- The words of a bisection of the square's patch by block 0, where its LINK words name no block: each as a function of the words before it. Each line changes one word.
+-- The words of a bisection of the square's patch by block 0, where its LINK words name no
+-- block: each as a function of the words before it. Each line changes one word.
 use Rattle.std.specs.Prelude.{◌+◌, true, false}
 use Rattle.mesh_words.specs.Functions.{update}
 use Rattle.mesh_words.specs.Places.{member_of, child_place}

@@ -1,4 +1,5 @@
--- A second run on the square, with two blocks: the patch is bisected, retired, and bisected again while its old block is still behind the new one, until that is cut out. Each line changes one word.
+-- A second run on the square, with two blocks: the patch is bisected, retired, and bisected again while
+-- its old block is still behind the new one, until that is cut out. Each line changes one word.
 use Rattle.std.specs.Prelude.{ℕ, ◌+◌, ◌≤◌, true, false, List, [], ◌∷◌, ◌++◌, ◌↔◌}
 use Rattle.mesh_names.specs.Names.{Name, depth}
 use Rattle.mesh_words.specs.Entries.{HasEntry}
@@ -158,7 +159,8 @@ cut1 = let w = cut0 in record w { hist = update w.hist (member_of 1 true) (node 
 
 -- the words of the first round, in order, those before the second, and those of the rest of the run
 abbrev pub first_words : List Words
-first_words = fresh_words 2 ∷ claimed ∷ drawn ∷ history0 ∷ history1 ∷ undead ∷ named0 ∷ named1 ∷ child0 ∷ child1 ∷ child2 ∷ child3 ∷ linked0 ∷ linked1 ∷ published ∷ unclaimed ∷ finished1 ∷ []
+first_words = fresh_words 2 ∷ claimed ∷ drawn ∷ history0 ∷ history1 ∷ undead ∷ named0 ∷ named1 ∷ child0 ∷ child1 ∷ child2 ∷ child3 ∷ linked0 ∷ linked1
+    ∷ published ∷ unclaimed ∷ finished1 ∷ []
 
 abbrev pub row_words : List Words
 row_words = stopped ∷ rewound ∷ laid ∷ opened ∷ []
@@ -167,7 +169,8 @@ abbrev pub opened_words : List Words
 opened_words = first_words ++ row_words
 
 abbrev pub rest_words : List Words
-rest_words = retired ∷ stamped0 ∷ stamped1 ∷ finished2 ∷ pinned ∷ claimed_again ∷ drawn_again ∷ history2 ∷ history3 ∷ undead_again ∷ named2 ∷ named3 ∷ child4 ∷ child5 ∷ child6 ∷ child7 ∷ linked2 ∷ linked3 ∷ published_again ∷ unclaimed_again ∷ finished3 ∷ cut0 ∷ cut1 ∷ []
+rest_words = retired ∷ stamped0 ∷ stamped1 ∷ finished2 ∷ pinned ∷ claimed_again ∷ drawn_again ∷ history2 ∷ history3 ∷ undead_again ∷ named2 ∷ named3 ∷ child4
+    ∷ child5 ∷ child6 ∷ child7 ∷ linked2 ∷ linked3 ∷ published_again ∷ unclaimed_again ∷ finished3 ∷ cut0 ∷ cut1 ∷ []
 
 abbrev pub twice_words : List Words
 twice_words = opened_words ++ rest_words
