@@ -1,6 +1,6 @@
 -- What the rule says of what seats know, and of blocks and claims of the round in work.
 use Rattle.std.specs.Prelude.{◌≡◌, ℕ, ◌+◌, ◌<◌, ◌≤◌, Bool, false, List, [], ◌⊎◌, ◌↔◌}
-use Rattle.mesh_words.specs.Views.{resting, first_half, second_half, closing, taking_back, worker, reader, ruler, Still, Work, unread}
+use Rattle.mesh_words.specs.Views.{resting, first_half, second_half, closing, taking_back, worker, reader, ruler, Still, At, Past, Work, unread}
 use Rattle.mesh_words.specs.Claims.{Progress, Drawn, Half, Living, Claim, claim}
 use Rattle.mesh_words.specs.Entries.{HasEntry, Noted}
 use Rattle.mesh_words.specs.Places.{member_of, child_place}
@@ -108,6 +108,15 @@ RetiredNoted = Always (λ s w n v g. (b : ℕ) → (((j : ℕ) × HasEntry (v.wo
 abbrev pub PinsOut : Type 0
 PinsOut = Always (λ s w n v g. ((q : ℕ) → g.pins q ≡ w.released q + sum_below n (λ j. one_where (v.read j).pin (q + 1))) × (g.pins w.round ≡ w.taken)
     × ((q k : ℕ) → HasEntry v.ruling.left (q, k) → (q < w.round) × (g.pins q ≡ k)))
+
+-- of no round, also of one that was left, were more pins taken or given back than this
+abbrev pub PinsOfRounds : Type 0
+PinsOfRounds = Always (λ s w n v g. (q : ℕ) → (g.pins q ≤ s.limit + s.passes + 1) × (w.released q ≤ s.limit + s.passes + 1))
+
+-- retired rounds fall along a reader's walk: that of the HISTORY word by which it goes on is below the one by which it came, where there was one
+abbrev pub RoundsFall : Type 0
+RoundsFall = Always (λ s w n v g. (j q x k b : ℕ) (t : Bool) → (v.read j).pin ≡ q + 1 → ((v.read j).walk ≡ At x k b t) ⊎ ((v.read j).walk ≡ Past x k b t)
+    → 0 < (v.read j).back → (w.hist (member_of b t)).died < (v.read j).back)
 
 -- the owner knows the last finished round, and what it noted of CURSOR, which is nothing in the first half, and of FREE
 abbrev pub NumbersKnown : Type 0
