@@ -68,10 +68,7 @@ abbrev pub second_words : List Words
 second_words = stopped ∷ rewound ∷ retired ∷ stamped0 ∷ stamped1 ∷ finished2 ∷ cut0 ∷ cut1 ∷ unborn ∷ laid ∷ opened ∷ []
 
 abbrev pub third_words : List Words
-third_words = root.claimed opened ∷ root.drawn opened ∷ root.history0 opened ∷ root.history1 opened ∷ root.undead opened ∷ root.named0 opened
-    ∷ root.named1 opened ∷ root.child0 opened ∷ root.child1 opened ∷ root.child2 opened ∷ root.child3 opened ∷ root.linked0 opened ∷ root.linked1 opened
-    ∷ bisected ∷ kid.claimed bisected ∷ kid.drawn bisected ∷ kid.history0 bisected ∷ kid.history1 bisected ∷ kid.undead bisected ∷ kid.named0 bisected
-    ∷ kid.named1 bisected ∷ kid.kid0 bisected ∷ kid.kid1 bisected ∷ kid.kid2 bisected ∷ kid.kid3 bisected ∷ kid.linked bisected ∷ bisected_more ∷ []
+third_words = root.bisection opened ++ bisected ∷ kid.bisection bisected ++ bisected_more ∷ []
 
 abbrev pub last_words : List Words
 last_words = unclaimed ∷ unclaimed_all ∷ finished3 ∷ []
