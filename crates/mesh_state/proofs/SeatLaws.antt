@@ -8,7 +8,7 @@ use Rattle.mesh_state.specs.Ghosts.{Held, Life, chained, stands}
 use Rattle.mesh_state.specs.Chains.{Finds}
 use Rattle.mesh_state.specs.Claims.{bit_of}
 use Rattle.mesh_state.specs.Bisections.{MayRead}
-use Rattle.mesh_state.specs.SeatLaws.{BeginsEqual, LivingClaimed, LivingBlocks, FindingsRight, FinishedFindings, WorkersWent, OneHalf, FilledStays, LoadedStays, OwnerSure, PinsCounted, LinkWords, HistoryWords, RetiredNoted, PinsOut, NumbersKnown, BlocksKnown, OthersEmpty, PassesCounted}
+use Rattle.mesh_state.specs.SeatLaws.{BeginsEqual, LivingClaimed, LivingBlocks, FindingsRight, FinishedFindings, WorkersWent, OneHalf, FilledStays, LoadedStays, OwnerSure, PinsCounted, LinkWords, HistoryWords, RetiredNoted, PinsOut, PinsOfRounds, RoundsFall, NumbersKnown, BlocksKnown, OthersEmpty, PassesCounted}
 use Rattle.mesh_state.proofs.FoundAgain.{one_more, placed}
 use Rattle.mesh_state.proofs.Across.{half_of, place_one, chained_of}
 use Rattle.mesh_state.proofs.Lawful.{walks_end}
@@ -111,6 +111,12 @@ retired_noted s w n v (g, r) b = (r.retireds b, λ t. r.retired b t.0 t.1 t.2 t.
 
 pub pins_out : PinsOut
 pins_out s w n v (g, r) = (r.pins.count, r.pins.now, r.stock.left)
+
+pub pins_of_rounds : PinsOfRounds
+pins_of_rounds s w n v (g, r) q = let m = r.pins.most q in let c = r.pins.count q in (m, omega arith)
+
+pub rounds_fall : RoundsFall
+rounds_fall s w n v (g, r) j q x k b t p at o = (r.goes j).dated q x k b t p at o
 
 pub numbers_known : NumbersKnown
 numbers_known s w n v (g, r) = (r.stock.finished, r.stock.cursor_is, r.stock.free_is)

@@ -9,18 +9,21 @@ use Rattle.mesh_state.specs.Chains.{Covers, Reaches}
 
 -- the element n stands at the place x, where `who` says which blocks bisect names: it is a macro element, or a child of a member of a block that bisects it
 abbrev pub IsPlaceOf : Setup → (ℕ → ℕ) → (ℕ → ℕ) → ℕ → ℕ → Type 0
-IsPlaceOf s name who x n = ((x < s.elements) × (n ≡ s.top x)) ⊎ ((b : ℕ) × (t c : Bool) × (x ≡ child_place s.elements b t c) × (who (name (member_of b t)) ≡ b + 1) × (n ≡ s.child (name (member_of b t)) c))
+IsPlaceOf s name who x n = ((x < s.elements) × (n ≡ s.top x))
+    ⊎ ((b : ℕ) × (t c : Bool) × (x ≡ child_place s.elements b t c) × (who (name (member_of b t)) ≡ b + 1) × (n ≡ s.child (name (member_of b t)) c))
 
 -- the words have what `who` says of the round q
 pub record Fits (s : Setup) (name : ℕ → ℕ) (head hist : ℕ → Node) (born died : ℕ → ℕ) (life : ℕ → Life) (who : ℕ → ℕ) (q : ℕ) : Type 0 where
   -- a name's block is found from the name's place
-  pub found : (n b : ℕ) → who n ≡ b + 1 → (t : Bool) × (x : ℕ) × (name (member_of b t) ≡ n) × (chained (life b) t ≡ x + 1) × IsPlaceOf s name who x n × Reaches hist born died life q x b (head x)
+  pub found : (n b : ℕ) → who n ≡ b + 1 → (t : Bool) × (x : ℕ) × (name (member_of b t) ≡ n) × (chained (life b) t ≡ x + 1) × IsPlaceOf s name who x n
+      × Reaches hist born died life q x b (head x)
   -- the members of a block are bisected together
   pub both : (b y : ℕ) (t u : Bool) → who (name (member_of b t)) ≡ b + 1 → chained (life b) u ≡ y + 1 → who (name (member_of b u)) ≡ b + 1
 
 -- a block in a chain that covers q bisects its members at q, and each stands at its place
 abbrev pub IsSound : Setup → (ℕ → ℕ) → (ℕ → ℕ) → (ℕ → ℕ) → (ℕ → Life) → (ℕ → ℕ) → ℕ → Type 0
-IsSound s name born died life who q = (b : ℕ) (t : Bool) (x : ℕ) → chained (life b) t ≡ x + 1 → Covers born died q b → (who (name (member_of b t)) ≡ b + 1) × IsPlaceOf s name who x (name (member_of b t))
+IsSound s name born died life who q = (b : ℕ) (t : Bool) (x : ℕ) → chained (life b) t ≡ x + 1 → Covers born died q b → (who (name (member_of b t)) ≡ b + 1)
+    × IsPlaceOf s name who x (name (member_of b t))
 
 -- the last finished round, or one of which a pin is out
 abbrev pub IsKept : ℕ → (ℕ → Read) → ℕ → Type 0
@@ -32,13 +35,15 @@ MayRead round phase read q = IsKept round read q ⊎ ((q ≡ round + 1) × (Prec
 
 -- the NAME words of a block are a patch, with a second member exactly where the block has a second place
 abbrev pub IsPatch : Setup → (ℕ → ℕ) → ℕ → ℕ → Type 0
-IsPatch s name b m = (s.leads (name (member_of b false)) ≡ true) × (name (member_of b true) ≡ s.mate (name (member_of b false))) × ((m ≡ 0) × (s.mate (name (member_of b false)) ≡ 0) ⊎ ((y : ℕ) × (k : ℕ) × (m ≡ y + 1) × (s.mate (name (member_of b false)) ≡ k + 1)))
+IsPatch s name b m = (s.leads (name (member_of b false)) ≡ true) × (name (member_of b true) ≡ s.mate (name (member_of b false)))
+    × ((m ≡ 0) × (s.mate (name (member_of b false)) ≡ 0) ⊎ ((y : ℕ) × (k : ℕ) × (m ≡ y + 1) × (s.mate (name (member_of b false)) ≡ k + 1)))
 
 -- the block was published and is not retired
 abbrev pub IsLiving : (ℕ → ℕ) → (ℕ → ℕ) → (ℕ → Life) → ℕ → Type 0
 IsLiving born died life b = (x : ℕ) × (m : ℕ) × (life b ≡ Placed x m) × (0 < born b) × (died b ≡ 0)
 
-pub record NamesRule (s : Setup) (round : ℕ) (phase : Phase) (name : ℕ → ℕ) (head hist : ℕ → Node) (born died : ℕ → ℕ) (life : ℕ → Life) (who : ℕ → ℕ → ℕ) (read : ℕ → Read) : Type 0 where
+pub record NamesRule (s : Setup) (round : ℕ) (phase : Phase) (name : ℕ → ℕ) (head hist : ℕ → Node) (born died : ℕ → ℕ) (life : ℕ → Life) (who : ℕ → ℕ → ℕ) (read : ℕ
+    → Read) : Type 0 where
   pub fits : (q : ℕ) → MayRead round phase read q → Fits s name head hist born died life (who q) q
   pub sound : (q : ℕ) → MayRead round phase read q → IsSound s name born died life (who q) q
   pub patch : (b x m : ℕ) → life b ≡ Placed x m → IsPatch s name b m

@@ -11,7 +11,8 @@ Covers born died q b = (0 < born b) × (born b ≤ q) × ((died b ≡ 0) ⊎ (q 
 -- the members, each a block and its side, lead from the word l along the chain of the place x to the block c, which covers q
 abbrev pub Finds : (ℕ → Node) → (ℕ → ℕ) → (ℕ → ℕ) → (ℕ → Life) → ℕ → ℕ → ℕ → Node → List (ℕ × Bool) → Type 0
 Finds hist born died life q x c l [] = ⊥
-Finds hist born died life q x c l (t ∷ ts) = (l.block ≡ t.0 + 1) × (stands (life t.0) t.1 ≡ x + 1) × (((t.0 ≡ c) × Covers born died q c) ⊎ Finds hist born died life q x c (hist (member_of t.0 t.1)) ts)
+Finds hist born died life q x c l (t ∷ ts) = (l.block ≡ t.0 + 1) × (stands (life t.0) t.1 ≡ x + 1)
+    × (((t.0 ≡ c) × Covers born died q c) ⊎ Finds hist born died life q x c (hist (member_of t.0 t.1)) ts)
 
 -- a walk at q from the word l along the chain of x comes to the block c, which covers q
 abbrev pub Reaches : (ℕ → Node) → (ℕ → ℕ) → (ℕ → ℕ) → (ℕ → Life) → ℕ → ℕ → ℕ → Node → Type 0
@@ -21,13 +22,17 @@ Reaches hist born died life q x c l = (ts : List (ℕ × Bool)) × Finds hist bo
 abbrev pub IsPlace : ℕ → (ℕ → Life) → ℕ → Type 0
 IsPlace e life x = (x < e) ⊎ ((b : ℕ) × (s c : Bool) × (y : ℕ) × (x ≡ child_place e b s c) × (stands (life b) false ≡ y + 1))
 
--- a LINK word names nothing, or a block in the chain of its place; where it has a retired round it is the block's, and else the block is not retired, or in the round in work
+-- a LINK word names nothing, or a block in the chain of its place; where it has a retired
+-- round it is the block's, and else the block is not retired, or in the round in work
 abbrev pub IsHead : ℕ → (ℕ → ℕ) → (ℕ → Life) → ℕ → Node → Type 0
-IsHead round died life x l = (l ≡ node 0 0) ⊎ ((b : ℕ) × (s : Bool) × (l.block ≡ b + 1) × (chained (life b) s ≡ x + 1) × (0 < l.died → l.died ≡ died b) × (l.died ≡ 0 → (died b ≡ 0) ⊎ (died b ≡ round + 1)))
+IsHead round died life x l = (l ≡ node 0 0)
+    ⊎ ((b : ℕ) × (s : Bool) × (l.block ≡ b + 1) × (chained (life b) s ≡ x + 1) × (0 < l.died → l.died ≡ died b)
+    × (l.died ≡ 0 → (died b ≡ 0) ⊎ (died b ≡ round + 1)))
 
 -- a HISTORY word of a block that was born at n names nothing, or a block in the chain of the same place that was retired in a finished round before n
 abbrev pub IsOlder : ℕ → (ℕ → ℕ) → (ℕ → Life) → ℕ → ℕ → Node → Type 0
-IsOlder round died life x n l = (l ≡ node 0 0) ⊎ ((c : ℕ) × (t : Bool) × (l ≡ node (c + 1) (died c)) × (chained (life c) t ≡ x + 1) × (0 < died c) × (0 < n → died c < n) × (died c ≤ round))
+IsOlder round died life x n l = (l ≡ node 0 0)
+    ⊎ ((c : ℕ) × (t : Bool) × (l ≡ node (c + 1) (died c)) × (chained (life c) t ≡ x + 1) × (0 < died c) × (0 < n → died c < n) × (died c ≤ round))
 
 -- a block that is free or was drawn is not born; or it is free, and was retired in a finished round and not swept since
 abbrev pub IsUnborn : ℕ → ℕ → ℕ → Life → Type 0

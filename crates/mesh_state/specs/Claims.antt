@@ -51,9 +51,11 @@ Shape round head born life x m Failed = Unit {0}
 Shape round head born life x m (Drawn b) = (life b ≡ Loose (x + 1)) × (born b ≡ 0)
 Shape round head born life x m (Half b) = (life b ≡ Placed x m) × (born b ≡ 0) × (head x ≡ node (b + 1) 0) × ((y : ℕ) → m ≡ y + 1 → (head y).block ≡ b + 1 → ⊥)
 Shape round head born life x m (Whole b) = (life b ≡ Placed x m) × (born b ≡ 0) × (head x ≡ node (b + 1) 0) × ((y : ℕ) → m ≡ y + 1 → head y ≡ node (b + 1) 0)
-Shape round head born life x m (Living b) = (life b ≡ Placed x m) × (born b ≡ round + 1) × (head x ≡ node (b + 1) 0) × ((y : ℕ) → m ≡ y + 1 → head y ≡ node (b + 1) 0)
+Shape round head born life x m (Living b) = (life b ≡ Placed x m) × (born b ≡ round + 1) × (head x ≡ node (b + 1) 0)
+    × ((y : ℕ) → m ≡ y + 1 → head y ≡ node (b + 1) 0)
 
-pub record ClaimsRule (s : Setup) (round cursor free : ℕ) (phase : Phase) (row : ℕ → ℕ) (claimed : ℕ → ℕ) (head : ℕ → Node) (born : ℕ → ℕ) (life : ℕ → Life) (stage : ℕ → Stage) (claims : ℕ → List Claim) : Type 0 where
+pub record ClaimsRule (s : Setup) (round cursor free : ℕ) (phase : Phase) (row : ℕ → ℕ) (claimed : ℕ → ℕ) (head : ℕ → Node) (born : ℕ → ℕ) (life : ℕ → Life) (stage : ℕ
+    → Stage) (claims : ℕ → List Claim) : Type 0 where
   -- a claim in a view is that of its place, and is in the view of its seat
   pub held : (j x m : ℕ) (p : Progress) → HasEntry (claims j) (claim x m p) → stage x ≡ Held j m p
   pub holds : (j x m : ℕ) (p : Progress) → stage x ≡ Held j m p → HasEntry (claims j) (claim x m p)

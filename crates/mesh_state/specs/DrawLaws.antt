@@ -27,11 +27,13 @@ DrawsOfTarget = Always (λ s w n v g. (names added : List ℕ) → v.ruling.phas
 
 -- in the first half, while there is no stock, each block of the pool is of a patch of the last finished forest, held back, or of a row below FREE
 abbrev pub PoolCovered : Type 0
-PoolCovered = Always (λ s w n v g. (names firsts held : List ℕ) → v.ruling.phase ≡ FirstHalf → v.ruling.high ≤ v.ruling.low → EntryAt v.ruling.history w.round names
+PoolCovered = Always (λ s w n v g. (names firsts held : List ℕ) → v.ruling.phase ≡ FirstHalf → v.ruling.high ≤ v.ruling.low
+    → EntryAt v.ruling.history w.round names
     → Enumerates (IsFirst s names) firsts → Enumerates (IsHeldBack v.ruling) held → s.pool ≤ length firsts + length held + w.free)
 
 -- so where the target's patches and the blocks held back fit into the pool, no draw fails: a claim that draws finds a number below FREE, and none has failed
 abbrev pub RoundFits : Type 0
 RoundFits = Always (λ s w n v g. (goal held : List ℕ) → v.ruling.phase ≡ FirstHalf → v.ruling.high ≤ v.ruling.low
     → Enumerates (IsFirst s v.ruling.plan.target) goal → Enumerates (IsHeldBack v.ruling) held → length goal + length held ≤ s.pool
-    → (w.cursor ≤ w.free) × ((j x m : ℕ) → HasEntry (v.claims j) (claim x m Claimed) → w.cursor < w.free) × ((j x m : ℕ) → HasEntry (v.claims j) (claim x m Failed) → ⊥))
+    → (w.cursor ≤ w.free) × ((j x m : ℕ) → HasEntry (v.claims j) (claim x m Claimed) → w.cursor < w.free)
+    × ((j x m : ℕ) → HasEntry (v.claims j) (claim x m Failed) → ⊥))

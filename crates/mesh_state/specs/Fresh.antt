@@ -17,14 +17,44 @@ noted_below (suc n) f = (n, f n) ∷ noted_below n f
 
 -- a pass that knows nothing of the work
 abbrev pub idle : Work
-idle = record { half = Resting; round = 0; number = 0; plan = no_plan; drawn = []; found = []; known = []; open_ = []; given = []; absent = []; stood = []; had = []; grown = []; retired = []; went = []; walk = Still }
+idle = record {
+  half = Resting;
+  round = 0;
+  number = 0;
+  plan = no_plan;
+  drawn = [];
+  found = [];
+  known = [];
+  open_ = [];
+  given = [];
+  absent = [];
+  stood = [];
+  had = [];
+  grown = [];
+  retired = [];
+  went = [];
+  walk = Still;
+}
 
 -- a pass without a pin
 abbrev pub blank : List Note → Read
 blank notes = record { pin = 0; ready = false; went = []; walk = Still; notes = notes; places = []; told = []; seen = 0; made = 0; back = 0 }
 
 abbrev pub fresh_words : ℕ → Words
-fresh_words pool = record { round = 0; taken = 0; cursor = 0; free = pool; released = λ _. 0; row = λ i. cond (ltb i pool) i 0; claimed = λ _. 0; head = λ _. node 0 0; hist = λ _. node 0 0; born = λ _. 0; died = λ _. 0; name = λ _. 0 }
+fresh_words pool = record {
+  round = 0;
+  taken = 0;
+  cursor = 0;
+  free = pool;
+  released = λ _. 0;
+  row = λ i. cond (ltb i pool) i 0;
+  claimed = λ _. 0;
+  head = λ _. node 0 0;
+  hist = λ _. node 0 0;
+  born = λ _. 0;
+  died = λ _. 0;
+  name = λ _. 0;
+}
 
 -- the owner has the first seat
 abbrev pub fresh_kind : ℕ → Kind
@@ -37,7 +67,36 @@ fresh_sure pool zero = record unsure { born = noted_below pool (λ _. 0); row = 
 fresh_sure pool (suc j) = unsure
 
 abbrev pub fresh_views : ℕ → Views
-fresh_views pool = record { kind = fresh_kind; claims = λ _. []; work = λ _. idle; sure = fresh_sure pool; read = λ _. blank []; ruling = record { phase = Resting; finished = 0; history = [] ∷ []; plan = no_plan; workers = 0; readers = 0; early = 0; lone = false; left = []; clear = []; hand = []; cursor = 1; free = pool + 1; low = 0; high = 0; retired = []; kept = []; placed = []; undone = []; seen = 0; quiet = false } }
+fresh_views pool = record {
+  kind = fresh_kind;
+  claims = λ _. [];
+  work = λ _. idle;
+  sure = fresh_sure pool;
+  read = λ _. blank [];
+  ruling = record {
+    phase = Resting;
+    finished = 0;
+    history = [] ∷ [];
+    plan = no_plan;
+    workers = 0;
+    readers = 0;
+    early = 0;
+    lone = false;
+    left = [];
+    clear = [];
+    hand = [];
+    cursor = 1;
+    free = pool + 1;
+    low = 0;
+    high = 0;
+    retired = [];
+    kept = [];
+    placed = [];
+    undone = [];
+    seen = 0;
+    quiet = false;
+  };
+}
 
 abbrev pub fresh_ghost : Ghost
 fresh_ghost = record { stage = λ _. Open; life = λ _. Free; who = λ _ _. 0; pins = λ _. 0 }
@@ -48,4 +107,5 @@ FreshFromList = (l : Layout) (words : List ℕ) → AreFresh l words → words_a
 
 -- the law that the fresh table over a mesh meets the rule
 abbrev pub FreshIsLawful : Type 0
-FreshIsLawful = (mesh : Shape) (across : Across) → Tells mesh across → (l : Layout) (passes : ℕ) → Rule (setup_of mesh across l passes) (fresh_words l.pool) 1 (fresh_views l.pool) fresh_ghost
+FreshIsLawful = (mesh : Shape) (across : Across) → Tells mesh across → (l : Layout) (passes : ℕ)
+    → Rule (setup_of mesh across l passes) (fresh_words l.pool) 1 (fresh_views l.pool) fresh_ghost

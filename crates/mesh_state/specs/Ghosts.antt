@@ -1,4 +1,5 @@
--- What the rule says beyond the words and the views: how far each claim has come, what becomes of each block, which block bisects a name at a round, and how many pins were taken.
+-- What the rule says beyond the words and the views: how far each claim has come, what becomes
+-- of each block, which block bisects a name at a round, and how many pins were taken.
 use Rattle.std.specs.Prelude.{ℕ, ◌+◌, Bool, cond}
 use Rattle.mesh_words.specs.Claims.{Progress}
 
@@ -7,7 +8,8 @@ pub data Stage : Type 0 where
   Open : Stage
   Held : ℕ → ℕ → Progress → Stage
 
--- A block is free; or it was drawn for the claim of a place (one more than it) and is in no chain; or it is in the chains of the places of its members (the second one more than it, or 0); or it was taken back from them
+-- A block is free; or it was drawn for the claim of a place (one more than it) and is in no chain; or it is in the
+-- chains of the places of its members (the second one more than it, or 0); or it was taken back from them
 pub data Life : Type 0 where
   Free : Life
   Loose : ℕ → Life

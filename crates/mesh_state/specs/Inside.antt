@@ -25,13 +25,16 @@ pub record InsideRule (s : Setup) (free : ℕ) (row : ℕ → ℕ) (life : ℕ �
 
 -- by the NAME words the element n stands at the place x: a macro element, or a child of a member of a block that stands
 abbrev pub IsLabel : Setup → (ℕ → ℕ) → (ℕ → Life) → ℕ → ℕ → Type 0
-IsLabel s name life x n = ((x < s.elements) × (n ≡ s.top x)) ⊎ ((b : ℕ) × (t c : Bool) × (y : ℕ) × (x ≡ child_place s.elements b t c) × (stands (life b) t ≡ y + 1) × (n ≡ s.child (name (member_of b t)) c))
+IsLabel s name life x n = ((x < s.elements) × (n ≡ s.top x))
+    ⊎ ((b : ℕ) × (t c : Bool) × (y : ℕ) × (x ≡ child_place s.elements b t c) × (stands (life b) t ≡ y + 1) × (n ≡ s.child (name (member_of b t)) c))
 
 pub record LabelRule (s : Setup) (name : ℕ → ℕ) (head hist : ℕ → Node) (life : ℕ → Life) : Type 0 where
   -- the member that a LINK word leads to has the name of the element at the place, whatever rounds may be read
-  pub heads : (x b : ℕ) (t : Bool) → IsPlace s.elements life x → (head x).block ≡ b + 1 → chained (life b) t ≡ x + 1 → IsLabel s name life x (name (member_of b t))
+  pub heads : (x b : ℕ) (t : Bool) → IsPlace s.elements life x → (head x).block ≡ b + 1 → chained (life b) t ≡ x + 1
+      → IsLabel s name life x (name (member_of b t))
   -- and the member that a HISTORY word leads to has the name of the word's member
-  pub hists : (a c x : ℕ) (t u : Bool) → stands (life a) t ≡ x + 1 → (hist (member_of a t)).block ≡ c + 1 → chained (life c) u ≡ x + 1 → name (member_of c u) ≡ name (member_of a t)
+  pub hists : (a c x : ℕ) (t u : Bool) → stands (life a) t ≡ x + 1 → (hist (member_of a t)).block ≡ c + 1 → chained (life c) u ≡ x + 1
+      → name (member_of c u) ≡ name (member_of a t)
   -- the NAME words of a block that was taken back are a patch
   pub patch : (b x m : ℕ) → life b ≡ Undone x m → IsPatch s name b m
 

@@ -15,7 +15,8 @@ BeginsAt s u x k = HasEntry u.found (x, k) ⊎ HasEntry u.stood (x, k) ⊎ ((x <
 abbrev pub WalksChained : Type 0
 WalksChained = Always (λ s w n v g. (j x k b : ℕ) (t : Bool) → (v.work j).walk ≡ At x k b t → chained (g.life b) t ≡ x + 1)
 
--- a walk for a name that the pass knows as bisected never ends: the LINK word of the element's place names the block that bisects the name, with no retired round, and BORN of a block to which the walk has gone is above 0, so that the name is found bisected there
+-- a walk for a name that the pass knows as bisected never ends: the LINK word of the element's place names the block that bisects the
+-- name, with no retired round, and BORN of a block to which the walk has gone is above 0, so that the name is found bisected there
 abbrev pub KnownFound : Type 0
 KnownFound = Always (λ s w n v g. (j x k : ℕ) → v.kind j ≡ Worker → HasEntry (v.work j).known k →
     (BeginsAt s (v.work j) x k → (b : ℕ) × (w.head x ≡ node (b + 1) 0) × (g.who (w.round + 1) k ≡ b + 1) × (0 < w.born b))

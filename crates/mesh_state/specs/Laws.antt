@@ -23,11 +23,13 @@ AtRounds P = Always (λ s w n v g. (q : ℕ) → MayRead w.round v.ruling.phase 
 
 -- a place has one claim, in one view
 abbrev pub OneHolder : Type 0
-OneHolder = Always (λ s w n v g. (i j x m k : ℕ) (p q : Progress) → HasEntry (v.claims i) (claim x m p) → HasEntry (v.claims j) (claim x k q) → (i ≡ j) × (m ≡ k) × (p ≡ q))
+OneHolder = Always (λ s w n v g. (i j x m k : ℕ) (p q : Progress) → HasEntry (v.claims i) (claim x m p) → HasEntry (v.claims j) (claim x k q) → (i ≡ j)
+    × (m ≡ k) × (p ≡ q))
 
 -- a block is of one claim
 abbrev pub OneClaim : Type 0
-OneClaim = Always (λ s w n v g. (i j x y m k b : ℕ) (p q : Progress) → HasEntry (v.claims i) (claim x m p) → HasEntry (v.claims j) (claim y k q) → block_of p ≡ b + 1 → block_of q ≡ b + 1 → x ≡ y)
+OneClaim = Always (λ s w n v g. (i j x y m k b : ℕ) (p q : Progress) → HasEntry (v.claims i) (claim x m p) → HasEntry (v.claims j) (claim y k q)
+    → block_of p ≡ b + 1 → block_of q ≡ b + 1 → x ≡ y)
 
 -- in the first half there are at most as many draws as places
 abbrev pub DrawsBounded : Type 0
@@ -35,23 +37,29 @@ DrawsBounded = Always (λ s w n v g. v.ruling.phase ≡ FirstHalf → w.cursor �
 
 -- the rows from CURSOR on and below FREE name free blocks, each once
 abbrev pub FreeRows : Type 0
-FreeRows = Always (λ s w n v g. (i k : ℕ) → w.cursor ≤ i → i < w.free → (g.life (w.row i) ≡ Free) × (w.born (w.row i) ≡ 0) × (w.cursor ≤ k → k < w.free → w.row i ≡ w.row k → i ≡ k))
+FreeRows = Always (λ s w n v g. (i k : ℕ) → w.cursor ≤ i → i < w.free → (g.life (w.row i) ≡ Free) × (w.born (w.row i) ≡ 0)
+    × (w.cursor ≤ k → k < w.free → w.row i ≡ w.row k → i ≡ k))
 
 -- a walk from the place of a name finds the block that bisects it at the round, and no other
 abbrev pub WalksAgree : Type 0
-WalksAgree = AtRounds (λ s w g q who. (x k b : ℕ) → IsPlaceOf s w.name who x k → (who k ≡ b + 1 → Reaches w.hist w.born w.died g.life q x b (w.head x)) × (Reaches w.hist w.born w.died g.life q x b (w.head x) → who k ≡ b + 1))
+WalksAgree = AtRounds (λ s w g q who. (x k b : ℕ) → IsPlaceOf s w.name who x k → (who k ≡ b + 1 → Reaches w.hist w.born w.died g.life q x b (w.head x))
+    × (Reaches w.hist w.born w.died g.life q x b (w.head x) → who k ≡ b + 1))
 
 -- walks end: the block that a HISTORY word names was retired in a finished round, before the block that has the word was published
 abbrev pub WalksEnd : Type 0
-WalksEnd = Always (λ s w n v g. (b c x : ℕ) (t : Bool) → stands (g.life b) t ≡ x + 1 → (w.hist (member_of b t)).block ≡ c + 1 → (0 < w.died c) × (w.died c ≤ w.round) × (0 < w.born b → w.died c < w.born b))
+WalksEnd = Always (λ s w n v g. (b c x : ℕ) (t : Bool) → stands (g.life b) t ≡ x + 1 → (w.hist (member_of b t)).block ≡ c + 1 → (0 < w.died c)
+    × (w.died c ≤ w.round) × (0 < w.born b → w.died c < w.born b))
 
 -- the block that bisects a name at a round is in the chain of a place of the name, with the name as that member's
 abbrev pub BlocksPlaced : Type 0
-BlocksPlaced = AtRounds (λ s w g q who. (k b : ℕ) → who k ≡ b + 1 → (t : Bool) × (x : ℕ) × (w.name (member_of b t) ≡ k) × (chained (g.life b) t ≡ x + 1) × IsPlaceOf s w.name who x k)
+BlocksPlaced = AtRounds (λ s w g q who. (k b : ℕ) → who k ≡ b + 1 → (t : Bool) × (x : ℕ) × (w.name (member_of b t) ≡ k) × (chained (g.life b) t ≡ x + 1)
+    × IsPlaceOf s w.name who x k)
 
--- a block in a chain that covers a round that may be read has the names of a patch, and bisects its members at the round, each at its place; so no other block covers the round with one of these names
+-- a block in a chain that covers a round that may be read has the names of a patch, and bisects its members
+-- at the round, each at its place; so no other block covers the round with one of these names
 abbrev pub CoversBisect : Type 0
-CoversBisect = AtRounds (λ s w g q who. (b x m : ℕ) → g.life b ≡ Placed x m → Covers w.born w.died q b → IsPatch s w.name b m × ((t : Bool) (y : ℕ) → chained (g.life b) t ≡ y + 1 → (who (w.name (member_of b t)) ≡ b + 1) × IsPlaceOf s w.name who y (w.name (member_of b t))))
+CoversBisect = AtRounds (λ s w g q who. (b x m : ℕ) → g.life b ≡ Placed x m → Covers w.born w.died q b → IsPatch s w.name b m
+    × ((t : Bool) (y : ℕ) → chained (g.life b) t ≡ y + 1 → (who (w.name (member_of b t)) ≡ b + 1) × IsPlaceOf s w.name who y (w.name (member_of b t))))
 
 -- a retired block was born before; so retired rounds fall along each walk
 abbrev pub RetiredBorn : Type 0
@@ -68,7 +76,8 @@ WalksShort = Always (λ s w n v g. (x : ℕ) (ts : List (ℕ × Bool)) → LeadO
 
 -- a name that is bisected at a round is a macro element's, or its parent is bisected at the round
 abbrev pub ParentsBisected : Type 0
-ParentsBisected = AtRounds (λ s w g q who. (k b : ℕ) → who k ≡ b + 1 → ((x : ℕ) × (x < s.elements) × (k ≡ s.top x)) ⊎ ((p a : ℕ) × (c : Bool) × (k ≡ s.child p c) × (who p ≡ a + 1)))
+ParentsBisected = AtRounds (λ s w g q who. (k b : ℕ) → who k ≡ b + 1 → ((x : ℕ) × (x < s.elements) × (k ≡ s.top x))
+    ⊎ ((p a : ℕ) × (c : Bool) × (k ≡ s.child p c) × (who p ≡ a + 1)))
 
 -- the two members of a patch are bisected by one block, or neither is
 abbrev pub MembersTogether : Type 0
@@ -80,15 +89,18 @@ PlacesAgree = AtRounds (λ s w g q who. (x y k i : ℕ) → IsPlaceOf s w.name w
 
 -- what a reader noted of a round agrees with the round
 abbrev pub NotesAgree : Type 0
-NotesAgree = Always (λ s w n v g. (j k q : ℕ) → (HasEntry (v.read j).notes record { round = q; name = k; bisected = true } → (b : ℕ) × (g.who q k ≡ b + 1)) × (HasEntry (v.read j).notes record { round = q; name = k; bisected = false } → g.who q k ≡ 0))
+NotesAgree = Always (λ s w n v g. (j k q : ℕ) → (HasEntry (v.read j).notes record { round = q; name = k; bisected = true } → (b : ℕ) × (g.who q k ≡ b + 1))
+    × (HasEntry (v.read j).notes record { round = q; name = k; bisected = false } → g.who q k ≡ 0))
 
 -- the pins taken in a round stay within the bound, and each was given back or is in a view
 abbrev pub PinsBounded : Type 0
-PinsBounded = Always (λ s w n v g. (w.taken ≤ s.limit + s.passes + 1) × (w.taken ≡ w.released w.round + sum_below n (λ j. one_where (v.read j).pin (w.round + 1))))
+PinsBounded = Always (λ s w n v g. (w.taken ≤ s.limit + s.passes + 1)
+    × (w.taken ≡ w.released w.round + sum_below n (λ j. one_where (v.read j).pin (w.round + 1))))
 
 -- a block to which a reader has gone since its pin stands in a chain or was taken back, and its last round is above the pin
 abbrev pub ReachedKept : Type 0
-ReachedKept = Always (λ s w n v g. (j q b : ℕ) → (v.read j).pin ≡ q + 1 → HasEntry (v.read j).went b → ((t : Bool) × (x : ℕ) × (stands (g.life b) t ≡ x + 1)) × ((w.died b ≡ 0) ⊎ (q < w.died b)))
+ReachedKept = Always (λ s w n v g. (j q b : ℕ) → (v.read j).pin ≡ q + 1 → HasEntry (v.read j).went b → ((t : Bool) × (x : ℕ) × (stands (g.life b) t ≡ x + 1))
+    × ((w.died b ≡ 0) ⊎ (q < w.died b)))
 
 -- a round that the owner knows as clear was left, and no view has a pin of it
 abbrev pub ClearRounds : Type 0

@@ -22,7 +22,8 @@ pub record IsTarget (s : Setup) (Old : ℕ → Type 0) (p : Plan) : Type 0 where
   pub closed : IsClosed s (HasEntry p.target)
   pub olds : (n : ℕ) → Old n → HasEntry p.target n
   pub needs : (n : ℕ) → HasEntry p.needs n → HasEntry p.target n
-  pub least : (other : ℕ → ℕ) → IsClosed s (Holds other) → ((n : ℕ) → Old n → Holds other n) → ((n : ℕ) → HasEntry p.needs n → Holds other n) → (n : ℕ) → HasEntry p.target n → Holds other n
+  pub least : (other : ℕ → ℕ) → IsClosed s (Holds other) → ((n : ℕ) → Old n → Holds other n) → ((n : ℕ) → HasEntry p.needs n → Holds other n) → (n : ℕ)
+      → HasEntry p.target n → Holds other n
 
 -- n is a member of the patch whose first member is k
 abbrev pub IsMember : Setup → ℕ → ℕ → Type 0
@@ -66,13 +67,15 @@ pub record DrawnRule (phase : Phase) (cursor free : ℕ) (row : ℕ → ℕ) (ki
 
 -- in the first half each claim for which a draw was made has its block, or none, by a draw that the claim's seat has
 abbrev pub DrawnFor : Phase → (ℕ → Work) → (ℕ → Stage) → Type 0
-DrawnFor phase work stage = (x j m : ℕ) (p : Progress) → phase ≡ FirstHalf → stage x ≡ Held j m p → draws p ≡ 1 → (i : ℕ) × HasEntry (work j).drawn (i, block_of p)
+DrawnFor phase work stage = (x j m : ℕ) (p : Progress) → phase ≡ FirstHalf → stage x ≡ Held j m p → draws p ≡ 1 → (i : ℕ)
+    × HasEntry (work j).drawn (i, block_of p)
 
 -- who is at work
 pub record CrewRule (s : Setup) (round : ℕ) (phase : Phase) (kind : ℕ → Kind) (work : ℕ → Work) (stage : ℕ → Stage) (lone : Bool) : Type 0 where
   -- a round in work is one of those for which the table was made
   pub rounds : (round ≤ s.rounds) × (Precedes Resting phase → round < s.rounds)
   -- while a pass of worker 0 is out in the first half, no other worker's is, and each claim without a living block is its own
-  pub alone : (j : ℕ) → phase ≡ FirstHalf → kind j ≡ Worker → (work j).number ≡ 0 → ((i : ℕ) → kind i ≡ Worker → i ≡ j) × ((x i m : ℕ) (p : Progress) → stage x ≡ Held i m p → (i ≡ j) ⊎ ((b : ℕ) × (p ≡ Living b)))
+  pub alone : (j : ℕ) → phase ≡ FirstHalf → kind j ≡ Worker → (work j).number ≡ 0 → ((i : ℕ) → kind i ≡ Worker → i ≡ j)
+      × ((x i m : ℕ) (p : Progress) → stage x ≡ Held i m p → (i ≡ j) ⊎ ((b : ℕ) × (p ≡ Living b)))
   -- the owner knows where none is out
   pub none : (j : ℕ) → phase ≡ FirstHalf → lone ≡ false → kind j ≡ Worker → (work j).number ≡ 0 → ⊥

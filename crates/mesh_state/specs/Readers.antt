@@ -9,11 +9,14 @@ use Rattle.mesh_state.specs.Ghosts.{Life, stands}
 use Rattle.mesh_state.specs.Chains.{Covers, Reaches}
 use Rattle.mesh_state.specs.Bisections.{IsPlaceOf}
 
--- Where a walk at q is: it stands still; or it has gone to a block's member from the place of a name, whose block, if there is one, is this or is found behind it; or it has passed that block by
+-- Where a walk at q is: it stands still; or it has gone to a block's member from the place of a name,
+-- whose block, if there is one, is this or is found behind it; or it has passed that block by
 abbrev pub Walks : Setup → (ℕ → ℕ) → (ℕ → Node) → (ℕ → ℕ) → (ℕ → ℕ) → (ℕ → Life) → (ℕ → ℕ) → ℕ → List ℕ → Walk → Type 0
 Walks s name hist born died life who q went Still = Unit {0}
-Walks s name hist born died life who q went (At x n b t) = HasEntry went b × (stands (life b) t ≡ x + 1) × IsPlaceOf s name who x n × ((c : ℕ) → who n ≡ c + 1 → ((b ≡ c) × Covers born died q c) ⊎ Reaches hist born died life q x c (hist (member_of b t)))
-Walks s name hist born died life who q went (Past x n b t) = HasEntry went b × (stands (life b) t ≡ x + 1) × IsPlaceOf s name who x n × ((c : ℕ) → who n ≡ c + 1 → Reaches hist born died life q x c (hist (member_of b t)))
+Walks s name hist born died life who q went (At x n b t) = HasEntry went b × (stands (life b) t ≡ x + 1) × IsPlaceOf s name who x n
+    × ((c : ℕ) → who n ≡ c + 1 → ((b ≡ c) × Covers born died q c) ⊎ Reaches hist born died life q x c (hist (member_of b t)))
+Walks s name hist born died life who q went (Past x n b t) = HasEntry went b × (stands (life b) t ≡ x + 1) × IsPlaceOf s name who x n
+    × ((c : ℕ) → who n ≡ c + 1 → Reaches hist born died life q x c (hist (member_of b t)))
 
 pub record ReaderRule (s : Setup) (round : ℕ) (name : ℕ → ℕ) (hist : ℕ → Node) (born died : ℕ → ℕ) (life : ℕ → Life) (who : ℕ → ℕ → ℕ) (v : Read) : Type 0 where
   -- a block to which the pass went since its pin of q stands somewhere, and was not retired by q

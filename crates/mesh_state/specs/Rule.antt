@@ -1,4 +1,5 @@
--- The rule of a shared table: there are a stage of each place, a life of each block, and a block for each round and name, of which the words and the views are what the parts say.
+-- The rule of a shared table: there are a stage of each place, a life of each block, and a block
+-- for each round and name, of which the words and the views are what the parts say.
 use Rattle.std.specs.Prelude.{◌≡◌, ℕ, ◌+◌, List, ◌⊎◌, false, true}
 use Rattle.mesh_words.specs.Claims.{Progress}
 use Rattle.mesh_words.specs.Entries.{HasEntry}
@@ -20,11 +21,13 @@ use Rattle.mesh_state.specs.Owner.{OwnerRule, StockRule, NoteRule, FreeRule, Kno
 
 -- the patch that n leads has no second member, or it stands at the place m - 1, and is not bisected at the last finished round
 abbrev pub SecondLabel : Setup → ℕ → (ℕ → ℕ) → (ℕ → ℕ → ℕ) → ℕ → ℕ → Type 0
-SecondLabel s round name who m n = ((m ≡ 0) × (s.mate n ≡ 0)) ⊎ ((y : ℕ) × (k : ℕ) × (m ≡ y + 1) × (s.mate n ≡ k + 1) × IsPlaceOf s name (who (round + 1)) y (k + 1) × (who round (k + 1) ≡ 0))
+SecondLabel s round name who m n = ((m ≡ 0) × (s.mate n ≡ 0))
+    ⊎ ((y : ℕ) × (k : ℕ) × (m ≡ y + 1) × (s.mate n ≡ k + 1) × IsPlaceOf s name (who (round + 1)) y (k + 1) × (who round (k + 1) ≡ 0))
 
 -- in the first half the members of a claim's patch stand at its places, are not bisected at the last finished round, and the first is of the round's target
 abbrev pub Labels : Setup → ℕ → Phase → (ℕ → ℕ) → (ℕ → Stage) → (ℕ → ℕ → ℕ) → List ℕ → Type 0
-Labels s round phase name stage who target = (x j m : ℕ) (p : Progress) → stage x ≡ Held j m p → phase ≡ FirstHalf → (n : ℕ) × (s.leads n ≡ true) × IsPlaceOf s name (who (round + 1)) x n × (who round n ≡ 0) × ((b : ℕ) → linked p ≡ b + 1 → name (member_of b false) ≡ n)
+Labels s round phase name stage who target = (x j m : ℕ) (p : Progress) → stage x ≡ Held j m p → phase ≡ FirstHalf → (n : ℕ) × (s.leads n ≡ true)
+    × IsPlaceOf s name (who (round + 1)) x n × (who round n ≡ 0) × ((b : ℕ) → linked p ≡ b + 1 → name (member_of b false) ≡ n)
     × SecondLabel s round name who m n × HasEntry target n
 
 -- n is the number of seats that were ever made

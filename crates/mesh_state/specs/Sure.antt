@@ -7,13 +7,18 @@ use Rattle.mesh_words.specs.Views.{Sure}
 use Rattle.mesh_words.specs.Words.{Node}
 use Rattle.mesh_state.specs.Ghosts.{Stage, Held}
 
--- the seat alone changes the words of the block: the owner's while no worker's pass is out, or that of the claim for which the block was drawn, until it is linked whole
+-- the seat alone changes the words of the block: the owner's while no worker's pass is out,
+-- or that of the claim for which the block was drawn, until it is linked whole
 abbrev pub GuardsBlock : ℕ → (ℕ → Stage) → ℕ → ℕ → Type 0
 GuardsBlock workers stage j b = ((j ≡ 0) × (workers ≡ 0)) ⊎ ((x : ℕ) × (m : ℕ) × ((stage x ≡ Held j m (Drawn b)) ⊎ (stage x ≡ Held j m (Half b))))
 
--- the seat alone changes the LINK of the place: the owner's while no worker's pass is out, or that of a claim, at its members until they are linked and at the children of its drawn block
+-- the seat alone changes the LINK of the place: the owner's while no worker's pass is out, or that
+-- of a claim, at its members until they are linked and at the children of its drawn block
 abbrev pub GuardsHead : ℕ → ℕ → (ℕ → Stage) → ℕ → ℕ → Type 0
-GuardsHead e workers stage j z = ((j ≡ 0) × (workers ≡ 0)) ⊎ ((x : ℕ) × (m : ℕ) × (b : ℕ) × (((stage x ≡ Held j m (Drawn b)) × ((z ≡ x) ⊎ (m ≡ z + 1) ⊎ ((t : Bool) × (c : Bool) × (z ≡ child_place e b t c)))) ⊎ ((stage x ≡ Held j m (Half b)) × (m ≡ z + 1))))
+GuardsHead e workers stage j z = ((j ≡ 0) × (workers ≡ 0))
+    ⊎ ((x : ℕ) × (m : ℕ) × (b : ℕ)
+    × (((stage x ≡ Held j m (Drawn b)) × ((z ≡ x) ⊎ (m ≡ z + 1) ⊎ ((t : Bool) × (c : Bool) × (z ≡ child_place e b t c))))
+    ⊎ ((stage x ≡ Held j m (Half b)) × (m ≡ z + 1))))
 
 -- what a seat noted of a word that it guards is the word's content
 pub record SureRule (e workers : ℕ) (head hist : ℕ → Node) (born died name row : ℕ → ℕ) (stage : ℕ → Stage) (j : ℕ) (v : Sure) : Type 0 where

@@ -2,7 +2,7 @@
 ghost use Rattle.mesh_state.specs.Laws.{BlocksPlaced, ClearRounds, CoversBisect, DrawsBounded, FreeRows, MembersTogether, NotesAgree, OneClaim, OneHolder, ParentsBisected, PinsBounded, PlacesAgree, ReachedKept, RetiredBorn, WalksAgree, WalksEnd, WalksShort};
 ghost use Rattle.mesh_state.specs.ClaimLaws.{BitsClaimed, DrawsCounted, FreeUnborn, SecondPlaces, StagesViewed, TargetLeast, UnbornBlocks, UnbornClaimed};
 ghost use Rattle.mesh_state.specs.RoundLaws.{BetweenForests, BisectedClosed, ChainsStand, ClaimsAimed, ClaimsDrawn, DiffersByPatches, DrawsApart, HistoryRight, ListsKnown, LivingAimed, NotesInHistory, QuietRound, RoundsLeft, StandingKept, ToldPrefix, WalksBegin, WorkerAlone};
-ghost use Rattle.mesh_state.specs.SeatLaws.{BeginsEqual, BlocksKnown, FilledStays, FindingsRight, FinishedFindings, HistoryWords, LinkWords, LivingBlocks, LivingClaimed, LoadedStays, NumbersKnown, OneHalf, OthersEmpty, OwnerSure, PassesCounted, PinsCounted, PinsOut, RetiredNoted, WorkersWent};
+ghost use Rattle.mesh_state.specs.SeatLaws.{BeginsEqual, BlocksKnown, FilledStays, FindingsRight, FinishedFindings, HistoryWords, LinkWords, LivingBlocks, LivingClaimed, LoadedStays, NumbersKnown, OneHalf, OthersEmpty, OwnerSure, PassesCounted, PinsCounted, PinsOfRounds, PinsOut, RetiredNoted, RoundsFall, WorkersWent};
 ghost use Rattle.mesh_state.specs.TableLaws.{BlocksInPool, BlocksViewed, ChainsNamed, ClaimsListedOnce, ElementsNamed, PlacesInTable, WalkSides};
 ghost use Rattle.mesh_state.specs.OwnerLaws.{BlocksCounted, BlocksNoted, DeadNoted, EarlyPins, FreeFound, KeptExact, NotedKinds, PatchesCounted, StockRows, WalkedNoted};
 ghost use Rattle.mesh_state.specs.DrawLaws.{DrawsOfTarget, PoolCovered, RoundFits};
@@ -66,6 +66,8 @@ pub fn laws()
     ensures sure { OwnerSure }
     ensures pinned { PinsCounted }
     ensures out { PinsOut }
+    ensures most { PinsOfRounds }
+    ensures fall { RoundsFall }
     ensures numbers { NumbersKnown }
     ensures blocks { BlocksKnown }
     ensures others { OthersEmpty }

@@ -14,9 +14,14 @@ use Rattle.mesh_steps.specs.SweepSteps.{IsClear}
 abbrev pub IsKnownPlace : Setup → Views → ℕ → Type 0
 IsKnownPlace s v x = (x < s.elements) ⊎ ((a z i : ℕ) × (t c : Bool) × HasEntry v.ruling.placed (a, z, i) × (x ≡ child_place s.elements a t c))
 
--- the law that the owner can stamp a LINK word that names a block retired in the round, and cut a block whose rounds are clear out of a LINK word, and out of a HISTORY word of a block that it noted: by the HISTORY word of the block's member at the place
+-- the law that the owner can stamp a LINK word that names a block retired in the round, and cut a block whose rounds are clear out of
+-- a LINK word, and out of a HISTORY word of a block that it noted: by the HISTORY word of the block's member at the place
 abbrev pub SweepsGoOn : Type 0
 SweepsGoOn = Always (λ s w n v g. (x b e : ℕ) → Noted (v.sure 0).died b e →
-    (v.ruling.phase ≡ Closing → IsKnownPlace s v x → Noted (v.sure 0).head x (node (b + 1) 0) → e ≡ w.round + 1 → Onward s w n v (λ c. c.words.head x ≡ node (b + 1) e))
-    × (v.ruling.phase ≡ Resting → 0 < e → IsClear v e → (IsKnownPlace s v x → Noted (v.sure 0).head x (node (b + 1) e) → (t : Bool) × ((l : Node) → Noted (v.sure 0).hist (member_of b t) l → Onward s w n v (λ c. c.words.head x ≡ l)))
-    × ((a z i : ℕ) (u : Bool) → HasEntry v.ruling.placed (a, z, i) → stands (Placed z i) u ≡ x + 1 → Noted (v.sure 0).hist (member_of a u) (node (b + 1) e) → (t : Bool) × ((l : Node) → Noted (v.sure 0).hist (member_of b t) l → Onward s w n v (λ c. c.words.hist (member_of a u) ≡ l)))))
+    (v.ruling.phase ≡ Closing → IsKnownPlace s v x → Noted (v.sure 0).head x (node (b + 1) 0) → e ≡ w.round + 1
+    → Onward s w n v (λ c. c.words.head x ≡ node (b + 1) e))
+    × (v.ruling.phase ≡ Resting → 0 < e → IsClear v e
+    → (IsKnownPlace s v x → Noted (v.sure 0).head x (node (b + 1) e) → (t : Bool)
+    × ((l : Node) → Noted (v.sure 0).hist (member_of b t) l → Onward s w n v (λ c. c.words.head x ≡ l)))
+    × ((a z i : ℕ) (u : Bool) → HasEntry v.ruling.placed (a, z, i) → stands (Placed z i) u ≡ x + 1 → Noted (v.sure 0).hist (member_of a u) (node (b + 1) e)
+    → (t : Bool) × ((l : Node) → Noted (v.sure 0).hist (member_of b t) l → Onward s w n v (λ c. c.words.hist (member_of a u) ≡ l)))))

@@ -16,8 +16,10 @@ IsClear v e = (v.ruling.early ≡ 0) ⊎ ((q : ℕ) → q < e → HasEntry v.rul
 
 -- stamp: the LINK word of a place of a block that was retired in the round gets the round
 abbrev pub StampStep : StepKind
-StampStep s w n v after = (v.ruling.phase ≡ Closing) × (x b y m : ℕ) × (t : Bool) × HasEntry v.ruling.placed (b, y, m) × (HasEntry v.ruling.undone b → ⊥) × (chained (Placed y m) t ≡ x + 1) × Noted (v.sure 0).head x (node (b + 1) 0) × Noted (v.sure 0).died b (v.ruling.finished + 1)
-    × (after ≡ state (record w { head = update w.head x (node (b + 1) (v.ruling.finished + 1)) }) n (record v { sure = update v.sure 0 (record (v.sure 0) { head = (x, node (b + 1) (v.ruling.finished + 1)) ∷ (v.sure 0).head }) }))
+StampStep s w n v after = (v.ruling.phase ≡ Closing) × (x b y m : ℕ) × (t : Bool) × HasEntry v.ruling.placed (b, y, m) × (HasEntry v.ruling.undone b → ⊥)
+    × (chained (Placed y m) t ≡ x + 1) × Noted (v.sure 0).head x (node (b + 1) 0) × Noted (v.sure 0).died b (v.ruling.finished + 1)
+    × (after ≡ state (record w { head = update w.head x (node (b + 1) (v.ruling.finished + 1)) }) n
+    (record v { sure = update v.sure 0 (record (v.sure 0) { head = (x, node (b + 1) (v.ruling.finished + 1)) ∷ (v.sure 0).head }) }))
 
 -- the list with the claim's places of its living block
 abbrev pub noted_at : List (ℕ × ℕ × ℕ) → ℕ → ℕ → Progress → List (ℕ × ℕ × ℕ)
@@ -30,19 +32,29 @@ noted_at placed x m (Living b) = (b, x, m) ∷ placed
 
 -- a claim ends: one with a living block when the round is closed, and the block's places are noted; one without a block when it is taken back
 abbrev pub UnclaimStep : StepKind
-UnclaimStep s w n v after = ((v.ruling.phase ≡ FirstHalf → ⊥) × (v.ruling.phase ≡ SecondHalf → ⊥)) × (Precedes v.ruling.phase Closing → ⊥) × (x m : ℕ) × (p : Progress) × HasEntry (v.claims 0) (claim x m p) × ((b : ℕ) → block_of p ≡ b + 1 → p ≡ Living b) × ((b : ℕ) → p ≡ Living b → (v.ruling.phase ≡ Closing → ⊥) → ⊥)
-    × (after ≡ state (record w { claimed = update w.claimed x 0 }) n (record v { claims = update v.claims 0 (ended (v.claims 0) x); ruling = record v.ruling { placed = noted_at v.ruling.placed x m p } }))
+UnclaimStep s w n v after = ((v.ruling.phase ≡ FirstHalf → ⊥) × (v.ruling.phase ≡ SecondHalf → ⊥)) × (Precedes v.ruling.phase Closing → ⊥) × (x m : ℕ)
+    × (p : Progress) × HasEntry (v.claims 0) (claim x m p) × ((b : ℕ) → block_of p ≡ b + 1 → p ≡ Living b)
+    × ((b : ℕ) → p ≡ Living b → (v.ruling.phase ≡ Closing → ⊥) → ⊥)
+    × (after ≡ state (record w { claimed = update w.claimed x 0 }) n (record v {
+      claims = update v.claims 0 (ended (v.claims 0) x);
+      ruling = record v.ruling { placed = noted_at v.ruling.placed x m p };
+    }))
 
 -- cut: a LINK word is led past a block whose rounds are clear, as the block's HISTORY word of the member at the place leads
 abbrev pub CutLink : StepKind
-CutLink s w n v after = (v.ruling.phase ≡ Resting) × (x b e y m : ℕ) × (t : Bool) × (l : Node) × Noted (v.sure 0).head x (node (b + 1) e) × Noted (v.sure 0).died b e × Noted (v.sure 0).hist (member_of b t) l × (0 < e) × IsClear v e × HasEntry v.ruling.placed (b, y, m) × (HasEntry v.ruling.undone b → ⊥) × (chained (Placed y m) t ≡ x + 1)
+CutLink s w n v after = (v.ruling.phase ≡ Resting) × (x b e y m : ℕ) × (t : Bool) × (l : Node) × Noted (v.sure 0).head x (node (b + 1) e)
+    × Noted (v.sure 0).died b e × Noted (v.sure 0).hist (member_of b t) l × (0 < e) × IsClear v e × HasEntry v.ruling.placed (b, y, m)
+    × (HasEntry v.ruling.undone b → ⊥) × (chained (Placed y m) t ≡ x + 1)
     × (after ≡ state (record w { head = update w.head x l }) n (record v { sure = update v.sure 0 (record (v.sure 0) { head = (x, l) ∷ (v.sure 0).head }) }))
 
 -- and so is a HISTORY word
 abbrev pub CutHistory : StepKind
-CutHistory s w n v after = (v.ruling.phase ≡ Resting) × (a z i x b e y m : ℕ) × (u t : Bool) × (l : Node) × Noted (v.sure 0).hist (member_of a u) (node (b + 1) e) × Noted (v.sure 0).died b e × Noted (v.sure 0).hist (member_of b t) l × (0 < e) × IsClear v e
-    × HasEntry v.ruling.placed (a, z, i) × (stands (Placed z i) u ≡ x + 1) × HasEntry v.ruling.placed (b, y, m) × (HasEntry v.ruling.undone b → ⊥) × (chained (Placed y m) t ≡ x + 1)
-    × (after ≡ state (record w { hist = update w.hist (member_of a u) l }) n (record v { sure = update v.sure 0 (record (v.sure 0) { hist = (member_of a u, l) ∷ (v.sure 0).hist }) }))
+CutHistory s w n v after = (v.ruling.phase ≡ Resting) × (a z i x b e y m : ℕ) × (u t : Bool) × (l : Node)
+    × Noted (v.sure 0).hist (member_of a u) (node (b + 1) e) × Noted (v.sure 0).died b e × Noted (v.sure 0).hist (member_of b t) l × (0 < e) × IsClear v e
+    × HasEntry v.ruling.placed (a, z, i) × (stands (Placed z i) u ≡ x + 1) × HasEntry v.ruling.placed (b, y, m) × (HasEntry v.ruling.undone b → ⊥)
+    × (chained (Placed y m) t ≡ x + 1)
+    × (after ≡ state (record w { hist = update w.hist (member_of a u) l }) n
+    (record v { sure = update v.sure 0 (record (v.sure 0) { hist = (member_of a u, l) ∷ (v.sure 0).hist }) }))
 
 -- the owner is sure of the LINK or HISTORY word, which names no block that is to be free
 abbrev pub CleanHead : Views → (ℕ → Bool) → ℕ → Type 0
@@ -53,13 +65,15 @@ CleanHistory v gone b t = (l : Node) × Noted (v.sure 0).hist (member_of b t) l 
 
 -- the LINK word of the place names no block that is to be free, nor does the HISTORY word of a block there that stays
 abbrev pub CleanPlace : Views → (ℕ → Bool) → ℕ → Type 0
-CleanPlace v gone x = CleanHead v gone x × ((b y m : ℕ) (t : Bool) → HasEntry v.ruling.placed (b, y, m) → stands (Placed y m) t ≡ x + 1 → (gone b ≡ true) ⊎ CleanHistory v gone b t)
+CleanPlace v gone x = CleanHead v gone x
+    × ((b y m : ℕ) (t : Bool) → HasEntry v.ruling.placed (b, y, m) → stands (Placed y m) t ≡ x + 1 → (gone b ≡ true) ⊎ CleanHistory v gone b t)
 
 -- the entries of the old list that are of no block which is to be free
 abbrev pub Leaves : {A : Type 0} → (A → ℕ) → (ℕ → Bool) → List A → List A → Type 0
 Leaves {A} of gone old new = (a : A) → (HasEntry new a → HasEntry old a × (gone (of a) ≡ false)) × (HasEntry old a → HasEntry new a ⊎ (gone (of a) ≡ true))
 
--- a block may be free: it was taken back, and no pass has gone to it; or it was retired, its rounds are clear, and the words of the places where it stands were swept
+-- a block may be free: it was taken back, and no pass has gone to it; or it was retired,
+-- its rounds are clear, and the words of the places where it stands were swept
 abbrev pub MayFree : Views → (ℕ → Bool) → ℕ → Type 0
 MayFree v gone c = (HasEntry v.ruling.undone c × IsClear v v.ruling.finished × (v.ruling.quiet ≡ true))
     ⊎ ((e y m : ℕ) × Noted (v.sure 0).died c e × (0 < e) × (e ≤ v.ruling.finished) × IsClear v e × HasEntry v.ruling.placed (c, y, m)
@@ -79,7 +93,8 @@ FreeStep s w n v after = (v.ruling.phase ≡ Resting) × (gone : ℕ → Bool) �
 
 -- BORN of a free block becomes 0
 abbrev pub ZeroStep : StepKind
-ZeroStep s w n v after = (v.ruling.phase ≡ Resting) × (b : ℕ) × HasEntry v.ruling.hand b × (after ≡ state (record w { born = update w.born b 0 }) n (record v { sure = update v.sure 0 (record (v.sure 0) { born = (b, 0) ∷ (v.sure 0).born }) }))
+ZeroStep s w n v after = (v.ruling.phase ≡ Resting) × (b : ℕ) × HasEntry v.ruling.hand b
+    × (after ≡ state (record w { born = update w.born b 0 }) n (record v { sure = update v.sure 0 (record (v.sure 0) { born = (b, 0) ∷ (v.sure 0).born }) }))
 
 -- FREE becomes 0: the rows that were not drawn are the stock
 abbrev pub StopStep : StepKind
@@ -88,10 +103,12 @@ StopStep s w n v after = (v.ruling.phase ≡ Resting) × (k c : ℕ) × (v.rulin
 
 -- then CURSOR becomes 0, the rows that are not of the stock are written, and FREE becomes the number of rows
 abbrev pub RewindStep : StepKind
-RewindStep s w n v after = (v.ruling.phase ≡ Resting) × (v.ruling.free ≡ 1) × (after ≡ state (record w { cursor = 0 }) n (record v { ruling = record v.ruling { cursor = 1 } }))
+RewindStep s w n v after = (v.ruling.phase ≡ Resting) × (v.ruling.free ≡ 1)
+    × (after ≡ state (record w { cursor = 0 }) n (record v { ruling = record v.ruling { cursor = 1 } }))
 
 abbrev pub RowStep : StepKind
-RowStep s w n v after = (v.ruling.phase ≡ Resting) × (i b : ℕ) × (v.ruling.free ≡ 1) × ((i < v.ruling.low) ⊎ (v.ruling.high ≤ i)) × (after ≡ state (record w { row = update w.row i b }) n (record v { sure = update v.sure 0 (record (v.sure 0) { row = (i, b) ∷ (v.sure 0).row }) }))
+RowStep s w n v after = (v.ruling.phase ≡ Resting) × (i b : ℕ) × (v.ruling.free ≡ 1) × ((i < v.ruling.low) ⊎ (v.ruling.high ≤ i))
+    × (after ≡ state (record w { row = update w.row i b }) n (record v { sure = update v.sure 0 (record (v.sure 0) { row = (i, b) ∷ (v.sure 0).row }) }))
 
 -- the row is below k and not of the stock, and names the block by what the owner is sure of
 abbrev pub IsLaid : Views → ℕ → ℕ → ℕ → Type 0
@@ -107,11 +124,13 @@ LaidOnce v k = (i j b : ℕ) → IsLaid v k i b → IsLaid v k j b → i ≡ j
 
 -- the new hand has what was in the hand and was not laid
 abbrev pub HandKeeps : Views → ℕ → List ℕ → Type 0
-HandKeeps v k hand = (b : ℕ) → (HasEntry hand b → HasEntry v.ruling.hand b × ((i : ℕ) → IsLaid v k i b → ⊥)) × (HasEntry v.ruling.hand b → HasEntry hand b ⊎ ((i : ℕ) × IsLaid v k i b))
+HandKeeps v k hand = (b : ℕ) → (HasEntry hand b → HasEntry v.ruling.hand b × ((i : ℕ) → IsLaid v k i b → ⊥))
+    × (HasEntry v.ruling.hand b → HasEntry hand b ⊎ ((i : ℕ) × IsLaid v k i b))
 
 -- each row below FREE is then of the stock, or names a block of the hand with BORN 0; the stock's rows are all below it, and the hand has what was not laid
 abbrev pub OpenStep : StepKind
-OpenStep s w n v after = (v.ruling.phase ≡ Resting) × (k : ℕ) × (hand : List ℕ) × (v.ruling.free ≡ 1) × (v.ruling.cursor ≡ 1) × (v.ruling.low < v.ruling.high → v.ruling.high ≤ k)
+OpenStep s w n v after = (v.ruling.phase ≡ Resting) × (k : ℕ) × (hand : List ℕ) × (v.ruling.free ≡ 1) × (v.ruling.cursor ≡ 1)
+    × (v.ruling.low < v.ruling.high → v.ruling.high ≤ k)
     × AllLaid v k
     × LaidOnce v k
     × HandKeeps v k hand
@@ -120,24 +139,40 @@ OpenStep s w n v after = (v.ruling.phase ≡ Resting) × (k : ℕ) × (hand : Li
 -- Taking back: BORN of a claim's block becomes 0
 abbrev pub UnbearStep : StepKind
 UnbearStep s w n v after = (v.ruling.phase ≡ RollingBack) × (x m b : ℕ) × HasEntry (v.claims 0) (claim x m (Living b))
-    × (after ≡ state (record w { born = update w.born b 0 }) n (record v { claims = update v.claims 0 (moved_on (v.claims 0) x (Whole b)); sure = update v.sure 0 (record (v.sure 0) { born = (b, 0) ∷ (v.sure 0).born }) }))
+    × (after ≡ state (record w { born = update w.born b 0 }) n (record v {
+      claims = update v.claims 0 (moved_on (v.claims 0) x (Whole b));
+      sure = update v.sure 0 (record (v.sure 0) { born = (b, 0) ∷ (v.sure 0).born });
+    }))
 
 -- then the second member's LINK gets back its old content
 abbrev pub UnlinkSecond : StepKind
-UnlinkSecond s w n v after = (v.ruling.phase ≡ RollingBack) × (x y b : ℕ) × (l : Node) × HasEntry (v.claims 0) (claim x (y + 1) (Whole b)) × Noted (v.sure 0).hist (member_of b true) l
-    × (after ≡ state (record w { head = update w.head y l }) n (record v { claims = update v.claims 0 (moved_on (v.claims 0) x (Half b)); sure = update v.sure 0 (record (v.sure 0) { head = (y, l) ∷ (v.sure 0).head }) }))
+UnlinkSecond s w n v after = (v.ruling.phase ≡ RollingBack) × (x y b : ℕ) × (l : Node) × HasEntry (v.claims 0) (claim x (y + 1) (Whole b))
+    × Noted (v.sure 0).hist (member_of b true) l
+    × (after ≡ state (record w { head = update w.head y l }) n (record v {
+      claims = update v.claims 0 (moved_on (v.claims 0) x (Half b));
+      sure = update v.sure 0 (record (v.sure 0) { head = (y, l) ∷ (v.sure 0).head });
+    }))
 
 -- and the first member's, with which the claim ends
 abbrev pub UnlinkFirst : StepKind
-UnlinkFirst s w n v after = (v.ruling.phase ≡ RollingBack) × (x m b : ℕ) × (l : Node) × (p : Progress) × HasEntry (v.claims 0) (claim x m p) × ((p ≡ Half b) ⊎ ((p ≡ Whole b) × (m ≡ 0))) × Noted (v.sure 0).hist (member_of b false) l
-    × (after ≡ state (record w { head = update w.head x l; claimed = update w.claimed x 0 }) n (record v { claims = update v.claims 0 (ended (v.claims 0) x); sure = update v.sure 0 (record (v.sure 0) { head = (x, l) ∷ (v.sure 0).head }); ruling = record v.ruling { undone = b ∷ v.ruling.undone; placed = (b, x, m) ∷ v.ruling.placed; seen = 0; quiet = false } }))
+UnlinkFirst s w n v after = (v.ruling.phase ≡ RollingBack) × (x m b : ℕ) × (l : Node) × (p : Progress) × HasEntry (v.claims 0) (claim x m p)
+    × ((p ≡ Half b) ⊎ ((p ≡ Whole b) × (m ≡ 0))) × Noted (v.sure 0).hist (member_of b false) l
+    × (after ≡ state (record w { head = update w.head x l; claimed = update w.claimed x 0 }) n (record v {
+      claims = update v.claims 0 (ended (v.claims 0) x);
+      sure = update v.sure 0 (record (v.sure 0) { head = (x, l) ∷ (v.sure 0).head });
+      ruling = record v.ruling { undone = b ∷ v.ruling.undone; placed = (b, x, m) ∷ v.ruling.placed; seen = 0; quiet = false };
+    }))
 
 -- then the block's DIED becomes the round
 abbrev pub BuryStep : StepKind
 BuryStep s w n v after = ((v.ruling.phase ≡ FirstHalf → ⊥) × (v.ruling.phase ≡ SecondHalf → ⊥)) × (b : ℕ) × HasEntry v.ruling.undone b
-    × (after ≡ state (record w { died = update w.died b (v.ruling.finished + 1) }) n (record v { sure = update v.sure 0 (record (v.sure 0) { died = (b, v.ruling.finished + 1) ∷ (v.sure 0).died }) }))
+    × (after ≡ state (record w { died = update w.died b (v.ruling.finished + 1) }) n
+    (record v { sure = update v.sure 0 (record (v.sure 0) { died = (b, v.ruling.finished + 1) ∷ (v.sure 0).died }) }))
 
 -- a claim ends whose block was drawn and not linked: the block is free
 abbrev pub UndrawStep : StepKind
 UndrawStep s w n v after = (v.ruling.phase ≡ RollingBack) × (x m b : ℕ) × HasEntry (v.claims 0) (claim x m (Drawn b))
-    × (after ≡ state (record w { claimed = update w.claimed x 0 }) n (record v { claims = update v.claims 0 (ended (v.claims 0) x); ruling = record v.ruling { hand = b ∷ v.ruling.hand } }))
+    × (after ≡ state (record w { claimed = update w.claimed x 0 }) n (record v {
+      claims = update v.claims 0 (ended (v.claims 0) x);
+      ruling = record v.ruling { hand = b ∷ v.ruling.hand };
+    }))

@@ -32,26 +32,40 @@ abbrev pub ClaimStep : StepKind
 ClaimStep s w n v after = (j x m k : ℕ) × (v.kind j ≡ Worker) × (w.claimed x ≡ 0) × (s.leads k ≡ true) × IsAbsent s (v.work j) k
     × HasEntry (v.work j).plan.target k × HasEntry (v.work j).found (x, k)
     × SecondFound s (v.work j) m k
-    × (after ≡ state (record w { claimed = update w.claimed x 1 }) n (record v { claims = update v.claims j (claim x m Claimed ∷ v.claims j); sure = update v.sure j unsure }))
+    × (after ≡ state (record w { claimed = update w.claimed x 1 }) n (record v {
+      claims = update v.claims j (claim x m Claimed ∷ v.claims j);
+      sure = update v.sure j unsure;
+    }))
 
--- draw: the number found is below FREE, and the claim gets the row's block; the pass has not seen FREE and the row yet, and learns by loads of them which of this and the next it was
+-- draw: the number found is below FREE, and the claim gets the row's block; the pass has not seen
+-- FREE and the row yet, and learns by loads of them which of this and the next it was
 abbrev pub DrawStep : StepKind
 DrawStep s w n v after = (j x m : ℕ) × HasEntry (v.claims j) (claim x m Claimed) × (v.kind j ≡ Worker) × (w.cursor < w.free)
-    × (after ≡ state (record w { cursor = w.cursor + 1 }) n (record v { claims = update v.claims j (moved_on (v.claims j) x (Drawn (w.row w.cursor))); work = update v.work j (record (v.work j) { drawn = (w.cursor, w.row w.cursor + 1) ∷ (v.work j).drawn }); sure = update v.sure j unsure }))
+    × (after ≡ state (record w { cursor = w.cursor + 1 }) n (record v {
+      claims = update v.claims j (moved_on (v.claims j) x (Drawn (w.row w.cursor)));
+      work = update v.work j (record (v.work j) { drawn = (w.cursor, w.row w.cursor + 1) ∷ (v.work j).drawn });
+      sure = update v.sure j unsure;
+    }))
 
 -- or it is not, and the claim gets none
 abbrev pub FullStep : StepKind
 FullStep s w n v after = (j x m : ℕ) × HasEntry (v.claims j) (claim x m Claimed) × (v.kind j ≡ Worker) × (w.free ≤ w.cursor)
-    × (after ≡ state (record w { cursor = w.cursor + 1 }) n (record v { claims = update v.claims j (moved_on (v.claims j) x Failed); work = update v.work j (record (v.work j) { drawn = (w.cursor, 0) ∷ (v.work j).drawn }); sure = update v.sure j unsure }))
+    × (after ≡ state (record w { cursor = w.cursor + 1 }) n (record v {
+      claims = update v.claims j (moved_on (v.claims j) x Failed);
+      work = update v.work j (record (v.work j) { drawn = (w.cursor, 0) ∷ (v.work j).drawn });
+      sure = update v.sure j unsure;
+    }))
 
 -- fill: a HISTORY word, a NAME word, DIED, or the LINK of a child, of the block that was drawn for a claim
 abbrev pub FillHistory : StepKind
 FillHistory s w n v after = (j x m b : ℕ) × HasEntry (v.claims j) (claim x m (Drawn b)) × (v.kind j ≡ Worker) × (t : Bool) × (l : Node)
-    × (after ≡ state (record w { hist = update w.hist (member_of b t) l }) n (record v { sure = update v.sure j (record (v.sure j) { hist = (member_of b t, l) ∷ (v.sure j).hist }) }))
+    × (after ≡ state (record w { hist = update w.hist (member_of b t) l }) n
+    (record v { sure = update v.sure j (record (v.sure j) { hist = (member_of b t, l) ∷ (v.sure j).hist }) }))
 
 abbrev pub FillName : StepKind
 FillName s w n v after = (j x m b : ℕ) × HasEntry (v.claims j) (claim x m (Drawn b)) × (v.kind j ≡ Worker) × (t : Bool) × (k : ℕ)
-    × (after ≡ state (record w { name = update w.name (member_of b t) k }) n (record v { sure = update v.sure j (record (v.sure j) { name = (member_of b t, k) ∷ (v.sure j).name }) }))
+    × (after ≡ state (record w { name = update w.name (member_of b t) k }) n
+    (record v { sure = update v.sure j (record (v.sure j) { name = (member_of b t, k) ∷ (v.sure j).name }) }))
 
 abbrev pub FillDied : StepKind
 FillDied s w n v after = (j x m b : ℕ) × HasEntry (v.claims j) (claim x m (Drawn b)) × (v.kind j ≡ Worker) × (k : ℕ)
@@ -59,32 +73,47 @@ FillDied s w n v after = (j x m b : ℕ) × HasEntry (v.claims j) (claim x m (Dr
 
 abbrev pub FillChild : StepKind
 FillChild s w n v after = (j x m b : ℕ) × HasEntry (v.claims j) (claim x m (Drawn b)) × (v.kind j ≡ Worker) × (t c : Bool) × (l : Node)
-    × (after ≡ state (record w { head = update w.head (child_place s.elements b t c) l }) n (record v { sure = update v.sure j (record (v.sure j) { head = (child_place s.elements b t c, l) ∷ (v.sure j).head }) }))
+    × (after ≡ state (record w { head = update w.head (child_place s.elements b t c) l }) n
+    (record v { sure = update v.sure j (record (v.sure j) { head = (child_place s.elements b t c, l) ∷ (v.sure j).head }) }))
 
--- link of the first member: the nine words are filled with the patch, DIED 0, empty links of the children, and the old contents of the members' LINK words; a patch of one member is linked whole
+-- link of the first member: the nine words are filled with the patch, DIED 0, empty links of the
+-- children, and the old contents of the members' LINK words; a patch of one member is linked whole
 abbrev pub LinkFirst : StepKind
-LinkFirst s w n v after = (j x m b k : ℕ) × HasEntry (v.claims j) (claim x m (Drawn b)) × (v.kind j ≡ Worker) × Noted (v.sure j).died b 0 × Noted (v.sure j).name (member_of b false) k × Noted (v.sure j).name (member_of b true) (s.mate k) × (s.leads k ≡ true)
+LinkFirst s w n v after = (j x m b k : ℕ) × HasEntry (v.claims j) (claim x m (Drawn b)) × (v.kind j ≡ Worker) × Noted (v.sure j).died b 0
+    × Noted (v.sure j).name (member_of b false) k × Noted (v.sure j).name (member_of b true) (s.mate k) × (s.leads k ≡ true)
     × NoChildren s (v.sure j) b × OldLinks (v.sure j) b x m
     × HasEntry (v.work j).found (x, k) × SecondFound s (v.work j) m k × (q : Progress) × ((q ≡ Half b) ⊎ ((q ≡ Whole b) × (m ≡ 0)))
     × (after ≡ state (record w { head = update w.head x (node (b + 1) 0) }) n (record v { claims = update v.claims j (moved_on (v.claims j) x q) }))
 
 -- and of the second, whose HISTORY word has the old content of its LINK word
 abbrev pub LinkSecond : StepKind
-LinkSecond s w n v after = (j x y b : ℕ) × (l : Node) × HasEntry (v.claims j) (claim x (y + 1) (Half b)) × (v.kind j ≡ Worker) × Noted (v.sure j).head y l × Noted (v.sure j).hist (member_of b true) l
+LinkSecond s w n v after = (j x y b : ℕ) × (l : Node) × HasEntry (v.claims j) (claim x (y + 1) (Half b)) × (v.kind j ≡ Worker) × Noted (v.sure j).head y l
+    × Noted (v.sure j).hist (member_of b true) l
     × (after ≡ state (record w { head = update w.head y (node (b + 1) 0) }) n (record v { claims = update v.claims j (moved_on (v.claims j) x (Whole b)) }))
 
 -- publish: BORN becomes the round in which the pass works, and it knows the names at the members' places as bisected
 abbrev pub PublishStep : StepKind
-PublishStep s w n v after = (j x m b : ℕ) × HasEntry (v.claims j) (claim x m (Whole b)) × (v.kind j ≡ Worker) × (known : List ℕ) × ((k : ℕ) → HasEntry known k → HasEntry (v.work j).known k ⊎ ((y : ℕ) × ((y ≡ x) ⊎ (m ≡ y + 1)) × HasEntry (v.work j).found (y, k)))
-    × (after ≡ state (record w { born = update w.born b (v.work j).round }) n (record v { claims = update v.claims j (moved_on (v.claims j) x (Living b)); work = update v.work j (record (v.work j) { known = known }) }))
+PublishStep s w n v after = (j x m b : ℕ) × HasEntry (v.claims j) (claim x m (Whole b)) × (v.kind j ≡ Worker) × (known : List ℕ)
+    × ((k : ℕ) → HasEntry known k → HasEntry (v.work j).known k ⊎ ((y : ℕ) × ((y ≡ x) ⊎ (m ≡ y + 1)) × HasEntry (v.work j).found (y, k)))
+    × (after ≡ state (record w { born = update w.born b (v.work j).round }) n (record v {
+      claims = update v.claims j (moved_on (v.claims j) x (Living b));
+      work = update v.work j (record (v.work j) { known = known });
+    }))
 
 -- retire: a patch of the retire list of which the pass found the block, and no child as bisected; DIED was 0 and becomes the round in which the pass works
 abbrev pub RetireStep : StepKind
 RetireStep s w n v after = (j b k : ℕ) × HasEntry (v.work j).given (b, k) × (v.kind j ≡ Worker) × HasEntry (v.work j).plan.retire k × (w.died b ≡ 0)
-    × ((c : Bool) → HasEntry (v.work j).open_ (s.child k c)) × ((i : ℕ) → s.mate k ≡ i + 1 → (c : Bool) → HasEntry (v.work j).open_ (s.child (i + 1) c)) × (open_ : List ℕ) × ((i : ℕ) → HasEntry open_ i → HasEntry (v.work j).open_ i ⊎ IsMember s k i)
-    × (after ≡ state (record w { died = update w.died b (v.work j).round }) n (record v { work = update v.work j (record (v.work j) { open_ = open_; retired = b ∷ (v.work j).retired }) }))
+    × ((c : Bool) → HasEntry (v.work j).open_ (s.child k c)) × ((i : ℕ) → s.mate k ≡ i + 1 → (c : Bool) → HasEntry (v.work j).open_ (s.child (i + 1) c))
+    × (open_ : List ℕ) × ((i : ℕ) → HasEntry open_ i → HasEntry (v.work j).open_ i ⊎ IsMember s k i)
+    × (after ≡ state (record w { died = update w.died b (v.work j).round }) n (record v {
+      work = update v.work j (record (v.work j) {
+        open_ = open_;
+        retired = b ∷ (v.work j).retired;
+      });
+    }))
 
 -- or DIED shows that it is retired already
 abbrev pub RetiredStep : StepKind
-RetiredStep s w n v after = (j : ℕ) × (v.kind j ≡ Worker) × ((v.work j).half ≡ SecondHalf) × (b k : ℕ) × HasEntry (v.work j).given (b, k) × (0 < w.died b) × (open_ : List ℕ) × ((i : ℕ) → HasEntry open_ i → HasEntry (v.work j).open_ i ⊎ IsMember s k i)
+RetiredStep s w n v after = (j : ℕ) × (v.kind j ≡ Worker) × ((v.work j).half ≡ SecondHalf) × (b k : ℕ) × HasEntry (v.work j).given (b, k) × (0 < w.died b)
+    × (open_ : List ℕ) × ((i : ℕ) → HasEntry open_ i → HasEntry (v.work j).open_ i ⊎ IsMember s k i)
     × (after ≡ state w n (record v { work = update v.work j (record (v.work j) { open_ = open_ }) }))

@@ -1,7 +1,8 @@
 -- The claims in a view.
 use Rattle.std.specs.Prelude.{ℕ, ◌==◌, cond, List, [], ◌∷◌}
 
--- How far the holder of a claim has come: it has claimed the patch; its draw found no block; it drew a block; the block is linked at the first member's place; at both; the block is published
+-- How far the holder of a claim has come: it has claimed the patch; its draw found no block; it drew a
+-- block; the block is linked at the first member's place; at both; the block is published
 pub data Progress : Type 0 where
   Claimed : Progress
   Failed : Progress

@@ -39,7 +39,9 @@ spelled_word root level bits = 1 + root * 536870912 + level * 16777216 + bits
 abbrev pub AreParts : ℕ → ℕ → ℕ → Type 0
 AreParts root level bits = (root < 65535) × (level ≤ 24) × (bits < 2 ^ level)
 
--- the law that such a root, number of letters and bits are read from their word, which is the word of their name; and that each word of a name but 0 is spelled so
+-- the law that such a root, number of letters and bits are read from their word, which
+-- is the word of their name; and that each word of a name but 0 is spelled so
 abbrev pub NamesSpell : Type 0
-NamesSpell = ((root level bits : ℕ) → AreParts root level bits → (name_of (spelled_word root level bits) ≡ Some (root, letters level bits)) × (name_word (Some (root, letters level bits)) ≡ spelled_word root level bits) × IsNameWord (spelled_word root level bits))
+NamesSpell = ((root level bits : ℕ) → AreParts root level bits → (name_of (spelled_word root level bits) ≡ Some (root, letters level bits))
+    × (name_word (Some (root, letters level bits)) ≡ spelled_word root level bits) × IsNameWord (spelled_word root level bits))
     × ((k : ℕ) → IsNameWord k → (k ≡ 0) ⊎ ((root level bits : ℕ) × AreParts root level bits × (k ≡ spelled_word root level bits)))

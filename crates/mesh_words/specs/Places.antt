@@ -29,4 +29,5 @@ place_at l x = cond (ltb x l.elements) (Macro x) (Child ((x - l.elements) / 4) (
 
 -- the law that places are numbered from 0 without a gap
 abbrev pub PlacesNumbered : Type 0
-PlacesNumbered = (l : Layout) → ((at : ElemAt) → IsElemAt l at → (place_number l at < place_count l) × (place_at l (place_number l at) ≡ at)) × ((x : ℕ) → x < place_count l → IsElemAt l (place_at l x) × (place_number l (place_at l x) ≡ x))
+PlacesNumbered = (l : Layout) → ((at : ElemAt) → IsElemAt l at → (place_number l at < place_count l) × (place_at l (place_number l at) ≡ at))
+    × ((x : ℕ) → x < place_count l → IsElemAt l (place_at l x) × (place_number l (place_at l x) ≡ x))

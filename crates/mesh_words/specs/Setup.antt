@@ -27,7 +27,8 @@ pub record Setup : Type 0 where
 abbrev pub places : Setup → ℕ
 places s = s.elements + 4 * s.pool
 
--- the laws of the names: different elements have different names, a name with a mate leads, a patch has one first member, which is no second one, and 0 is no name that leads
+-- the laws of the names: different elements have different names, a name with a mate leads, a
+-- patch has one first member, which is no second one, and 0 is no name that leads
 pub record NamesApart (s : Setup) : Type 0 where
   pub top_one : (i j : ℕ) → s.top i ≡ s.top j → i ≡ j
   pub child_one : (n m : ℕ) (c d : Bool) → s.child n c ≡ s.child m d → (n ≡ m) × (c ≡ d)

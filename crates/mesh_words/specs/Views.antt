@@ -50,7 +50,8 @@ pub data Walk : Type 0 where
   At : ℕ → ℕ → ℕ → Bool → Walk
   Past : ℕ → ℕ → ℕ → Bool → Walk
 
--- the lists of a round, of names: those that it needs, the least forest that holds them and the last finished round's, and the first members of the patches that the second half is to retire
+-- the lists of a round, of names: those that it needs, the least forest that holds them and the last
+-- finished round's, and the first members of the patches that the second half is to retire
 pub record Plan : Type 0 where
   pub needs : List ℕ
   pub target : List ℕ

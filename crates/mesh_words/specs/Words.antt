@@ -69,25 +69,37 @@ pub record WritesAre (l : Layout) (words : List ℕ) (n : ℕ) : Type 0 where
   pub round : words_at l (slice_set words (address l Round) n) ≡ record (words_at l words) { round = n / 4294967296; taken = n % 4294967296 }
   pub cursor : words_at l (slice_set words (address l Cursor) n) ≡ record (words_at l words) { cursor = n }
   pub free : words_at l (slice_set words (address l FreeCount) n) ≡ record (words_at l words) { free = n }
-  pub released : (q : ℕ) → q ≤ l.rounds → words_at l (slice_set words (address l (Released q)) n) ≡ record (words_at l words) { released = update (words_at l words).released q n }
+  pub released : (q : ℕ) → q ≤ l.rounds
+      → words_at l (slice_set words (address l (Released q)) n) ≡ record (words_at l words) { released = update (words_at l words).released q n }
   pub row : (i : ℕ) → i < l.pool → words_at l (slice_set words (address l (Row i)) n) ≡ record (words_at l words) { row = update (words_at l words).row i n }
-  pub link : (x : ℕ) → x < place_count l → words_at l (slice_set words (address l (LinkOf (place_at l x))) n) ≡ record (words_at l words) { claimed = update (words_at l words).claimed x (n % 2); head = update (words_at l words).head x (node_of n) }
-  pub hist : (h : ℕ) → h < 2 * l.pool → words_at l (slice_set words (address l (history_word h)) n) ≡ record (words_at l words) { hist = update (words_at l words).hist h (node_of n) }
-  pub born : (b : ℕ) → b < l.pool → words_at l (slice_set words (address l (OfBlock b Born)) n) ≡ record (words_at l words) { born = update (words_at l words).born b n }
-  pub died : (b : ℕ) → b < l.pool → words_at l (slice_set words (address l (OfBlock b Died)) n) ≡ record (words_at l words) { died = update (words_at l words).died b n }
-  pub name : (h : ℕ) → h < 2 * l.pool → words_at l (slice_set words (address l (member_name_word h)) n) ≡ record (words_at l words) { name = update (words_at l words).name h n }
+  pub link : (x : ℕ) → x < place_count l
+      → words_at l (slice_set words (address l (LinkOf (place_at l x))) n) ≡ record (words_at l words) {
+        claimed = update (words_at l words).claimed x (n % 2);
+        head = update (words_at l words).head x (node_of n);
+      }
+  pub hist : (h : ℕ) → h < 2 * l.pool
+      → words_at l (slice_set words (address l (history_word h)) n) ≡ record (words_at l words) { hist = update (words_at l words).hist h (node_of n) }
+  pub born : (b : ℕ) → b < l.pool
+      → words_at l (slice_set words (address l (OfBlock b Born)) n) ≡ record (words_at l words) { born = update (words_at l words).born b n }
+  pub died : (b : ℕ) → b < l.pool
+      → words_at l (slice_set words (address l (OfBlock b Died)) n) ≡ record (words_at l words) { died = update (words_at l words).died b n }
+  pub name : (h : ℕ) → h < 2 * l.pool
+      → words_at l (slice_set words (address l (member_name_word h)) n) ≡ record (words_at l words) { name = update (words_at l words).name h n }
 
 -- the law that a write of one word changes one function at one number
 abbrev pub WritesUpdate : Type 0
 WritesUpdate = (l : Layout) (words : List ℕ) (n : ℕ) → length words ≡ word_count l → WritesAre l words n
 
--- the law of what numbers say: a member's number tells its NAME and HISTORY words, a place below the number of macro elements is the macro element's, and of the places of a block's children the first two are those of its first member
+-- the law of what numbers say: a member's number tells its NAME and HISTORY words, a place below the number of macro
+-- elements is the macro element's, and of the places of a block's children the first two are those of its first member
 pub record NumbersTell : Type 0 where
   pub names : (b : ℕ) (t : Bool) → member_name_word (member_of b t) ≡ OfBlock b (NameOf t)
   pub histories : (b : ℕ) (t : Bool) → history_word (member_of b t) ≡ OfBlock b (HistoryOf t)
   pub tops : (l : Layout) (x : ℕ) → x < l.elements → place_at l x ≡ Macro x
-  pub firsts : (l : Layout) (b : ℕ) → (place_at l (child_place l.elements b false false) ≡ Child b 0) × (place_at l (child_place l.elements b false true) ≡ Child b 1)
-  pub seconds : (l : Layout) (b : ℕ) → (place_at l (child_place l.elements b true false) ≡ Child b 2) × (place_at l (child_place l.elements b true true) ≡ Child b 3)
+  pub firsts : (l : Layout) (b : ℕ) → (place_at l (child_place l.elements b false false) ≡ Child b 0)
+      × (place_at l (child_place l.elements b false true) ≡ Child b 1)
+  pub seconds : (l : Layout) (b : ℕ) → (place_at l (child_place l.elements b true false) ≡ Child b 2)
+      × (place_at l (child_place l.elements b true true) ≡ Child b 3)
 
 -- the law that a link's word names the link's block and round
 abbrev pub NodesRead : Type 0

@@ -11,7 +11,8 @@ use Rattle.mesh_steps.specs.States.{State, state}
 use Rattle.mesh_steps.specs.Steps.{Run, Step, ByClaimStep, ByDrawStep, ByFillHistory, ByFillName, ByFillDied, ByFillChild, ByLinkFirst, ByLinkSecond, ByPublishStep, ByWorkTop, ByWorkEnds, ByLoadHead, ByLoadBorn, ByLoadRow, ByLoadCursor, ByLoadFree, ByNoteFree, ByNotePlaces, BySplitStep, ByJoinWorker, ByBeginStep, ByPlanStep, ByCloseStep, ByAdvanceStep, ByUnclaimStep, ByStopStep, ByRewindStep, ByRowStep, ByOpenStep}
 use Rattle.square_runs.specs.SquareKinds.{fresh_state}
 use Rattle.square_runs.specs.SquareRun.{name0, name1, Along}
-use Rattle.square_runs.specs.SquareTwice.{pair_setup, first_words, row_words, opened_words, claimed, drawn, history0, history1, undead, named0, named1, child0, child1, child2, child3, linked0, linked1, published, unclaimed, finished1, stopped, rewound, laid, opened}
+use Rattle.square_runs.specs.PatchWords as root
+use Rattle.square_runs.specs.SquareTwice.{pair_setup, first_words, row_words, opened_words, published, unclaimed, finished1, stopped, rewound, laid, opened}
 use Rattle.square_runs.proofs.SquareLists.{both, first_plan, none_listed, both_stay}
 use Rattle.square_runs.proofs.SquareMoves.{begun, planned, closed, advanced, worker_made, joined, cursor_seen, free_seen, stopped_at, takes_row, opened_at, placed_at, claims_at, draws_for, comes_to, unclaims, sure_head, sure_hist, sure_born, sure_died, sure_name, sure_row, found_at, finds_absent, knows}
 use Rattle.square_runs.proofs.SquareNotes.{lt01, lt02, lt12, le00, le11, one_row, one_laid, ne, en, not_less, same_below_one, kids_noted, past_four, old_words, living_claim, three, only_zero, not_living, lt04, no_half}
@@ -61,97 +62,97 @@ s6 = ByWorkEnds (1, refl, 1, name1, node 0 0, inl (inl (inl refl), refl), inl re
 abbrev pub u7 : Views
 u7 = claims_at 1 0 2 u6
 
-pub s7 : Step pair_setup (state (fresh_words 2) 2 u6) (state claimed 2 u7)
+pub s7 : Step pair_setup (state (fresh_words 2) 2 u6) (state (root.claimed (fresh_words 2)) 2 u7)
 s7 = ByClaimStep (1, 0, 2, name0, refl, refl, refl, inl (inr (inl refl)), inl refl, inr (inl refl), inr (1, 536870912, refl, refl, inl refl), refl)
 
 abbrev pub u8 : Views
 u8 = draws_for 1 0 0 0 u7
 
-pub s8 : Step pair_setup (state claimed 2 u7) (state drawn 2 u8)
+pub s8 : Step pair_setup (state (root.claimed (fresh_words 2)) 2 u7) (state (root.drawn (fresh_words 2)) 2 u8)
 s8 = ByDrawStep (1, 0, 2, inl refl, refl, lt02, refl)
 
 abbrev pub u9 : Views
 u9 = sure_head 1 0 (node 0 0) u8
 
-pub s9 : Step pair_setup (state drawn 2 u8) (state drawn 2 u9)
+pub s9 : Step pair_setup (state (root.drawn (fresh_words 2)) 2 u8) (state (root.drawn (fresh_words 2)) 2 u9)
 s9 = ByLoadHead (1, 0, refl)
 
 abbrev pub u10 : Views
 u10 = sure_head 1 1 (node 0 0) u9
 
-pub s10 : Step pair_setup (state drawn 2 u9) (state drawn 2 u10)
+pub s10 : Step pair_setup (state (root.drawn (fresh_words 2)) 2 u9) (state (root.drawn (fresh_words 2)) 2 u10)
 s10 = ByLoadHead (1, 1, refl)
 
 abbrev pub u11 : Views
 u11 = sure_hist 1 (member_of 0 false) (node 0 0) u10
 
-pub s11 : Step pair_setup (state drawn 2 u10) (state history0 2 u11)
+pub s11 : Step pair_setup (state (root.drawn (fresh_words 2)) 2 u10) (state (root.history0 (fresh_words 2)) 2 u11)
 s11 = ByFillHistory (1, 0, 2, 0, inl refl, refl, false, node 0 0, refl)
 
 abbrev pub u12 : Views
 u12 = sure_hist 1 (member_of 0 true) (node 0 0) u11
 
-pub s12 : Step pair_setup (state history0 2 u11) (state history1 2 u12)
+pub s12 : Step pair_setup (state (root.history0 (fresh_words 2)) 2 u11) (state (root.history1 (fresh_words 2)) 2 u12)
 s12 = ByFillHistory (1, 0, 2, 0, inl refl, refl, true, node 0 0, refl)
 
 abbrev pub u13 : Views
 u13 = sure_died 1 0 0 u12
 
-pub s13 : Step pair_setup (state history1 2 u12) (state undead 2 u13)
+pub s13 : Step pair_setup (state (root.history1 (fresh_words 2)) 2 u12) (state (root.undead (fresh_words 2)) 2 u13)
 s13 = ByFillDied (1, 0, 2, 0, inl refl, refl, 0, refl)
 
 abbrev pub u14 : Views
 u14 = sure_name 1 (member_of 0 false) name0 u13
 
-pub s14 : Step pair_setup (state undead 2 u13) (state named0 2 u14)
+pub s14 : Step pair_setup (state (root.undead (fresh_words 2)) 2 u13) (state (root.named0 (fresh_words 2)) 2 u14)
 s14 = ByFillName (1, 0, 2, 0, inl refl, refl, false, name0, refl)
 
 abbrev pub u15 : Views
 u15 = sure_name 1 (member_of 0 true) name1 u14
 
-pub s15 : Step pair_setup (state named0 2 u14) (state named1 2 u15)
+pub s15 : Step pair_setup (state (root.named0 (fresh_words 2)) 2 u14) (state (root.named1 (fresh_words 2)) 2 u15)
 s15 = ByFillName (1, 0, 2, 0, inl refl, refl, true, name1, refl)
 
 abbrev pub u16 : Views
 u16 = sure_head 1 (child_place 2 0 false false) (node 0 0) u15
 
-pub s16 : Step pair_setup (state named1 2 u15) (state child0 2 u16)
+pub s16 : Step pair_setup (state (root.named1 (fresh_words 2)) 2 u15) (state (root.child0 (fresh_words 2)) 2 u16)
 s16 = ByFillChild (1, 0, 2, 0, inl refl, refl, false, false, node 0 0, refl)
 
 abbrev pub u17 : Views
 u17 = sure_head 1 (child_place 2 0 false true) (node 0 0) u16
 
-pub s17 : Step pair_setup (state child0 2 u16) (state child1 2 u17)
+pub s17 : Step pair_setup (state (root.child0 (fresh_words 2)) 2 u16) (state (root.child1 (fresh_words 2)) 2 u17)
 s17 = ByFillChild (1, 0, 2, 0, inl refl, refl, false, true, node 0 0, refl)
 
 abbrev pub u18 : Views
 u18 = sure_head 1 (child_place 2 0 true false) (node 0 0) u17
 
-pub s18 : Step pair_setup (state child1 2 u17) (state child2 2 u18)
+pub s18 : Step pair_setup (state (root.child1 (fresh_words 2)) 2 u17) (state (root.child2 (fresh_words 2)) 2 u18)
 s18 = ByFillChild (1, 0, 2, 0, inl refl, refl, true, false, node 0 0, refl)
 
 abbrev pub u19 : Views
 u19 = sure_head 1 (child_place 2 0 true true) (node 0 0) u18
 
-pub s19 : Step pair_setup (state child2 2 u18) (state child3 2 u19)
+pub s19 : Step pair_setup (state (root.child2 (fresh_words 2)) 2 u18) (state (root.child3 (fresh_words 2)) 2 u19)
 s19 = ByFillChild (1, 0, 2, 0, inl refl, refl, true, true, node 0 0, refl)
 
 abbrev pub u20 : Views
 u20 = comes_to 1 0 (Half 0) u19
 
-pub s20 : Step pair_setup (state child3 2 u19) (state linked0 2 u20)
+pub s20 : Step pair_setup (state (root.child3 (fresh_words 2)) 2 u19) (state (root.linked0 (fresh_words 2)) 2 u20)
 s20 = ByLinkFirst (1, 0, 2, 0, name0, inl refl, refl, inl (refl, refl), inr (en 1 0 (lt01), inl (refl, refl)), inl (refl, refl), refl, kids_noted ((1, node 0 0) ∷ (0, node 0 0) ∷ []), old_words, inr (inl refl), inr (1, 536870912, refl, refl, inl refl), Half 0, inl refl, refl)
 
 abbrev pub u21 : Views
 u21 = comes_to 1 0 (Whole 0) u20
 
-pub s21 : Step pair_setup (state linked0 2 u20) (state linked1 2 u21)
+pub s21 : Step pair_setup (state (root.linked0 (fresh_words 2)) 2 u20) (state (root.linked1 (fresh_words 2)) 2 u21)
 s21 = ByLinkSecond (1, 0, 1, 0, node 0 0, inl refl, refl, past_four ((1, node 0 0) ∷ (0, node 0 0) ∷ []) 1 (node 0 0) lt12 (inl (refl, refl)), inl (refl, refl), refl)
 
 abbrev pub u22 : Views
 u22 = knows 1 0 (Living 0) (name0 ∷ []) u21
 
-pub s22 : Step pair_setup (state linked1 2 u21) (state published 2 u22)
+pub s22 : Step pair_setup (state (root.linked1 (fresh_words 2)) 2 u21) (state published 2 u22)
 s22 = ByPublishStep (1, 0, 2, 0, inl refl, refl, name0 ∷ [], bisects_first, refl)
 
 abbrev pub u23 : Views
@@ -259,7 +260,7 @@ s38 = ByOpenStep (refl, 1, [], refl, refl, (λ _. le11), one_row 1 1 ((0, 0) ∷
 
 -- both parts, as runs
 abbrev pub first_states : List State
-first_states = state (fresh_words 2) 1 u1 ∷ state (fresh_words 2) 2 u2 ∷ state (fresh_words 2) 2 u3 ∷ state (fresh_words 2) 2 u4 ∷ state (fresh_words 2) 2 u5 ∷ state (fresh_words 2) 2 u6 ∷ state claimed 2 u7 ∷ state drawn 2 u8 ∷ state drawn 2 u9 ∷ state drawn 2 u10 ∷ state history0 2 u11 ∷ state history1 2 u12 ∷ state undead 2 u13 ∷ state named0 2 u14 ∷ state named1 2 u15 ∷ state child0 2 u16 ∷ state child1 2 u17 ∷ state child2 2 u18 ∷ state child3 2 u19 ∷ state linked0 2 u20 ∷ state linked1 2 u21 ∷ state published 2 u22 ∷ state published 2 u23 ∷ state published 2 u24 ∷ state published 2 u25 ∷ state published 2 u26 ∷ state unclaimed 2 u27 ∷ state finished1 2 u28 ∷ []
+first_states = state (fresh_words 2) 1 u1 ∷ state (fresh_words 2) 2 u2 ∷ state (fresh_words 2) 2 u3 ∷ state (fresh_words 2) 2 u4 ∷ state (fresh_words 2) 2 u5 ∷ state (fresh_words 2) 2 u6 ∷ state (root.claimed (fresh_words 2)) 2 u7 ∷ state (root.drawn (fresh_words 2)) 2 u8 ∷ state (root.drawn (fresh_words 2)) 2 u9 ∷ state (root.drawn (fresh_words 2)) 2 u10 ∷ state (root.history0 (fresh_words 2)) 2 u11 ∷ state (root.history1 (fresh_words 2)) 2 u12 ∷ state (root.undead (fresh_words 2)) 2 u13 ∷ state (root.named0 (fresh_words 2)) 2 u14 ∷ state (root.named1 (fresh_words 2)) 2 u15 ∷ state (root.child0 (fresh_words 2)) 2 u16 ∷ state (root.child1 (fresh_words 2)) 2 u17 ∷ state (root.child2 (fresh_words 2)) 2 u18 ∷ state (root.child3 (fresh_words 2)) 2 u19 ∷ state (root.linked0 (fresh_words 2)) 2 u20 ∷ state (root.linked1 (fresh_words 2)) 2 u21 ∷ state published 2 u22 ∷ state published 2 u23 ∷ state published 2 u24 ∷ state published 2 u25 ∷ state published 2 u26 ∷ state unclaimed 2 u27 ∷ state finished1 2 u28 ∷ []
 
 pub first_run : Run pair_setup (fresh_state 2) first_states
 first_run = (s1, (s2, (s3, (s4, (s5, (s6, (s7, (s8, (s9, (s10, (s11, (s12, (s13, (s14, (s15, (s16, (s17, (s18, (s19, (s20, (s21, (s22, (s23, (s24, (s25, (s26, (s27, (s28, tt))))))))))))))))))))))))))))

@@ -1,5 +1,5 @@
 -- The words of a bisection of the first child of element 0 by block 1: each as a function of the words before it. Each line changes one word.
-use Rattle.std.specs.Prelude.{◌+◌, true, false}
+use Rattle.std.specs.Prelude.{◌+◌, true, false, List, [], ◌∷◌}
 use Rattle.mesh_words.specs.Functions.{update}
 use Rattle.mesh_words.specs.Places.{member_of, child_place}
 use Rattle.mesh_words.specs.Words.{Words, node}
@@ -43,3 +43,7 @@ kid3 w = let u = kid2 w in record u { head = update u.head (child_place 2 1 true
 -- and links the one member to it
 abbrev pub linked : Words → Words
 linked w = let u = kid3 w in record u { head = update u.head at_child (node 2 0) }
+
+-- these words, in order
+abbrev pub bisection : Words → List Words
+bisection w = claimed w ∷ drawn w ∷ history0 w ∷ history1 w ∷ undead w ∷ named0 w ∷ named1 w ∷ kid0 w ∷ kid1 w ∷ kid2 w ∷ kid3 w ∷ linked w ∷ []

@@ -1,5 +1,6 @@
--- The words of a bisection of the square's patch by block 0, where its LINK words name no block: each as a function of the words before it. Each line changes one word.
-use Rattle.std.specs.Prelude.{◌+◌, true, false}
+-- The words of a bisection of the square's patch by block 0, where its LINK words name no
+-- block: each as a function of the words before it. Each line changes one word.
+use Rattle.std.specs.Prelude.{◌+◌, true, false, List, [], ◌∷◌}
 use Rattle.mesh_words.specs.Functions.{update}
 use Rattle.mesh_words.specs.Places.{member_of, child_place}
 use Rattle.mesh_words.specs.Words.{Words, node}
@@ -46,3 +47,7 @@ linked0 w = let u = child3 w in record u { head = update u.head 0 (node 1 0) }
 
 abbrev pub linked1 : Words → Words
 linked1 w = let u = linked0 w in record u { head = update u.head 1 (node 1 0) }
+
+-- these words, in order
+abbrev pub bisection : Words → List Words
+bisection w = claimed w ∷ drawn w ∷ history0 w ∷ history1 w ∷ undead w ∷ named0 w ∷ named1 w ∷ child0 w ∷ child1 w ∷ child2 w ∷ child3 w ∷ linked0 w ∷ linked1 w ∷ []

@@ -1,4 +1,5 @@
--- A further run with two blocks: after the patch of the square its first child is bisected, whose refinement edge is of the boundary, so that it is a patch of one member. Each line changes one word.
+-- A further run with two blocks: after the patch of the square its first child is bisected, whose
+-- refinement edge is of the boundary, so that it is a patch of one member. Each line changes one word.
 use Rattle.std.specs.Prelude.{ℕ, ◌+◌, true, false, List, [], ◌∷◌, ◌++◌}
 use Rattle.mesh_words.specs.Functions.{update}
 use Rattle.mesh_words.specs.NameWords.{name_code}

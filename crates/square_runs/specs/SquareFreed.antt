@@ -1,4 +1,5 @@
--- A run that goes on from the child's: the child's block is retired, stamped, cut out of its place's chain and freed, while no word of the other places is looked at. Each line changes one word.
+-- A run that goes on from the child's: the child's block is retired, stamped, cut out of its place's
+-- chain and freed, while no word of the other places is looked at. Each line changes one word.
 use Rattle.std.specs.Prelude.{◌≡◌, ℕ, ◌/◌, List, [], ◌∷◌, ◌++◌}
 use Rattle.mesh_words.specs.Entries.{HasEntry}
 use Rattle.mesh_words.specs.Functions.{update}
@@ -46,9 +47,12 @@ SquareFreed = (states : List State) × Run pair_setup (fresh_state 2) states × 
 
 -- what a seat is sure of is of this place's LINK word and of words of this block alone
 abbrev pub LooksAt : Sure → ℕ → ℕ → Type 0
-LooksAt u x b = ((y : ℕ) (l : Node) → HasEntry u.head (y, l) → y ≡ x) × ((i : ℕ) (l : Node) → HasEntry u.hist (i, l) → i / 2 ≡ b) × ((c k : ℕ) → HasEntry u.died (c, k) → c ≡ b)
+LooksAt u x b = ((y : ℕ) (l : Node) → HasEntry u.head (y, l) → y ≡ x) × ((i : ℕ) (l : Node) → HasEntry u.hist (i, l) → i / 2 ≡ b)
+    × ((c k : ℕ) → HasEntry u.died (c, k) → c ≡ b)
     × ((c k : ℕ) → HasEntry u.born (c, k) → c ≡ b) × ((i k : ℕ) → HasEntry u.name (i, k) → i / 2 ≡ b) × ((i k : ℕ) → HasEntry u.row (i, k) → ⊥)
 
--- the law that at its end the block is freed by what the owner knows of the child's place alone: of the square's own block, which stays noted with its places, it knows no word
+-- the law that at its end the block is freed by what the owner knows of the child's place
+-- alone: of the square's own block, which stays noted with its places, it knows no word
 abbrev pub FreesAlone : Type 0
-FreesAlone = (a b : State) × RunsTo 2 a × (a.words ≡ cut) × FreeStep pair_setup a.words a.seats a.views b × LooksAt (a.views.sure 0) at_child 1 × HasEntry b.views.ruling.hand 1 × HasEntry b.views.ruling.placed (0, 0, 2)
+FreesAlone = (a b : State) × RunsTo 2 a × (a.words ≡ cut) × FreeStep pair_setup a.words a.seats a.views b × LooksAt (a.views.sure 0) at_child 1
+    × HasEntry b.views.ruling.hand 1 × HasEntry b.views.ruling.placed (0, 0, 2)

@@ -21,7 +21,10 @@ unclaimed_full = let w = drawn_none in record w { claimed = update w.claimed 0 0
 
 -- the law that the run with the full pool is one
 abbrev pub SquareFull : Type 0
-SquareFull = (states : List State) × Run square_setup (fresh_state 1) states × Along (fresh_state 1 ∷ states) (fresh_words 1 ∷ claimed ∷ drawn ∷ history0 ∷ history1 ∷ undead ∷ named0 ∷ named1 ∷ child0 ∷ child1 ∷ child2 ∷ child3 ∷ linked0 ∷ linked1 ∷ published ∷ unclaimed ∷ finished1 ∷ stopped ∷ rewound ∷ pinned ∷ retired ∷ stamped0 ∷ stamped1 ∷ finished2 ∷ claimed_full ∷ drawn_none ∷ unclaimed_full ∷ [])
+SquareFull = (states : List State) × Run square_setup (fresh_state 1) states
+    × Along (fresh_state 1 ∷ states) (fresh_words 1 ∷ claimed ∷ drawn ∷ history0 ∷ history1 ∷ undead ∷ named0 ∷ named1 ∷ child0 ∷ child1 ∷ child2 ∷ child3
+    ∷ linked0 ∷ linked1 ∷ published ∷ unclaimed ∷ finished1 ∷ stopped ∷ rewound ∷ pinned ∷ retired ∷ stamped0 ∷ stamped1 ∷ finished2 ∷ claimed_full
+    ∷ drawn_none ∷ unclaimed_full ∷ [])
 
 -- in the other the round is refused once the block was drawn, and the claim ends with it
 abbrev pub undrawn : Words
@@ -29,4 +32,5 @@ undrawn = let w = drawn in record w { claimed = update w.claimed 0 0 }
 
 -- the law that this run is one
 abbrev pub SquareUndrawn : Type 0
-SquareUndrawn = (states : List State) × Run square_setup (fresh_state 1) states × Along (fresh_state 1 ∷ states) (fresh_words 1 ∷ claimed ∷ drawn ∷ undrawn ∷ [])
+SquareUndrawn = (states : List State) × Run square_setup (fresh_state 1) states
+    × Along (fresh_state 1 ∷ states) (fresh_words 1 ∷ claimed ∷ drawn ∷ undrawn ∷ [])

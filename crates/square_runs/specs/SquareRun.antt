@@ -149,7 +149,9 @@ given_back = let w = pinned in record w { released = update w.released 1 (w.rele
 
 -- the words of the run, in order
 abbrev pub run_words : List Words
-run_words = fresh_words 1 ∷ claimed ∷ drawn ∷ history0 ∷ history1 ∷ undead ∷ named0 ∷ named1 ∷ child0 ∷ child1 ∷ child2 ∷ child3 ∷ linked0 ∷ linked1 ∷ published ∷ unclaimed ∷ finished1 ∷ stopped ∷ rewound ∷ pinned ∷ retired ∷ stamped0 ∷ stamped1 ∷ finished2 ∷ unpinned ∷ cut0 ∷ cut1 ∷ unborn ∷ laid ∷ opened ∷ claimed_again ∷ drawn_again ∷ []
+run_words = fresh_words 1 ∷ claimed ∷ drawn ∷ history0 ∷ history1 ∷ undead ∷ named0 ∷ named1 ∷ child0 ∷ child1 ∷ child2 ∷ child3 ∷ linked0 ∷ linked1
+    ∷ published ∷ unclaimed ∷ finished1 ∷ stopped ∷ rewound ∷ pinned ∷ retired ∷ stamped0 ∷ stamped1 ∷ finished2 ∷ unpinned ∷ cut0 ∷ cut1 ∷ unborn ∷ laid
+    ∷ opened ∷ claimed_again ∷ drawn_again ∷ []
 
 -- the states have the listed words, one after the other, each for one state or more: a load, a split or a phase changes no word
 abbrev pub Along : List State → List Words → Type 0
@@ -159,26 +161,34 @@ Along (a ∷ rest) (w ∷ ws) = (a.words ≡ w) × (Along rest ws ⊎ Along rest
 
 -- the law that the run is one: its states come from the fresh one, each by a step from the one before, and have these words
 abbrev pub SquareFollows : Type 0
-SquareFollows = (states : List State) × Run square_setup (state (fresh_words 1) 1 (fresh_views 1)) states × Along (state (fresh_words 1) 1 (fresh_views 1) ∷ states) run_words
+SquareFollows = (states : List State) × Run square_setup (state (fresh_words 1) 1 (fresh_views 1)) states
+    × Along (state (fresh_words 1) 1 (fresh_views 1) ∷ states) run_words
 
 -- the law that the other is one too, in which the pass is worker 0's: it is taken back, and a load shows that no pin is out
 abbrev pub SquareRefused : Type 0
-SquareRefused = (states : List State) × Run square_setup (state (fresh_words 1) 1 (fresh_views 1)) states × Along (state (fresh_words 1) 1 (fresh_views 1) ∷ states) (fresh_words 1 ∷ claimed ∷ drawn ∷ history0 ∷ history1 ∷ undead ∷ named0 ∷ named1 ∷ child0 ∷ child1 ∷ child2 ∷ child3 ∷ linked0 ∷ linked1 ∷ published ∷ unpublished ∷ unlinked1 ∷ unlinked0 ∷ buried ∷ [])
+SquareRefused = (states : List State) × Run square_setup (state (fresh_words 1) 1 (fresh_views 1)) states
+    × Along (state (fresh_words 1) 1 (fresh_views 1) ∷ states) (fresh_words 1 ∷ claimed ∷ drawn ∷ history0 ∷ history1 ∷ undead ∷ named0 ∷ named1 ∷ child0
+    ∷ child1 ∷ child2 ∷ child3 ∷ linked0 ∷ linked1 ∷ published ∷ unpublished ∷ unlinked1 ∷ unlinked0 ∷ buried ∷ [])
 
 -- the law that the third is one too: the reader goes to the block, finds element 0 bisected and its first child not, gives the pin back and is joined
 abbrev pub SquareVisits : Type 0
-SquareVisits = (states : List State) × Run square_setup (state (fresh_words 1) 1 (fresh_views 1)) states × Along (state (fresh_words 1) 1 (fresh_views 1) ∷ states) (fresh_words 1 ∷ claimed ∷ drawn ∷ history0 ∷ history1 ∷ undead ∷ named0 ∷ named1 ∷ child0 ∷ child1 ∷ child2 ∷ child3 ∷ linked0 ∷ linked1 ∷ published ∷ unclaimed ∷ finished1 ∷ stopped ∷ rewound ∷ pinned ∷ given_back ∷ [])
+SquareVisits = (states : List State) × Run square_setup (state (fresh_words 1) 1 (fresh_views 1)) states
+    × Along (state (fresh_words 1) 1 (fresh_views 1) ∷ states) (fresh_words 1 ∷ claimed ∷ drawn ∷ history0 ∷ history1 ∷ undead ∷ named0 ∷ named1 ∷ child0
+    ∷ child1 ∷ child2 ∷ child3 ∷ linked0 ∷ linked1 ∷ published ∷ unclaimed ∷ finished1 ∷ stopped ∷ rewound ∷ pinned ∷ given_back ∷ [])
 
--- the words are those of a lawful state that may be read at the round q, at which both elements are bisected by the block of number k - 1, or neither is, where k is 0
+-- the words are those of a lawful state that may be read at the round q, at which both
+-- elements are bisected by the block of number k - 1, or neither is, where k is 0
 abbrev pub Reads : Words → ℕ → ℕ → Type 0
-Reads w q k = (n : ℕ) × (v : Views) × (g : Ghost) × Rule square_setup w n v g × MayRead w.round v.ruling.phase v.read q × (g.who q name0 ≡ k) × (g.who q name1 ≡ k)
+Reads w q k = (n : ℕ) × (v : Views) × (g : Ghost) × Rule square_setup w n v g × MayRead w.round v.ruling.phase v.read q × (g.who q name0 ≡ k)
+    × (g.who q name1 ≡ k)
 
 -- the law that each state of the run is lawful, and what is read in it
 pub record SquareRuns : Type 0 where
   pub fresh : Reads (fresh_words 1) 0 0
   pub claimed : Reads claimed 1 0
   pub drawn : Reads drawn 1 0
-  pub filled : Reads history0 1 0 × Reads history1 1 0 × Reads undead 1 0 × Reads named0 1 0 × Reads named1 1 0 × Reads child0 1 0 × Reads child1 1 0 × Reads child2 1 0 × Reads child3 1 0
+  pub filled : Reads history0 1 0 × Reads history1 1 0 × Reads undead 1 0 × Reads named0 1 0 × Reads named1 1 0 × Reads child0 1 0 × Reads child1 1 0
+      × Reads child2 1 0 × Reads child3 1 0
   pub linked : Reads linked0 1 0 × Reads linked1 1 0
   pub published : Reads published 0 0 × Reads published 1 1
   pub unclaimed : Reads unclaimed 1 1
@@ -194,4 +204,5 @@ pub record SquareRuns : Type 0 where
 
 -- the law that what the run's states read is read from their words: by the block of number k - 1 the two elements are bisected, and by no other
 abbrev pub SquareReads : Type 0
-SquareReads = (w : Words) (q k : ℕ) → Reads w q k → (b : ℕ) → (((x : ℕ) × StandsAt w 2 q 0 [] x × Bisects w q x name0 b) ↔ (k ≡ b + 1)) × (((x : ℕ) × StandsAt w 2 q 1 [] x × Bisects w q x name1 b) ↔ (k ≡ b + 1))
+SquareReads = (w : Words) (q k : ℕ) → Reads w q k → (b : ℕ) → (((x : ℕ) × StandsAt w 2 q 0 [] x × Bisects w q x name0 b) ↔ (k ≡ b + 1))
+    × (((x : ℕ) × StandsAt w 2 q 1 [] x × Bisects w q x name1 b) ↔ (k ≡ b + 1))

@@ -1,4 +1,5 @@
--- A run of three rounds in which a row that was never drawn is the stock, and is used in the last one without being written again: the patch of the square is bisected, retired, and bisected again, and then its first child. Each line changes one word.
+-- A run of three rounds in which a row that was never drawn is the stock, and is used in the last one without being written again:
+-- the patch of the square is bisected, retired, and bisected again, and then its first child. Each line changes one word.
 use Rattle.std.specs.Prelude.{◌≡◌, false, List, [], ◌∷◌, ◌++◌}
 use Rattle.mesh_words.specs.Claims.{Drawn, claim}
 use Rattle.mesh_words.specs.Entries.{HasEntry}
@@ -67,7 +68,7 @@ abbrev pub second_words : List Words
 second_words = stopped ∷ rewound ∷ retired ∷ stamped0 ∷ stamped1 ∷ finished2 ∷ cut0 ∷ cut1 ∷ unborn ∷ laid ∷ opened ∷ []
 
 abbrev pub third_words : List Words
-third_words = root.claimed opened ∷ root.drawn opened ∷ root.history0 opened ∷ root.history1 opened ∷ root.undead opened ∷ root.named0 opened ∷ root.named1 opened ∷ root.child0 opened ∷ root.child1 opened ∷ root.child2 opened ∷ root.child3 opened ∷ root.linked0 opened ∷ root.linked1 opened ∷ bisected ∷ kid.claimed bisected ∷ kid.drawn bisected ∷ kid.history0 bisected ∷ kid.history1 bisected ∷ kid.undead bisected ∷ kid.named0 bisected ∷ kid.named1 bisected ∷ kid.kid0 bisected ∷ kid.kid1 bisected ∷ kid.kid2 bisected ∷ kid.kid3 bisected ∷ kid.linked bisected ∷ bisected_more ∷ []
+third_words = root.bisection opened ++ bisected ∷ kid.bisection bisected ++ bisected_more ∷ []
 
 abbrev pub last_words : List Words
 last_words = unclaimed ∷ unclaimed_all ∷ finished3 ∷ []
@@ -90,10 +91,15 @@ RowKept = KeepRow stock_words
 
 -- the law that it is drawn in round 3: CURSOR is 1, and the claim gets block 1
 abbrev pub StockDrawn : Type 0
-StockDrawn = (a b : State) × RunsTo 2 a × DrawStep pair_setup a.words a.seats a.views b × (a.words.round ≡ 2) × (a.words.cursor ≡ 1) × HasEntry (b.views.claims 3) (claim at_child 0 (Drawn 1))
+StockDrawn = (a b : State) × RunsTo 2 a × DrawStep pair_setup a.words a.seats a.views b × (a.words.round ≡ 2) × (a.words.cursor ≡ 1)
+    × HasEntry (b.views.claims 3) (claim at_child 0 (Drawn 1))
 
--- the law of the walks over blocks that were born in the round: where a pass of the second half has come to one it knows where the children are; from there it goes on to the child's block, which was born in the round too; and it finds a name there that is not bisected
+-- the law of the walks over blocks that were born in the round: where a pass of the second half has come to one it knows where the children
+-- are; from there it goes on to the child's block, which was born in the round too; and it finds a name there that is not bisected
 pub record GrownWalked : Type 0 where
   pub passes : (a b : State) × RunsTo 2 a × WorkPasses pair_setup a.words a.seats a.views b × HasEntry (b.views.work 4).grown (at_child, child_name)
-  pub goes_on : (a b : State) × RunsTo 2 a × WorkOpen pair_setup a.words a.seats a.views b × HasEntry (a.views.work 4).grown (at_child, child_name) × HasEntry (b.views.work 4).grown (child_place 2 1 false false, pair_setup.child child_name false)
-  pub ends : (a b : State) × RunsTo 2 a × WorkOpen pair_setup a.words a.seats a.views b × HasEntry (a.views.work 4).grown (child_place 2 1 false false, pair_setup.child child_name false) × HasEntry (b.views.work 4).open_ (pair_setup.child child_name false)
+  pub goes_on : (a b : State) × RunsTo 2 a × WorkOpen pair_setup a.words a.seats a.views b × HasEntry (a.views.work 4).grown (at_child, child_name)
+      × HasEntry (b.views.work 4).grown (child_place 2 1 false false, pair_setup.child child_name false)
+  pub ends : (a b : State) × RunsTo 2 a × WorkOpen pair_setup a.words a.seats a.views b
+      × HasEntry (a.views.work 4).grown (child_place 2 1 false false, pair_setup.child child_name false)
+      × HasEntry (b.views.work 4).open_ (pair_setup.child child_name false)

@@ -1,4 +1,5 @@
--- A second run on the square, with two blocks: the patch is bisected, retired, and bisected again while its old block is still behind the new one, until that is cut out. Each line changes one word.
+-- A second run on the square, with two blocks: the patch is bisected, retired, and bisected again while
+-- its old block is still behind the new one, until that is cut out. Each line changes one word.
 use Rattle.std.specs.Prelude.{ℕ, ◌+◌, ◌≤◌, true, false, List, [], ◌∷◌, ◌++◌, ◌↔◌}
 use Rattle.mesh_names.specs.Names.{Name, depth}
 use Rattle.mesh_words.specs.Entries.{HasEntry}
@@ -13,53 +14,15 @@ use Rattle.mesh_steps.specs.States.{State}
 use Rattle.mesh_steps.specs.Steps.{Run}
 use Rattle.square_runs.specs.SquareRun.{name0, name1, Along}
 use Rattle.square_runs.specs.SquareKinds.{square_with, fresh_state}
+use Rattle.square_runs.specs.PatchWords as root
 
 -- a table over the square with two blocks
 abbrev pub pair_setup : Setup
 pair_setup = square_with 2
 
--- round 1: a worker claims the patch at the place of element 0, draws block 0, fills it, links both members to it and publishes it
-abbrev pub claimed : Words
-claimed = let w = fresh_words 2 in record w { claimed = update w.claimed 0 1 }
-
-abbrev pub drawn : Words
-drawn = let w = claimed in record w { cursor = w.cursor + 1 }
-
-abbrev pub history0 : Words
-history0 = let w = drawn in record w { hist = update w.hist (member_of 0 false) (node 0 0) }
-
-abbrev pub history1 : Words
-history1 = let w = history0 in record w { hist = update w.hist (member_of 0 true) (node 0 0) }
-
-abbrev pub undead : Words
-undead = let w = history1 in record w { died = update w.died 0 0 }
-
-abbrev pub named0 : Words
-named0 = let w = undead in record w { name = update w.name (member_of 0 false) name0 }
-
-abbrev pub named1 : Words
-named1 = let w = named0 in record w { name = update w.name (member_of 0 true) name1 }
-
-abbrev pub child0 : Words
-child0 = let w = named1 in record w { head = update w.head (child_place 2 0 false false) (node 0 0) }
-
-abbrev pub child1 : Words
-child1 = let w = child0 in record w { head = update w.head (child_place 2 0 false true) (node 0 0) }
-
-abbrev pub child2 : Words
-child2 = let w = child1 in record w { head = update w.head (child_place 2 0 true false) (node 0 0) }
-
-abbrev pub child3 : Words
-child3 = let w = child2 in record w { head = update w.head (child_place 2 0 true true) (node 0 0) }
-
-abbrev pub linked0 : Words
-linked0 = let w = child3 in record w { head = update w.head 0 (node 1 0) }
-
-abbrev pub linked1 : Words
-linked1 = let w = linked0 in record w { head = update w.head 1 (node 1 0) }
-
+-- round 1: a worker bisects the patch by block 0, and publishes it
 abbrev pub published : Words
-published = let w = linked1 in record w { born = update w.born 0 1 }
+published = let w = root.linked1 (fresh_words 2) in record w { born = update w.born 0 1 }
 
 -- the owner ends the claim and the round
 abbrev pub unclaimed : Words
@@ -158,7 +121,7 @@ cut1 = let w = cut0 in record w { hist = update w.hist (member_of 1 true) (node 
 
 -- the words of the first round, in order, those before the second, and those of the rest of the run
 abbrev pub first_words : List Words
-first_words = fresh_words 2 ∷ claimed ∷ drawn ∷ history0 ∷ history1 ∷ undead ∷ named0 ∷ named1 ∷ child0 ∷ child1 ∷ child2 ∷ child3 ∷ linked0 ∷ linked1 ∷ published ∷ unclaimed ∷ finished1 ∷ []
+first_words = fresh_words 2 ∷ root.bisection (fresh_words 2) ++ published ∷ unclaimed ∷ finished1 ∷ []
 
 abbrev pub row_words : List Words
 row_words = stopped ∷ rewound ∷ laid ∷ opened ∷ []
@@ -167,7 +130,8 @@ abbrev pub opened_words : List Words
 opened_words = first_words ++ row_words
 
 abbrev pub rest_words : List Words
-rest_words = retired ∷ stamped0 ∷ stamped1 ∷ finished2 ∷ pinned ∷ claimed_again ∷ drawn_again ∷ history2 ∷ history3 ∷ undead_again ∷ named2 ∷ named3 ∷ child4 ∷ child5 ∷ child6 ∷ child7 ∷ linked2 ∷ linked3 ∷ published_again ∷ unclaimed_again ∷ finished3 ∷ cut0 ∷ cut1 ∷ []
+rest_words = retired ∷ stamped0 ∷ stamped1 ∷ finished2 ∷ pinned ∷ claimed_again ∷ drawn_again ∷ history2 ∷ history3 ∷ undead_again ∷ named2 ∷ named3 ∷ child4
+    ∷ child5 ∷ child6 ∷ child7 ∷ linked2 ∷ linked3 ∷ published_again ∷ unclaimed_again ∷ finished3 ∷ cut0 ∷ cut1 ∷ []
 
 abbrev pub twice_words : List Words
 twice_words = opened_words ++ rest_words

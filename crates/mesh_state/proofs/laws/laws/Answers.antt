@@ -1,7 +1,7 @@
 use Rattle.mesh_state.proofs.Lawful.{bounded, one_holder, one_claim, draws_bounded, free_rows, walks_agree, blocks_placed, walks_end, retired_born, walks_short, parents_bisected, members_together, places_agree, notes_agree, reached_kept, clear_rounds, covers_bisect}
 use Rattle.mesh_state.proofs.ClaimLaws.{bits_claimed, second_places, stages_viewed, draws_counted, unborn_blocks, free_unborn, unborn_claimed, target_least}
 use Rattle.mesh_state.proofs.RoundLaws.{living_aimed, between, differs, closed, aimed, lists_known, history_right, told_prefix, notes_told, draws_apart, claims_drawn, quiet_round, walks_begin, chains_stand, standing_kept, rounds_left, worker_alone}
-use Rattle.mesh_state.proofs.SeatLaws.{begins_equal, living_claimed, living_blocks, findings_right, finished_findings, workers_went, one_half, filled_stays, loaded_stays, owner_sure, pins_counted, link_words, history_words, retired_noted, pins_out, numbers_known, blocks_known, others_empty, passes_counted}
+use Rattle.mesh_state.proofs.SeatLaws.{begins_equal, living_claimed, living_blocks, findings_right, finished_findings, workers_went, one_half, filled_stays, loaded_stays, owner_sure, pins_counted, link_words, history_words, retired_noted, pins_out, pins_of_rounds, rounds_fall, numbers_known, blocks_known, others_empty, passes_counted}
 use Rattle.mesh_state.proofs.TableLaws.{blocks_in_pool, blocks_viewed, places_in_table, chains_named, elements_named, walk_sides, claims_listed_once}
 use Rattle.mesh_state.proofs.OwnerLaws.{dead_noted, free_found, stock_rows, blocks_noted, kept_exact, noted_kinds, walked_noted, early_pins, blocks_counted, patches_counted}
 use Rattle.mesh_state.proofs.DrawLaws.{draws_of_target, pool_covered, round_fits}
@@ -264,3 +264,9 @@ returns-clause-walks_chained c = walks_chained
 
 pub returns-clause-known_found : goal.returns-clause-known_found
 returns-clause-known_found c = known_found
+
+pub returns-clause-most : goal.returns-clause-most
+returns-clause-most c = pins_of_rounds
+
+pub returns-clause-fall : goal.returns-clause-fall
+returns-clause-fall c = rounds_fall
