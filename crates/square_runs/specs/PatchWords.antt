@@ -50,4 +50,5 @@ linked1 w = let u = linked0 w in record u { head = update u.head 1 (node 1 0) }
 
 -- these words, in order
 abbrev pub bisection : Words → List Words
-bisection w = claimed w ∷ drawn w ∷ history0 w ∷ history1 w ∷ undead w ∷ named0 w ∷ named1 w ∷ child0 w ∷ child1 w ∷ child2 w ∷ child3 w ∷ linked0 w ∷ linked1 w ∷ []
+bisection w = claimed w ∷ drawn w ∷ history0 w ∷ history1 w ∷ undead w ∷ named0 w ∷ named1 w ∷ child0 w ∷ child1 w ∷ child2 w ∷ child3 w ∷ linked0 w
+    ∷ linked1 w ∷ []
