@@ -6,7 +6,7 @@ use Rattle.mesh_words.specs.Views.{Views}
 use Rattle.mesh_words.specs.Words.{node}
 use Rattle.mesh_steps.specs.States.{state}
 use Rattle.mesh_steps.specs.Steps.{Step, ByClaimStep, ByDrawStep, ByFillHistory, ByFillName, ByFillDied, ByFillChild, ByLinkFirst, ByPublishStep, ByWorkGoes, ByWorkFinds, ByWorkEnds, ByLoadHead, ByNotePlaces, BySplitStep, ByJoinWorker, ByBeginStep, ByPlanStep, ByCloseStep, ByAdvanceStep, ByUnclaimStep}
-use Rattle.square_runs.specs.SquareRun.{name0}
+use Rattle.square_runs.specs.PatchWords.{name0}
 use Rattle.square_runs.specs.SquareTwice as pair
 use Rattle.square_runs.specs.SquareTwice.{pair_setup}
 use Rattle.square_runs.specs.ChildWords.{child_name, at_child}

@@ -7,7 +7,8 @@ use Rattle.mesh_steps.specs.SweepSteps.{FreeStep}
 use Rattle.mesh_steps.specs.States.{State, state}
 use Rattle.mesh_steps.specs.Steps.{Run, Step, ByRetireStep, ByWorkGoes, ByWorkHad, ByWorkGives, ByWorkOpen, ByLoadHead, ByLoadHistory, ByLoadDied, ByLoadCursor, BySplitStep, ByJoinWorker, ByBeginStep, ByPlanStep, ByCloseStep, ByAdvanceStep, ByStampStep, ByCutLink, ByFreeStep, ByStopStep, ByRewindStep}
 use Rattle.square_runs.specs.SquareKinds.{fresh_state}
-use Rattle.square_runs.specs.SquareRun.{name0, Along}
+use Rattle.square_runs.specs.PatchWords.{name0}
+use Rattle.square_runs.specs.SquareRun.{Along}
 use Rattle.square_runs.specs.SquareTwice.{pair_setup}
 use Rattle.square_runs.specs.ChildWords.{child_name, at_child}
 use Rattle.square_runs.specs.SquareChild.{finished2, child_words}

@@ -5,7 +5,8 @@ use Rattle.mesh_words.specs.Functions.{update}
 use Rattle.mesh_words.specs.Words.{Words}
 use Rattle.mesh_steps.specs.States.{State}
 use Rattle.mesh_steps.specs.Steps.{Run}
-use Rattle.square_runs.specs.SquareRun.{name0, name1, Along}
+use Rattle.square_runs.specs.PatchWords.{name0, name1}
+use Rattle.square_runs.specs.SquareRun.{Along}
 use Rattle.square_runs.specs.SquareKinds.{fresh_state}
 use Rattle.square_runs.specs.ChildWords as kid
 use Rattle.square_runs.specs.ChildWords.{child_name, at_child}
