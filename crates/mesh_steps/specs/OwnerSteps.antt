@@ -3,7 +3,8 @@ use Rattle.std.specs.Prelude.{◌≡◌, ℕ, ◌+◌, ◌<◌, ◌≤◌, ◌==
 use Rattle.mesh_words.specs.Claims.{Progress, Living, claim}
 use Rattle.mesh_words.specs.Entries.{HasEntry, EntryAt, Noted}
 use Rattle.mesh_words.specs.Functions.{update}
-use Rattle.mesh_words.specs.Views.{Resting, FirstHalf, SecondHalf, Closing, RollingBack, Worker, Reader, no_plan, Plan, Still, Note, Work, Ruling, unread, unsure, Views, Kind, Vacant, is_reader}
+use Rattle.mesh_words.specs.Views.{Resting, FirstHalf, SecondHalf, Closing, RollingBack, Worker, Reader, no_plan, Plan, Still, Note, Work, Ruling, unread}
+use Rattle.mesh_words.specs.Views.{unsure, Views, Kind, Vacant, is_reader}
 use Rattle.mesh_words.specs.Words.{Node}
 use Rattle.mesh_state.specs.Fresh.{idle, blank}
 use Rattle.mesh_state.specs.Lists.{IsTarget, IsListed}

@@ -5,7 +5,8 @@ use Rattle.mesh_words.specs.declared.layout.ElemAt.TheVariants.{Macro, Child}
 use Rattle.mesh_words.specs.declared.link.Link.{Link}
 use Rattle.mesh_words.specs.Functions.{update}
 use Rattle.mesh_words.specs.Links.{after, IsLink, link_word}
-use Rattle.mesh_words.specs.Layout.{TableWord, Round, Cursor, FreeCount, Released, LinkOf, Row, OfBlock, Born, Died, NameOf, HistoryOf, address, word_count, content}
+use Rattle.mesh_words.specs.Layout.{TableWord, Round, Cursor, FreeCount, Released, LinkOf, Row, OfBlock, Born, Died, NameOf, HistoryOf, address, word_count}
+use Rattle.mesh_words.specs.Layout.{content}
 use Rattle.mesh_words.specs.Places.{member_of, child_place, place_count, place_at}
 
 -- what a LINK or HISTORY word names: one more than a block, or 0 for none, and its retired round

@@ -12,9 +12,9 @@ use Rattle.mesh_words.specs.Words.{Node, node}
 use Rattle.mesh_words.proofs.CodedNames.{codes_apart}
 use Rattle.mesh_state.specs.Ghosts.{Placed, stands}
 use Rattle.mesh_state.specs.Lists.{Holds, IsClosed, IsTarget, IsListed}
-use Rattle.square_runs.specs.SquareRun.{name0, name1}
+use Rattle.square_runs.specs.PatchWords.{name0, name1}
 use Rattle.square_runs.specs.SquareTwice.{pair_setup}
-use Rattle.square_runs.specs.SquareChild.{child_name, at_child}
+use Rattle.square_runs.specs.ChildWords.{child_name, at_child}
 use Rattle.square_runs.proofs.SquareLists.{both, both_closed}
 use Rattle.square_runs.proofs.SquareNotes.{en}
 use Rattle.square_runs.proofs.SquarePair.{lt23, four_more}

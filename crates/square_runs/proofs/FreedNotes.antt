@@ -6,9 +6,9 @@ use Rattle.mesh_words.specs.Views.{Plan, Sure, Views}
 use Rattle.mesh_words.specs.Words.{Node, node}
 use Rattle.mesh_state.specs.Ghosts.{Placed, stands}
 use Rattle.mesh_state.specs.Lists.{IsTarget, IsListed, IsMember}
-use Rattle.square_runs.specs.SquareRun.{name0, name1}
+use Rattle.square_runs.specs.PatchWords.{name0, name1}
 use Rattle.square_runs.specs.SquareTwice.{pair_setup}
-use Rattle.square_runs.specs.SquareChild.{child_name, at_child}
+use Rattle.square_runs.specs.ChildWords.{child_name, at_child}
 use Rattle.square_runs.specs.SquareFreed.{LooksAt}
 use Rattle.square_runs.proofs.SquareLists.{both}
 use Rattle.square_runs.proofs.SquareNotes.{lt03}

@@ -6,10 +6,12 @@ use Rattle.mesh_words.specs.Views.{Views, Worker}
 use Rattle.mesh_words.specs.Words.{node}
 use Rattle.mesh_steps.specs.States.{state}
 use Rattle.mesh_steps.specs.Steps.{Step, ByClaimStep, ByDrawStep, ByFillHistory, ByFillName, ByFillDied, ByFillChild, ByLinkFirst, ByPublishStep, ByWorkGoes, ByWorkFinds, ByWorkEnds, ByLoadHead, ByNotePlaces, BySplitStep, ByJoinWorker, ByBeginStep, ByPlanStep, ByCloseStep, ByAdvanceStep, ByUnclaimStep}
-use Rattle.square_runs.specs.SquareRun.{name0}
+use Rattle.square_runs.specs.PatchWords.{name0}
 use Rattle.square_runs.specs.SquareTwice as pair
 use Rattle.square_runs.specs.SquareTwice.{pair_setup}
-use Rattle.square_runs.specs.SquareChild.{child_name, at_child, claimed, drawn, history0, history1, undead, named0, named1, kid0, kid1, kid2, kid3, linked, published, unclaimed, finished2}
+use Rattle.square_runs.specs.ChildWords.{child_name, at_child}
+use Rattle.square_runs.specs.ChildWords as kid
+use Rattle.square_runs.specs.SquareChild.{published, unclaimed, finished2}
 use Rattle.square_runs.proofs.SquareLists.{both, none_listed}
 use Rattle.square_runs.proofs.SquareMoves.{begun, planned, closed, advanced, worker_made, joined, placed_at, claims_at, draws_for, comes_to, unclaims, sure_head, sure_hist, sure_died, sure_name, finds_absent, goes_to, finds_known, knows}
 use Rattle.square_runs.proofs.SquareNotes.{lt01, lt02, lt14, en, three, not_less}
@@ -52,85 +54,85 @@ s43 = ByWorkEnds (2, refl, at_child, child_name, node 0 0, inl (inl (inl refl), 
 abbrev pub u44 : Views
 u44 = claims_at 2 at_child 0 u43
 
-pub s44 : Step pair_setup (state pair.opened 3 u43) (state claimed 3 u44)
+pub s44 : Step pair_setup (state pair.opened 3 u43) (state (kid.claimed pair.opened) 3 u44)
 s44 = ByClaimStep (2, at_child, 0, child_name, refl, refl, refl, inl (inl refl), inr (inr (inl refl)), inl refl, inl (refl, refl), refl)
 
 abbrev pub u45 : Views
 u45 = draws_for 2 at_child 0 1 u44
 
-pub s45 : Step pair_setup (state claimed 3 u44) (state drawn 3 u45)
+pub s45 : Step pair_setup (state (kid.claimed pair.opened) 3 u44) (state (kid.drawn pair.opened) 3 u45)
 s45 = ByDrawStep (2, at_child, 0, inl refl, refl, lt01, refl)
 
 abbrev pub u46 : Views
 u46 = sure_head 2 at_child (node 0 0) u45
 
-pub s46 : Step pair_setup (state drawn 3 u45) (state drawn 3 u46)
+pub s46 : Step pair_setup (state (kid.drawn pair.opened) 3 u45) (state (kid.drawn pair.opened) 3 u46)
 s46 = ByLoadHead (2, at_child, refl)
 
 abbrev pub u47 : Views
 u47 = sure_hist 2 (member_of 1 false) (node 0 0) u46
 
-pub s47 : Step pair_setup (state drawn 3 u46) (state history0 3 u47)
+pub s47 : Step pair_setup (state (kid.drawn pair.opened) 3 u46) (state (kid.history0 pair.opened) 3 u47)
 s47 = ByFillHistory (2, at_child, 0, 1, inl refl, refl, false, node 0 0, refl)
 
 abbrev pub u48 : Views
 u48 = sure_hist 2 (member_of 1 true) (node 0 0) u47
 
-pub s48 : Step pair_setup (state history0 3 u47) (state history1 3 u48)
+pub s48 : Step pair_setup (state (kid.history0 pair.opened) 3 u47) (state (kid.history1 pair.opened) 3 u48)
 s48 = ByFillHistory (2, at_child, 0, 1, inl refl, refl, true, node 0 0, refl)
 
 abbrev pub u49 : Views
 u49 = sure_died 2 1 0 u48
 
-pub s49 : Step pair_setup (state history1 3 u48) (state undead 3 u49)
+pub s49 : Step pair_setup (state (kid.history1 pair.opened) 3 u48) (state (kid.undead pair.opened) 3 u49)
 s49 = ByFillDied (2, at_child, 0, 1, inl refl, refl, 0, refl)
 
 abbrev pub u50 : Views
 u50 = sure_name 2 (member_of 1 false) child_name u49
 
-pub s50 : Step pair_setup (state undead 3 u49) (state named0 3 u50)
+pub s50 : Step pair_setup (state (kid.undead pair.opened) 3 u49) (state (kid.named0 pair.opened) 3 u50)
 s50 = ByFillName (2, at_child, 0, 1, inl refl, refl, false, child_name, refl)
 
 abbrev pub u51 : Views
 u51 = sure_name 2 (member_of 1 true) 0 u50
 
-pub s51 : Step pair_setup (state named0 3 u50) (state named1 3 u51)
+pub s51 : Step pair_setup (state (kid.named0 pair.opened) 3 u50) (state (kid.named1 pair.opened) 3 u51)
 s51 = ByFillName (2, at_child, 0, 1, inl refl, refl, true, 0, refl)
 
 abbrev pub u52 : Views
 u52 = sure_head 2 (child_place 2 1 false false) (node 0 0) u51
 
-pub s52 : Step pair_setup (state named1 3 u51) (state kid0 3 u52)
+pub s52 : Step pair_setup (state (kid.named1 pair.opened) 3 u51) (state (kid.kid0 pair.opened) 3 u52)
 s52 = ByFillChild (2, at_child, 0, 1, inl refl, refl, false, false, node 0 0, refl)
 
 abbrev pub u53 : Views
 u53 = sure_head 2 (child_place 2 1 false true) (node 0 0) u52
 
-pub s53 : Step pair_setup (state kid0 3 u52) (state kid1 3 u53)
+pub s53 : Step pair_setup (state (kid.kid0 pair.opened) 3 u52) (state (kid.kid1 pair.opened) 3 u53)
 s53 = ByFillChild (2, at_child, 0, 1, inl refl, refl, false, true, node 0 0, refl)
 
 abbrev pub u54 : Views
 u54 = sure_head 2 (child_place 2 1 true false) (node 0 0) u53
 
-pub s54 : Step pair_setup (state kid1 3 u53) (state kid2 3 u54)
+pub s54 : Step pair_setup (state (kid.kid1 pair.opened) 3 u53) (state (kid.kid2 pair.opened) 3 u54)
 s54 = ByFillChild (2, at_child, 0, 1, inl refl, refl, true, false, node 0 0, refl)
 
 abbrev pub u55 : Views
 u55 = sure_head 2 (child_place 2 1 true true) (node 0 0) u54
 
-pub s55 : Step pair_setup (state kid2 3 u54) (state kid3 3 u55)
+pub s55 : Step pair_setup (state (kid.kid2 pair.opened) 3 u54) (state (kid.kid3 pair.opened) 3 u55)
 s55 = ByFillChild (2, at_child, 0, 1, inl refl, refl, true, true, node 0 0, refl)
 
 abbrev pub u56 : Views
 u56 = comes_to 2 at_child (Whole 1) u55
 
-pub s56 : Step pair_setup (state kid3 3 u55) (state linked 3 u56)
+pub s56 : Step pair_setup (state (kid.kid3 pair.opened) 3 u55) (state (kid.linked pair.opened) 3 u56)
 s56 = ByLinkFirst (2, at_child, 0, 1, child_name, inl refl, refl, inl (refl, refl), inr (en 3 2 lt23, inl (refl, refl)), inl (refl, refl), refl, kids_again ((at_child, node 0 0) ∷ []), old_child, inl refl, inl (refl, refl), Whole 1, inr (refl, refl), refl)
 
 abbrev pub u57 : Views
 u57 = knows 2 at_child (Living 1) (child_name ∷ name0 ∷ []) u56
 
-pub s57 : Step pair_setup (state linked 3 u56) (state published 3 u57)
+pub s57 : Step pair_setup (state (kid.linked pair.opened) 3 u56) (state published 3 u57)
 s57 = ByPublishStep (2, at_child, 0, 1, inl refl, refl, child_name ∷ name0 ∷ [], bisects_child, refl)
 
 -- the owner ends the round

@@ -7,9 +7,11 @@ use Rattle.mesh_steps.specs.SweepSteps.{FreeStep}
 use Rattle.mesh_steps.specs.States.{State, state}
 use Rattle.mesh_steps.specs.Steps.{Run, Step, ByRetireStep, ByWorkGoes, ByWorkHad, ByWorkGives, ByWorkOpen, ByLoadHead, ByLoadHistory, ByLoadDied, ByLoadCursor, BySplitStep, ByJoinWorker, ByBeginStep, ByPlanStep, ByCloseStep, ByAdvanceStep, ByStampStep, ByCutLink, ByFreeStep, ByStopStep, ByRewindStep}
 use Rattle.square_runs.specs.SquareKinds.{fresh_state}
-use Rattle.square_runs.specs.SquareRun.{name0, Along}
+use Rattle.square_runs.specs.PatchWords.{name0}
+use Rattle.square_runs.specs.SquareRun.{Along}
 use Rattle.square_runs.specs.SquareTwice.{pair_setup}
-use Rattle.square_runs.specs.SquareChild.{child_name, at_child, finished2, child_words}
+use Rattle.square_runs.specs.ChildWords.{child_name, at_child}
+use Rattle.square_runs.specs.SquareChild.{finished2, child_words}
 use Rattle.square_runs.specs.SquareFreed.{SquareFreed, FreesAlone, last_words, stopped, rewound, retired, stamped, finished3, cut}
 use Rattle.square_runs.proofs.SquareLists.{both}
 use Rattle.square_runs.proofs.SquareMoves.{begun, planned, closed, advanced, worker_made, joined, cursor_seen, stopped_at, sure_head, sure_hist, sure_died, goes_to, finds_had, is_given, opens, retires}

@@ -8,7 +8,8 @@ use Rattle.mesh_steps.specs.WorkSteps.{FullStep}
 use Rattle.mesh_steps.specs.States.{State, state}
 use Rattle.mesh_steps.specs.Steps.{Run, Step, ByClaimStep, ByFullStep, ByWorkTop, ByWorkEnds, ByLoadCursor, BySplitStep, ByJoinWorker, ByBeginStep, ByRefuseStep, ByRestoreStep, ByUnclaimStep}
 use Rattle.square_runs.specs.SquareKinds.{fresh_state}
-use Rattle.square_runs.specs.SquareRun.{square_setup, name0, name1, claimed, drawn, history0, history1, undead, named0, named1, child0, child1, child2, child3, linked0, linked1, published, unclaimed, finished1, stopped, rewound, pinned, retired, stamped0, stamped1, finished2}
+use Rattle.square_runs.specs.PatchWords.{name0, name1}
+use Rattle.square_runs.specs.SquareRun.{square_setup, claimed, drawn, history0, history1, undead, named0, named1, child0, child1, child2, child3, linked0, linked1, published, unclaimed, finished1, stopped, rewound, pinned, retired, stamped0, stamped1, finished2}
 use Rattle.square_runs.specs.SquareFull.{claimed_full, drawn_none, unclaimed_full, SquareFull}
 use Rattle.square_runs.proofs.SquareLists.{first_plan, first_aim}
 use Rattle.square_runs.proofs.SquareMoves.{begun, refused, restored, worker_made, joined, cursor_seen, claims_at, draws_none, unclaims, found_at, finds_absent}

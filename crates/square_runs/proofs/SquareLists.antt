@@ -8,7 +8,8 @@ use Rattle.mesh_names.specs.Squares.{square}
 use Rattle.mesh_names.specs.Validity.{across_of}
 use Rattle.mesh_names.proofs.Squares.{squares_fit}
 use Rattle.mesh_state.specs.Lists.{Holds, IsClosed, IsTarget, IsListed}
-use Rattle.square_runs.specs.SquareRun.{square_setup, name0, name1}
+use Rattle.square_runs.specs.PatchWords.{name0, name1}
+use Rattle.square_runs.specs.SquareRun.{square_setup}
 use Rattle.square_runs.proofs.SquareNotes.{open4}
 
 abbrev pub both : List ℕ

@@ -8,7 +8,8 @@ use Rattle.mesh_words.specs.Places.{member_of, child_place}
 use Rattle.mesh_words.specs.Words.{Node, node}
 use Rattle.mesh_state.specs.Ghosts.{Placed, stands}
 use Rattle.mesh_state.specs.Lists.{IsMember}
-use Rattle.square_runs.specs.SquareRun.{square_setup, name0, name1, pinned}
+use Rattle.square_runs.specs.PatchWords.{name0, name1}
+use Rattle.square_runs.specs.SquareRun.{square_setup, pinned}
 use Rattle.mesh_words.specs.Views.{Resting, FirstHalf, SecondHalf, Closing}
 
 pub lt01 : 0 < 1

@@ -6,7 +6,8 @@ use Rattle.mesh_words.specs.Places.{member_of, child_place}
 use Rattle.mesh_words.specs.Words.{Node, node}
 use Rattle.mesh_state.specs.Ghosts.{Placed, stands}
 use Rattle.mesh_state.specs.Lists.{Holds, IsClosed, IsTarget, IsListed, IsMember}
-use Rattle.square_runs.specs.SquareRun.{square_setup, name0, name1}
+use Rattle.square_runs.specs.PatchWords.{name0, name1}
+use Rattle.square_runs.specs.SquareRun.{square_setup}
 use Rattle.square_runs.specs.SquareTwice.{pair_setup}
 use Rattle.square_runs.proofs.SquareLists.{both, both_closed, first_plan, second_plan, first_aim, second_aim}
 use Rattle.square_runs.proofs.SquareNotes.{en, one_of, zero_of}

@@ -5,7 +5,8 @@ use Rattle.mesh_words.specs.Places.{member_of, child_place}
 use Rattle.mesh_words.specs.Words.{node}
 use Rattle.mesh_words.specs.Claims.{moved_on, ended}
 use Rattle.mesh_state.specs.Fresh.{fresh_words, fresh_views, idle, blank}
-use Rattle.square_runs.specs.SquareRun.{SquareRefused, unpublished, unlinked1, unlinked0, buried, square_setup, name0, name1, claimed, drawn, history0, history1, undead, named0, named1, child0, child1, child2, child3, linked0, linked1, published}
+use Rattle.square_runs.specs.PatchWords.{name0, name1}
+use Rattle.square_runs.specs.SquareRun.{SquareRefused, unpublished, unlinked1, unlinked0, buried, square_setup, claimed, drawn, history0, history1, undead, named0, named1, child0, child1, child2, child3, linked0, linked1, published}
 use Rattle.square_runs.proofs.SquareLists.{first_plan, first_aim}
 use Rattle.square_runs.proofs.SquareNotes.{lt04, en, kids_noted, lt01, lt02, lt12, old_words, past_four}
 use Rattle.mesh_words.specs.Functions.{update}

@@ -13,7 +13,8 @@ use Rattle.mesh_state.specs.Ghosts.{Open, Held, Loose, Placed, Ghost}
 use Rattle.mesh_state.specs.Fresh.{fresh_words, fresh_views, fresh_ghost, idle, blank}
 use Rattle.mesh_state.proofs.Bisections.{marks}
 use Rattle.mesh_state.specs.Rule.{Rule}
-use Rattle.square_runs.specs.SquareRun.{square_setup, name0, name1, claimed, drawn, history0, history1, undead, named0, named1, child0, child1, child2, child3, linked0, linked1, published, unclaimed, finished1}
+use Rattle.square_runs.specs.PatchWords.{name0, name1}
+use Rattle.square_runs.specs.SquareRun.{square_setup, claimed, drawn, history0, history1, undead, named0, named1, child0, child1, child2, child3, linked0, linked1, published, unclaimed, finished1}
 use Rattle.mesh_state.proofs.Fresh.{fresh_is_lawful}
 use Rattle.mesh_steps.proofs.Phases.{begins, plans, closes, advances}
 use Rattle.mesh_steps.proofs.Splitting.{splits}

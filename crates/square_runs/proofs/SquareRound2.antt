@@ -7,7 +7,8 @@ use Rattle.mesh_words.specs.Views.{no_plan, Views, Still, At, unsure, unread, Re
 use Rattle.mesh_state.specs.Ghosts.{Ghost}
 use Rattle.mesh_state.specs.Fresh.{idle, blank}
 use Rattle.mesh_state.specs.Rule.{Rule}
-use Rattle.square_runs.specs.SquareRun.{square_setup, name0, name1, finished1, stopped, rewound, pinned, retired, stamped0, stamped1, finished2}
+use Rattle.square_runs.specs.PatchWords.{name0, name1}
+use Rattle.square_runs.specs.SquareRun.{square_setup, finished1, stopped, rewound, pinned, retired, stamped0, stamped1, finished2}
 use Rattle.mesh_steps.proofs.Phases.{begins, plans, closes, advances}
 use Rattle.mesh_steps.proofs.Splitting.{splits}
 use Rattle.mesh_steps.proofs.JoiningWorkers.{joins, moved}

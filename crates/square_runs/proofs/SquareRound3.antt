@@ -8,7 +8,8 @@ use Rattle.mesh_words.specs.Views.{Views, Still, unsure, FirstHalf, Worker}
 use Rattle.mesh_state.specs.Ghosts.{Held, Free, Loose, Ghost}
 use Rattle.mesh_state.specs.Fresh.{idle, blank}
 use Rattle.mesh_state.specs.Rule.{Rule}
-use Rattle.square_runs.specs.SquareRun.{square_setup, name0, name1, SquareRuns, finished2, unpinned, cut0, cut1, unborn, laid, opened, claimed_again, drawn_again}
+use Rattle.square_runs.specs.PatchWords.{name0, name1}
+use Rattle.square_runs.specs.SquareRun.{square_setup, SquareRuns, finished2, unpinned, cut0, cut1, unborn, laid, opened, claimed_again, drawn_again}
 use Rattle.mesh_steps.proofs.Phases.{begins}
 use Rattle.mesh_steps.proofs.Splitting.{splits}
 use Rattle.mesh_steps.proofs.Loads.{loads_head, loads_hist, loads_cursor, notes_clear}

@@ -3,7 +3,8 @@ use Rattle.std.proofs.Common.{ℕ, true, false, [], ◌∷◌, refl, ap, inl, in
 use Rattle.mesh_words.specs.Claims.{Half, Living}
 use Rattle.mesh_words.specs.Words.{node}
 use Rattle.mesh_state.specs.Fresh.{fresh_words}
-use Rattle.square_runs.specs.SquareRun.{square_setup, name0, name1, claimed, drawn, history0, history1, undead, named0, named1, child0, child1, child2, child3, linked0, linked1, published, unclaimed, finished1}
+use Rattle.square_runs.specs.PatchWords.{name0, name1}
+use Rattle.square_runs.specs.SquareRun.{square_setup, claimed, drawn, history0, history1, undead, named0, named1, child0, child1, child2, child3, linked0, linked1, published, unclaimed, finished1}
 use Rattle.square_runs.proofs.SquareLists.{both, first_plan, first_aim, none_listed, both_stay}
 use Rattle.square_runs.proofs.SquareNotes.{lt04, en, kids_noted, living_claim, lt01, lt02, lt12, not_less, not_living, old_words, only_zero, past_four, three}
 use Rattle.mesh_steps.specs.WorkSteps.{ClaimStep, DrawStep, FillHistory, FillName, FillDied, FillChild, LinkFirst, LinkSecond, PublishStep}

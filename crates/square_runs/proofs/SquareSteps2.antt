@@ -2,7 +2,8 @@
 use Rattle.std.proofs.Common.{true, false, [], ◌∷◌, refl, inl, inr}
 use Rattle.mesh_words.specs.Places.{child_place}
 use Rattle.mesh_words.specs.Words.{node}
-use Rattle.square_runs.specs.SquareRun.{square_setup, name0, name1, finished1, stopped, rewound, pinned, retired, stamped0, stamped1, finished2}
+use Rattle.square_runs.specs.PatchWords.{name0, name1}
+use Rattle.square_runs.specs.SquareRun.{square_setup, finished1, stopped, rewound, pinned, retired, stamped0, stamped1, finished2}
 use Rattle.square_runs.proofs.SquareLists.{both, second_plan, second_aim, both_open, none_stays}
 use Rattle.square_runs.proofs.SquareNotes.{lt14, both_stamped, children0, children1, en, le00, le01, lt01, lt02, lt03, lt12, many, ne, newly, no_claim, no_head, no_half}
 use Rattle.mesh_steps.specs.WorkSteps.{RetireStep}

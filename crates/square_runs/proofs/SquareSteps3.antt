@@ -1,7 +1,8 @@
 -- The square's run, round 3: each state comes by a step from the one before.
 use Rattle.std.proofs.Common.{◌==◌, true, false, [], ◌∷◌, refl, sym, inl, inr, eqb-true}
 use Rattle.mesh_words.specs.Words.{node}
-use Rattle.square_runs.specs.SquareRun.{square_setup, name0, name1, finished2, unpinned, cut0, cut1, unborn, laid, opened, claimed_again, drawn_again}
+use Rattle.square_runs.specs.PatchWords.{name0, name1}
+use Rattle.square_runs.specs.SquareRun.{square_setup, finished2, unpinned, cut0, cut1, unborn, laid, opened, claimed_again, drawn_again}
 use Rattle.square_runs.proofs.SquareLists.{first_plan, first_aim}
 use Rattle.square_runs.proofs.SquareNotes.{both_clear, clean_places, en, hand_zero, kept_zero, le11, le22, lt01, lt02, lt12, lt24, ne, none_left, one_laid, one_row, same_below_one, no_half}
 use Rattle.mesh_steps.specs.WalkSteps.{LoadHistory}

@@ -5,7 +5,8 @@ use Rattle.mesh_words.specs.Views.{Views, Worker}
 use Rattle.mesh_words.specs.Words.{node}
 use Rattle.mesh_steps.specs.States.{State, state}
 use Rattle.mesh_steps.specs.Steps.{Run, Step, ByAdvanceStep, ByBeginStep, ByCloseStep, ByCutLink, ByFreeStep, ByJoinWorker, ByLoadCursor, ByLoadDied, ByLoadHead, ByLoadHistory, ByOpenStep, ByPlanStep, ByRetireStep, ByRewindStep, ByRowStep, BySplitStep, ByStampStep, ByStopStep, ByWorkBoth, ByWorkGives, ByWorkGoes, ByWorkHad, ByWorkOpen, ByZeroStep}
-use Rattle.square_runs.specs.SquareRun.{name0, name1, Along}
+use Rattle.square_runs.specs.PatchWords.{name0, name1}
+use Rattle.square_runs.specs.SquareRun.{Along}
 use Rattle.square_runs.specs.SquareTwice.{pair_setup, stopped, rewound, finished1}
 use Rattle.square_runs.proofs.SquareMoves.{begun, planned, closed, advanced, worker_made, joined, cursor_seen, stopped_at, opened_at, sure_head, sure_hist, sure_born, sure_died, sure_row, goes_to, finds_had, finds_both, is_given, opens, retires}
 use Rattle.square_runs.specs.SquareStock.{second_words, retired, stamped0, stamped1, finished2, cut0, cut1, unborn, laid, opened}

@@ -7,9 +7,10 @@ use Rattle.mesh_words.specs.Words.{node}
 use Rattle.mesh_steps.specs.WorkSteps.{DrawStep}
 use Rattle.mesh_steps.specs.States.{State, state}
 use Rattle.mesh_steps.specs.Steps.{Run, Step, ByBeginStep, ByClaimStep, ByDrawStep, ByFillChild, ByFillDied, ByFillHistory, ByFillName, ByLinkFirst, ByLinkSecond, ByLoadHead, ByPublishStep, BySplitStep, ByWorkEnds, ByWorkFinds, ByWorkGoes, ByWorkTop}
-use Rattle.square_runs.specs.SquareRun.{name0, name1, Along}
+use Rattle.square_runs.specs.PatchWords.{name0, name1}
+use Rattle.square_runs.specs.SquareRun.{Along}
 use Rattle.square_runs.specs.SquareTwice.{pair_setup}
-use Rattle.square_runs.specs.SquareChild.{child_name, at_child}
+use Rattle.square_runs.specs.ChildWords.{child_name, at_child}
 use Rattle.square_runs.specs.PatchWords as root
 use Rattle.square_runs.specs.ChildWords as kid
 use Rattle.square_runs.proofs.SquareMoves.{begun, worker_made, claims_at, draws_for, comes_to, sure_head, sure_hist, sure_died, sure_name, found_at, finds_absent, goes_to, finds_known, knows}

@@ -7,9 +7,10 @@ use Rattle.mesh_words.specs.Words.{node}
 use Rattle.mesh_steps.specs.WalkSteps.{WorkPasses, WorkOpen}
 use Rattle.mesh_steps.specs.States.{State, state}
 use Rattle.mesh_steps.specs.Steps.{Run, Step, ByAdvanceStep, ByCloseStep, ByJoinWorker, ByPlanStep, BySplitStep, ByUnclaimStep, ByWorkGoes, ByWorkOpen, ByWorkPasses}
-use Rattle.square_runs.specs.SquareRun.{name0, Along}
+use Rattle.square_runs.specs.PatchWords.{name0}
+use Rattle.square_runs.specs.SquareRun.{Along}
 use Rattle.square_runs.specs.SquareTwice.{pair_setup, finished1}
-use Rattle.square_runs.specs.SquareChild.{child_name, at_child}
+use Rattle.square_runs.specs.ChildWords.{child_name, at_child}
 use Rattle.square_runs.specs.ChildWords as kid
 use Rattle.square_runs.proofs.SquareMoves.{planned, closed, advanced, worker_made, joined, unclaims, goes_to, passes_grown, grows, opens}
 use Rattle.square_runs.specs.SquareKinds.{fresh_state}

@@ -10,7 +10,8 @@ use Rattle.mesh_steps.specs.OwnerSteps.{NoteFree}
 use Rattle.mesh_steps.specs.States.{State, state}
 use Rattle.mesh_steps.specs.Steps.{Run, Step, ByClaimStep, ByDrawStep, ByFillHistory, ByFillName, ByFillDied, ByFillChild, ByLinkFirst, ByLinkSecond, ByPublishStep, ByWorkTop, ByWorkEnds, ByLoadHead, ByLoadBorn, ByLoadRow, ByLoadCursor, ByLoadFree, ByNoteFree, ByNotePlaces, BySplitStep, ByJoinWorker, ByBeginStep, ByPlanStep, ByCloseStep, ByAdvanceStep, ByUnclaimStep, ByStopStep, ByRewindStep, ByRowStep, ByOpenStep}
 use Rattle.square_runs.specs.SquareKinds.{fresh_state}
-use Rattle.square_runs.specs.SquareRun.{name0, name1, Along}
+use Rattle.square_runs.specs.PatchWords.{name0, name1}
+use Rattle.square_runs.specs.SquareRun.{Along}
 use Rattle.square_runs.specs.PatchWords as root
 use Rattle.square_runs.specs.SquareTwice.{pair_setup, first_words, row_words, opened_words, published, unclaimed, finished1, stopped, rewound, laid, opened}
 use Rattle.square_runs.proofs.SquareLists.{both, first_plan, none_listed, both_stay}

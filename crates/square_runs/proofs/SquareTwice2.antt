@@ -7,7 +7,7 @@ use Rattle.mesh_steps.specs.WorkSteps.{RetiredStep}
 use Rattle.mesh_steps.specs.WalkSteps.{WorkDead}
 use Rattle.mesh_steps.specs.States.{state}
 use Rattle.mesh_steps.specs.Steps.{Step, ByRetireStep, ByRetiredStep, ByWorkGoes, ByWorkHad, ByWorkGives, ByWorkDead, ByWorkOpen, ByLoadHead, ByLoadDied, ByLoadRound, ByPinStep, BySplitStep, ByJoinWorker, ByBeginStep, ByPlanStep, ByCloseStep, ByAdvanceStep, ByStampStep}
-use Rattle.square_runs.specs.SquareRun.{name0, name1}
+use Rattle.square_runs.specs.PatchWords.{name0, name1}
 use Rattle.square_runs.specs.SquareTwice.{pair_setup, opened, retired, stamped0, stamped1, finished2, pinned}
 use Rattle.square_runs.proofs.SquareLists.{both, second_plan, none_stays}
 use Rattle.square_runs.proofs.SquareMoves.{begun, planned, closed, advanced, worker_made, reader_made, joined, sure_head, sure_died, goes_to, finds_had, is_given, opens, retires, opens_all, sees_round, pins_round}

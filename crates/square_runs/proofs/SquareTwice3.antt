@@ -9,7 +9,7 @@ use Rattle.mesh_steps.specs.PinSteps.{ReadPasses}
 use Rattle.mesh_steps.specs.SweepSteps.{CutHistory}
 use Rattle.mesh_steps.specs.States.{state}
 use Rattle.mesh_steps.specs.Steps.{Step, ByClaimStep, ByDrawStep, ByFillHistory, ByFillName, ByFillDied, ByFillChild, ByLinkFirst, ByLinkSecond, ByPublishStep, ByWorkTop, ByWorkEnds, ByWorkGoes, ByWorkFinds, ByWorkPasses, ByLoadHead, ByLoadHistory, ByLoadDied, ByLoadName, ByReadEnds, ByReadGoes, ByReadPasses, ByNoteClear, ByLoadCursor, ByNotePlaces, BySplitStep, ByJoinWorker, ByBeginStep, ByPlanStep, ByCloseStep, ByAdvanceStep, ByUnclaimStep, ByCutHistory}
-use Rattle.square_runs.specs.SquareRun.{name0, name1}
+use Rattle.square_runs.specs.PatchWords.{name0, name1}
 use Rattle.square_runs.specs.SquareTwice.{pair_setup, pinned, claimed_again, drawn_again, history2, history3, undead_again, named2, named3, child4, child5, child6, child7, linked2, linked3, published_again, unclaimed_again, finished3, cut0, cut1}
 use Rattle.square_runs.proofs.SquareLists.{both, first_plan, none_listed, both_stay}
 use Rattle.square_runs.proofs.SquareMoves.{begun, planned, closed, advanced, worker_made, joined, cursor_seen, placed_at, cleared, claims_at, draws_for, comes_to, unclaims, sure_head, sure_hist, sure_died, sure_name, found_at, finds_absent, goes_to, passes_by, finds_known, knows, reads_to, reads_by, reads_absent}

@@ -9,7 +9,8 @@ use Rattle.mesh_steps.specs.PinSteps.{ReadEnds, ReadGoes, ReadFinds}
 use Rattle.mesh_steps.specs.OwnerSteps.{JoinReader}
 use Rattle.mesh_steps.specs.States.{State, state}
 use Rattle.mesh_steps.specs.Steps.{Run, Step, ByReadGoes, ByReadFinds, ByReadEnds, ByUnpinStep, ByJoinReader}
-use Rattle.square_runs.specs.SquareRun.{square_setup, name0, SquareVisits, claimed, drawn, history0, history1, undead, named0, named1, child0, child1, child2, child3, linked0, linked1, published, unclaimed, finished1, stopped, rewound, pinned, given_back}
+use Rattle.square_runs.specs.PatchWords.{name0}
+use Rattle.square_runs.specs.SquareRun.{square_setup, SquareVisits, claimed, drawn, history0, history1, undead, named0, named1, child0, child1, child2, child3, linked0, linked1, published, unclaimed, finished1, stopped, rewound, pinned, given_back}
 use Rattle.square_runs.proofs.SquareNotes.{le11, en, le11, lt01, lt02}
 use Rattle.square_runs.proofs.SquareRound1.{v1, v2, v3, v4, v5, v6, v7, v8, v9, v10, v11, v12, v13, v14, v15, v16, v17, v18, v19, v20, v21, v22, v23, v24, v25, v26, v27, v28}
 use Rattle.square_runs.proofs.SquareSteps1.{s1, s2, s3, s4, s5, s6, s7, s8, s9, s10, s11, s12, s13, s14, s15, s16, s17, s18, s19, s20, s21, s22, s23, s24, s25, s26, s27, s28}

@@ -7,9 +7,9 @@ use Rattle.mesh_words.specs.Views.{Plan, Views}
 use Rattle.mesh_words.specs.Words.{Node, node}
 use Rattle.mesh_state.specs.Ghosts.{Placed, stands}
 use Rattle.mesh_state.specs.Lists.{Holds, IsTarget}
-use Rattle.square_runs.specs.SquareRun.{name0, name1}
+use Rattle.square_runs.specs.PatchWords.{name0, name1}
 use Rattle.square_runs.specs.SquareTwice.{pair_setup}
-use Rattle.square_runs.specs.SquareChild.{child_name, at_child}
+use Rattle.square_runs.specs.ChildWords.{child_name, at_child}
 use Rattle.square_runs.proofs.SquareNotes.{en, lt01, lt02, le22, swept_heads, both_placed, placed_zero, no_block, zero_or_one}
 use Rattle.square_runs.proofs.ChildNotes.{child_names, child_closed}
 

@@ -1,9 +1,16 @@
 -- The words of a bisection of the first child of element 0 by block 1: each as a function of the words before it. Each line changes one word.
-use Rattle.std.specs.Prelude.{◌+◌, true, false, List, [], ◌∷◌}
+use Rattle.std.specs.Prelude.{ℕ, ◌+◌, true, false, List, [], ◌∷◌}
 use Rattle.mesh_words.specs.Functions.{update}
+use Rattle.mesh_words.specs.NameWords.{name_code}
 use Rattle.mesh_words.specs.Places.{member_of, child_place}
 use Rattle.mesh_words.specs.Words.{Words, node}
-use Rattle.square_runs.specs.SquareChild.{child_name, at_child}
+
+-- the name of the first child of element 0, and its place in block 0
+abbrev pub child_name : ℕ
+child_name = name_code (0, false ∷ [])
+
+abbrev pub at_child : ℕ
+at_child = child_place 2 0 false false
 
 -- a worker claims the patch of the child at its place, and draws the block
 abbrev pub claimed : Words → Words

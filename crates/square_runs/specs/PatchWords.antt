@@ -1,10 +1,17 @@
 -- The words of a bisection of the square's patch by block 0, where its LINK words name no
 -- block: each as a function of the words before it. Each line changes one word.
-use Rattle.std.specs.Prelude.{◌+◌, true, false, List, [], ◌∷◌}
+use Rattle.std.specs.Prelude.{ℕ, ◌+◌, true, false, List, [], ◌∷◌}
 use Rattle.mesh_words.specs.Functions.{update}
+use Rattle.mesh_words.specs.NameWords.{name_code}
 use Rattle.mesh_words.specs.Places.{member_of, child_place}
 use Rattle.mesh_words.specs.Words.{Words, node}
-use Rattle.square_runs.specs.SquareRun.{name0, name1}
+
+-- the names of the square's elements
+abbrev pub name0 : ℕ
+name0 = name_code (0, [])
+
+abbrev pub name1 : ℕ
+name1 = name_code (1, [])
 
 -- a worker claims the patch at the place of element 0, and draws the block
 abbrev pub claimed : Words → Words
@@ -50,4 +57,5 @@ linked1 w = let u = linked0 w in record u { head = update u.head 1 (node 1 0) }
 
 -- these words, in order
 abbrev pub bisection : Words → List Words
-bisection w = claimed w ∷ drawn w ∷ history0 w ∷ history1 w ∷ undead w ∷ named0 w ∷ named1 w ∷ child0 w ∷ child1 w ∷ child2 w ∷ child3 w ∷ linked0 w ∷ linked1 w ∷ []
+bisection w = claimed w ∷ drawn w ∷ history0 w ∷ history1 w ∷ undead w ∷ named0 w ∷ named1 w ∷ child0 w ∷ child1 w ∷ child2 w ∷ child3 w ∷ linked0 w
+    ∷ linked1 w ∷ []

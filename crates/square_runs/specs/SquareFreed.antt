@@ -11,7 +11,8 @@ use Rattle.mesh_steps.specs.SweepSteps.{FreeStep}
 use Rattle.square_runs.specs.SquareRun.{Along}
 use Rattle.square_runs.specs.SquareKinds.{fresh_state, RunsTo}
 use Rattle.square_runs.specs.SquareTwice.{pair_setup}
-use Rattle.square_runs.specs.SquareChild.{at_child, finished2, child_words}
+use Rattle.square_runs.specs.ChildWords.{at_child}
+use Rattle.square_runs.specs.SquareChild.{finished2, child_words}
 
 -- before round 3 FREE and CURSOR become 0
 abbrev pub stopped : Words

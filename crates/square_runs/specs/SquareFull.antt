@@ -6,7 +6,8 @@ use Rattle.mesh_state.specs.Fresh.{fresh_words}
 use Rattle.mesh_steps.specs.States.{State}
 use Rattle.mesh_steps.specs.Steps.{Run}
 use Rattle.square_runs.specs.SquareKinds.{fresh_state}
-use Rattle.square_runs.specs.SquareRun.{Along, square_setup, claimed, drawn, history0, history1, undead, named0, named1, child0, child1, child2, child3, linked0, linked1, published, unclaimed, finished1, stopped, rewound, pinned, retired, stamped0, stamped1, finished2}
+use Rattle.square_runs.specs.SquareRun.{Along, square_setup, claimed, drawn, history0, history1, undead, named0, named1, child0, child1, child2, child3}
+use Rattle.square_runs.specs.SquareRun.{linked0, linked1, published, unclaimed, finished1, stopped, rewound, pinned, retired, stamped0, stamped1, finished2}
 
 -- after round 2 FREE is still 0: a worker claims the patch, and its draw finds no block
 abbrev pub claimed_full : Words

@@ -5,11 +5,15 @@ use Rattle.mesh_names.specs.Validity.{across_of}
 use Rattle.mesh_words.specs.Setup.{Setup, setup_of}
 use Rattle.mesh_words.specs.Views.{Worker, Views}
 use Rattle.mesh_state.specs.Fresh.{fresh_words, fresh_views}
-use Rattle.mesh_steps.specs.WorkSteps.{ClaimStep, DrawStep, FullStep, FillHistory, FillName, FillDied, FillChild, LinkFirst, LinkSecond, PublishStep, RetireStep, RetiredStep}
-use Rattle.mesh_steps.specs.WalkSteps.{WorkTop, WorkEnds, WorkGoes, WorkFinds, WorkHad, WorkBoth, WorkPasses, WorkGives, WorkDead, WorkOpen, LoadHead, LoadHistory, LoadBorn, LoadDied, LoadName, LoadRow}
+use Rattle.mesh_steps.specs.WorkSteps.{ClaimStep, DrawStep, FullStep, FillHistory, FillName, FillDied, FillChild, LinkFirst, LinkSecond, PublishStep}
+use Rattle.mesh_steps.specs.WorkSteps.{RetireStep, RetiredStep}
+use Rattle.mesh_steps.specs.WalkSteps.{WorkTop, WorkEnds, WorkGoes, WorkFinds, WorkHad, WorkBoth, WorkPasses, WorkGives, WorkDead, WorkOpen, LoadHead}
+use Rattle.mesh_steps.specs.WalkSteps.{LoadHistory, LoadBorn, LoadDied, LoadName, LoadRow}
 use Rattle.mesh_steps.specs.PinSteps.{LoadRound, PinStep, UnpinStep, ReadEnds, ReadGoes, ReadFinds, ReadPasses}
-use Rattle.mesh_steps.specs.OwnerSteps.{NoteClear, LoadCursor, LoadFree, NoteFree, LoadReleased, NoteQuiet, NotePlaces, SplitStep, JoinWorker, JoinReader, BeginStep, PlanStep, CloseStep, RefuseStep, RestoreStep, AdvanceStep}
-use Rattle.mesh_steps.specs.SweepSteps.{StampStep, UnclaimStep, CutLink, CutHistory, FreeStep, ZeroStep, StopStep, RewindStep, RowStep, OpenStep, UnbearStep, UnlinkSecond, UnlinkFirst, BuryStep, UndrawStep}
+use Rattle.mesh_steps.specs.OwnerSteps.{NoteClear, LoadCursor, LoadFree, NoteFree, LoadReleased, NoteQuiet, NotePlaces, SplitStep, JoinWorker, JoinReader}
+use Rattle.mesh_steps.specs.OwnerSteps.{BeginStep, PlanStep, CloseStep, RefuseStep, RestoreStep, AdvanceStep}
+use Rattle.mesh_steps.specs.SweepSteps.{StampStep, UnclaimStep, CutLink, CutHistory, FreeStep, ZeroStep, StopStep, RewindStep, RowStep, OpenStep, UnbearStep}
+use Rattle.mesh_steps.specs.SweepSteps.{UnlinkSecond, UnlinkFirst, BuryStep, UndrawStep}
 use Rattle.mesh_steps.specs.States.{StepKind, State, state, IsLawful}
 use Rattle.mesh_steps.specs.Steps.{Run, Step}
 use Rattle.mesh_words.specs.Writes.{Write, WriteClaim, written}

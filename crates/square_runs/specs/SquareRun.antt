@@ -1,10 +1,8 @@
 -- A run on the square: its two elements are one patch, and the table has one block. Each line changes one word.
-use Rattle.std.specs.Prelude.{◌≡◌, ℕ, ◌+◌, true, false, List, [], ◌∷◌, ◌⊎◌, ◌↔◌}
+use Rattle.std.specs.Prelude.{◌≡◌, ℕ, ◌+◌, List, [], ◌∷◌, ◌⊎◌, ◌↔◌}
 use Rattle.mesh_names.specs.Squares.{square}
 use Rattle.mesh_names.specs.Validity.{across_of}
 use Rattle.mesh_words.specs.Functions.{update}
-use Rattle.mesh_words.specs.NameWords.{name_code}
-use Rattle.mesh_words.specs.Places.{member_of, child_place}
 use Rattle.mesh_words.specs.Setup.{Setup, setup_of}
 use Rattle.mesh_words.specs.Views.{Views}
 use Rattle.mesh_words.specs.Words.{Words, node}
@@ -13,6 +11,8 @@ use Rattle.mesh_state.specs.Bisections.{MayRead}
 use Rattle.mesh_state.specs.Fresh.{fresh_words, fresh_views}
 use Rattle.mesh_reading.specs.Reading.{StandsAt, Bisects}
 use Rattle.mesh_state.specs.Rule.{Rule}
+use Rattle.square_runs.specs.PatchWords as root
+use Rattle.square_runs.specs.PatchWords.{name0, name1}
 use Rattle.mesh_steps.specs.States.{State, state}
 use Rattle.mesh_steps.specs.Steps.{Run}
 
@@ -20,55 +20,47 @@ use Rattle.mesh_steps.specs.Steps.{Run}
 abbrev pub square_setup : Setup
 square_setup = setup_of square (across_of square) (record { rounds = 4; elements = 2; pool = 1 }) 1
 
--- the names of its elements
-abbrev pub name0 : ℕ
-name0 = name_code (0, [])
-
-abbrev pub name1 : ℕ
-name1 = name_code (1, [])
-
--- a worker claims the patch at the place of element 0, and draws the block
+-- a worker bisects the patch by block 0, from its claim to the links
 abbrev pub claimed : Words
-claimed = let w = fresh_words 1 in record w { claimed = update w.claimed 0 1 }
+claimed = root.claimed (fresh_words 1)
 
 abbrev pub drawn : Words
-drawn = let w = claimed in record w { cursor = w.cursor + 1 }
+drawn = root.drawn (fresh_words 1)
 
--- it fills the nine words of the block but BORN
 abbrev pub history0 : Words
-history0 = let w = drawn in record w { hist = update w.hist (member_of 0 false) (node 0 0) }
+history0 = root.history0 (fresh_words 1)
 
 abbrev pub history1 : Words
-history1 = let w = history0 in record w { hist = update w.hist (member_of 0 true) (node 0 0) }
+history1 = root.history1 (fresh_words 1)
 
 abbrev pub undead : Words
-undead = let w = history1 in record w { died = update w.died 0 0 }
+undead = root.undead (fresh_words 1)
 
 abbrev pub named0 : Words
-named0 = let w = undead in record w { name = update w.name (member_of 0 false) name0 }
+named0 = root.named0 (fresh_words 1)
 
 abbrev pub named1 : Words
-named1 = let w = named0 in record w { name = update w.name (member_of 0 true) name1 }
+named1 = root.named1 (fresh_words 1)
 
 abbrev pub child0 : Words
-child0 = let w = named1 in record w { head = update w.head (child_place 2 0 false false) (node 0 0) }
+child0 = root.child0 (fresh_words 1)
 
 abbrev pub child1 : Words
-child1 = let w = child0 in record w { head = update w.head (child_place 2 0 false true) (node 0 0) }
+child1 = root.child1 (fresh_words 1)
 
 abbrev pub child2 : Words
-child2 = let w = child1 in record w { head = update w.head (child_place 2 0 true false) (node 0 0) }
+child2 = root.child2 (fresh_words 1)
 
 abbrev pub child3 : Words
-child3 = let w = child2 in record w { head = update w.head (child_place 2 0 true true) (node 0 0) }
+child3 = root.child3 (fresh_words 1)
 
--- it links both members to the block, and publishes it
 abbrev pub linked0 : Words
-linked0 = let w = child3 in record w { head = update w.head 0 (node 1 0) }
+linked0 = root.linked0 (fresh_words 1)
 
 abbrev pub linked1 : Words
-linked1 = let w = linked0 in record w { head = update w.head 1 (node 1 0) }
+linked1 = root.linked1 (fresh_words 1)
 
+-- and publishes it
 abbrev pub published : Words
 published = let w = linked1 in record w { born = update w.born 0 1 }
 

@@ -13,7 +13,7 @@ use Rattle.mesh_steps.specs.Steps.{Run}
 use Rattle.square_runs.specs.SquareRun.{Along}
 use Rattle.square_runs.specs.SquareKinds.{fresh_state, RunsTo}
 use Rattle.square_runs.specs.SquareTwice.{pair_setup, first_words, stopped, rewound}
-use Rattle.square_runs.specs.SquareChild.{child_name, at_child}
+use Rattle.square_runs.specs.ChildWords.{child_name, at_child}
 use Rattle.square_runs.specs.PatchWords as root
 use Rattle.square_runs.specs.ChildWords as kid
 

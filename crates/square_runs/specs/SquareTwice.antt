@@ -12,7 +12,8 @@ use Rattle.mesh_state.specs.Fresh.{fresh_words}
 use Rattle.mesh_reading.specs.Reading.{IsRead}
 use Rattle.mesh_steps.specs.States.{State}
 use Rattle.mesh_steps.specs.Steps.{Run}
-use Rattle.square_runs.specs.SquareRun.{name0, name1, Along}
+use Rattle.square_runs.specs.PatchWords.{name0, name1}
+use Rattle.square_runs.specs.SquareRun.{Along}
 use Rattle.square_runs.specs.SquareKinds.{square_with, fresh_state}
 use Rattle.square_runs.specs.PatchWords as root
 
