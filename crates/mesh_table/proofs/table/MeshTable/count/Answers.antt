@@ -1,0 +1,8 @@
+use Rattle.std.proofs.Common.{arith}
+use Rattle.mesh_table.proofs.table.MeshTable.count.Goals as goal
+
+pub fetch_add-requires : goal.fetch_add-requires
+fetch_add-requires g c =
+    let wide = c.args.self.now.wide in
+    let within = c.requires.within in
+    (c.requires.fit.0, omega arith, rw (c.args.self.now.key) (c.requires.allowed _))

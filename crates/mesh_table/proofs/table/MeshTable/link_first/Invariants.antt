@@ -1,0 +1,7 @@
+use Rattle.mesh_table.specs.Told.{moved}
+use Rattle.table_words.specs.Places.{place_number}
+use Rattle.mesh_table.specs.Told.{mate_number, by_link, come}
+use Rattle.mesh_table.proofs.table.MeshTable.link_first.Given as goal
+
+abbrev pub ghosts-put : goal.ghosts-put
+ghosts-put a = record { tells = moved (λ n v. come v (place_number a.self.now.site.layout a.asked.0) (by_link (mate_number a.self.now.site.layout a.asked.1) a.asked.2)) }

@@ -1,0 +1,16 @@
+use Rattle.std.proofs.Common.{refl}
+use Rattle.table_words.specs.Layout.{FreeCount}
+use Rattle.table_words.proofs.WordPlaces.{words_within}
+use Rattle.mesh_table.proofs.Cutting.{opens}
+use Rattle.mesh_table.proofs.table.MeshTable.open.Goals as goal
+
+pub put-requires-clause-within : goal.put-requires-clause-within
+put-requires-clause-within c =
+    let l = c.args.self.now.site.layout in
+    words_within l FreeCount tt
+
+pub put-requires-clause-allowed : goal.put-requires-clause-allowed
+put-requires-clause-allowed c =
+    let l = c.args.self.now.site.layout in
+    let small = c.args.self.now.small in
+    opens c.args.self.now.site _ _ c.args.owner.now.me c.args.rows _ c.from.ensures refl c.requires.may

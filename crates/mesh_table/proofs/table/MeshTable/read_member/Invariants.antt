@@ -1,0 +1,6 @@
+use Rattle.mesh_table.specs.Told.{read_name_told}
+use Rattle.mesh_table.specs.Told.{no_ask}
+use Rattle.mesh_table.proofs.table.MeshTable.read_member.Given as goal
+
+abbrev pub ghosts-get : goal.ghosts-get
+ghosts-get a = record { tells = read_name_told (record no_ask { block = a.asked.0; second = a.asked.1 }) }

@@ -1,0 +1,7 @@
+pub mod Filled
+pub mod Drawn
+pub mod Claims
+pub mod Owning
+pub mod Growing
+pub mod Whole
+pub mod Leaving

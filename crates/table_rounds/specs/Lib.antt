@@ -1,0 +1,5 @@
+pub mod Patches
+pub mod Refusals
+pub mod Rows
+pub mod Freed
+pub mod Drained
