@@ -1,0 +1,5 @@
+pub mod Falling
+pub mod Ranking
+pub mod Picking
+pub mod Fewest
+pub mod Choosing
