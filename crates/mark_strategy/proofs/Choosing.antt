@@ -58,18 +58,18 @@ module _ (values : List Leaf) (sizes : List ℕ) (falling : AreFalling values si
         let few : ties ≤ count_by (is_at size) values = let h = cut.few in omega (arith, h, at) in
         record {
           ranked = rank values;
-          are_ranked = are_ranked values leaves.in_order;
+          are_ranked = are_ranked values leaves;
           count = count;
           is_shortest = is_shortest;
           front = IsPermutation-map (λ (l : Leaf). l.0) (take count (rank values)) (picked size ties values) (subst (λ (k : ℕ). IsPermutation (take k (rank values)) (picked size ties values)) length_is (picked-front size ties values few));
-          in_order = picked-in_order size ties values leaves.in_order;
+          in_order = picked-in_order size ties values leaves;
         }
 
     -- where none are enough, none are the bulk
     pub bulk_of_none : AreLeaves values → count ≡ 0 → (names : List Name) → names ≡ [] → IsBulk share values names
     bulk_of_none leaves none names empty = record {
       ranked = rank values;
-      are_ranked = are_ranked values leaves.in_order;
+      are_ranked = are_ranked values leaves;
       count = count;
       is_shortest = is_shortest;
       front = subst (λ (k : ℕ). IsPermutation (names_of (take k (rank values))) names) (sym none) (subst (IsPermutation []) (sym empty) (IsPermutation-refl []));

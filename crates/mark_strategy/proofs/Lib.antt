@@ -3,3 +3,4 @@ pub mod Ranking
 pub mod Picking
 pub mod Fewest
 pub mod Choosing
+pub mod Shares

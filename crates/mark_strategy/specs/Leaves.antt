@@ -1,5 +1,5 @@
 -- Leaves with their values, and how large these are.
-use Rattle.std.specs.Prelude.{ℕ, ◌≤◌, ℤ, nat_abs, max, List, length, map, fold, sum_by}
+use Rattle.std.specs.Prelude.{ℕ, ℤ, nat_abs, max, List, map, fold, sum_by}
 use Rattle.std.specs.List.Sorted.{IsStrictlySortedBy}
 use Rattle.mesh_names.specs.Names.{Name, name_cmp}
 
@@ -23,7 +23,6 @@ greatest leaves = fold (λ size leaf. max size (size_of leaf)) 0 leaves
 abbrev pub names_of : List Leaf → List Name
 names_of leaves = map (λ (leaf : Leaf). leaf.0) leaves
 
--- each leaf once, in the order of names, and no more than 4,194,304
-pub record AreLeaves (values : List Leaf) : Type 0 where
-  pub in_order : IsStrictlySortedBy name_cmp (names_of values)
-  pub few : length values ≤ 4194304
+-- each leaf once, in the order of names
+abbrev pub AreLeaves : List Leaf → Type 0
+AreLeaves values = IsStrictlySortedBy name_cmp (names_of values)

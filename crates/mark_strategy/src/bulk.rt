@@ -1,5 +1,5 @@
 //! Bulk marking.
-ghost use Rattle.std.specs.Prelude.{◌≡◌, ◌*◌, ◌≤◌, ◌==◌, count_by, length, map, sum, IfOk, IfSome, IfNone};
+ghost use Rattle.std.specs.Prelude.{◌≡◌, ℕ, ◌*◌, ◌≤◌, ◌==◌, count_by, length, map, sum, IfOk, IfSome, IfNone};
 ghost use Rattle.mark_strategy.specs.Leaves.{AreLeaves, names_of, size_of};
 ghost use Rattle.mark_strategy.specs.Picks.{AreFalling, Fall, IsCut, IsEnough, picked};
 ghost use Rattle.mark_strategy.specs.Strategies.{AreFewest, IsBulk};
@@ -13,8 +13,7 @@ use std::alloc::{AllocError, Global};
 /// order of names; of equal sizes the first by name (Dörfler 1996). No other set of leaves that has
 /// the share is smaller.
 ///
-/// The leaves are given in the order of names, each once, and are at most 4,194,304. Only their sizes
-/// are sorted.
+/// The leaves are given in the order of names, each once. Only their sizes are sorted.
 pub fn mark_bulk(
     alloc: Global,
     values: &[(ElemName, i64)],
@@ -52,8 +51,7 @@ fn sizes_of(alloc: Global, values: &[(ElemName, i64)]) -> Result<Vec<u64>, Alloc
 
 // The sizes of the leaves, the greatest first.
 fn falling_sizes(alloc: Global, values: &[(ElemName, i64)]) -> Result<Vec<u64>, AllocError>
-    ensures falling { IfOk result (λ sizes. AreFalling values.now sizes.items) }
-    ensures length { IfOk result (λ sizes. length sizes.items ≡ length values.now) }
+    ensures { IfOk result (λ sizes. AreFalling values.now sizes.items) }
 {
     let mut sizes = sizes_of(alloc, values)?;
     sizes.sort_unstable();
@@ -63,9 +61,7 @@ fn falling_sizes(alloc: Global, values: &[(ElemName, i64)]) -> Result<Vec<u64>, 
 
 // The sum of the sizes.
 fn sum_of(sizes: &[u64]) -> u128
-    requires { length sizes.now ≤ 4194304 }
-    ensures sum { result ≡ sum sizes.now }
-    ensures small { result ≤ 4194304 * 18446744073709551615 }
+    ensures { result ≡ sum sizes.now }
 {
     let mut sum = 0;
     for size in sizes {
@@ -74,16 +70,26 @@ fn sum_of(sizes: &[u64]) -> u128
     sum
 }
 
+// The least sum that is at least this share of a total. The total is divided first, so that no
+// product is above it.
+fn least_sum(total: u128, share: Share) -> u128
+    ensures enough { share.part * total ≤ result * share.whole }
+    ensures least { (sum : ℕ) → share.part * total ≤ sum * share.whole → result ≤ sum }
+{
+    let part = u128::from(share.part());
+    let whole = u128::from(share.whole());
+    let rest = part * (total % whole);
+    part * (total / whole) + (rest + whole - 1) / whole
+}
+
 // How many of the sizes, from the front, are enough for the share.
 fn enough(sizes: &[u64], share: Share) -> usize
-    requires { length sizes.now ≤ 4194304 }
     ensures { IsEnough share sizes.now result }
 {
-    let least = sum_of(sizes) * u128::from(share.part());
-    let whole = u128::from(share.whole());
+    let least = least_sum(sum_of(sizes), share);
     let mut sum = 0;
     for (count, size) in sizes.iter().enumerate() {
-        if sum * whole >= least {
+        if sum >= least {
             return count;
         }
         sum += u128::from(*size);

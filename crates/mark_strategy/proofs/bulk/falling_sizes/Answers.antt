@@ -7,8 +7,8 @@ use Rattle.mark_strategy.specs.Picks.{Fall}
 use Rattle.mark_strategy.proofs.Falling.{fall_reverse}
 use Rattle.mark_strategy.proofs.bulk.falling_sizes.Goals as goal
 
-pub returns-clause-falling : goal.returns-clause-falling
-returns-clause-falling c =
+pub returns : goal.returns
+returns c =
     let sorted = c.sort_unstable.new.self.items in
     record {
       same = IsPermutation-trans (map size_of c.args.values.now) sorted c.reverse.new.self.items
