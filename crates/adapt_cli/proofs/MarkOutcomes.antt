@@ -1,7 +1,8 @@
 -- From the rounds to the marks for one more.
-use Rattle.std.proofs.Common.{◌≡◌, ◌⊎◌, ℕ, ◌+◌, ◌<◌, ◌≤◌, refl, sym, ap, ◌∙◌, subst, List, [], ◌∷◌, ◌++◌, length, map, take, inl, inr, ⊎_elim, arith, append_assoc}
+use Rattle.std.proofs.Common.{◌≡◌, ◌⊎◌, ℕ, ◌+◌, ◌<◌, ◌≤◌, refl, sym, ap, ◌∙◌, subst, List, [], ◌∷◌, ◌++◌, length, map, take, inl, inr, ⊎_elim, arith, append_assoc, get_or}
 use Rattle.std.specs.Prelude.{Result, Ok, Err, string_bytes}
 use Rattle.std.specs.List.{concat}
+use Rattle.std.proofs.lemmas.List.{append-nil, map-append, take_more}
 use Rattle.mesh_names.specs.Names.{Name}
 use Rattle.compat_check.specs.Meshes.{Mesh}
 use Rattle.mark_file.specs.Meaning.{Round}
@@ -10,7 +11,7 @@ use Rattle.dof_transfer.specs.Held.{Held, worth_of}
 use Rattle.mesh_rounds.specs.State.{IsFirst, State}
 use Rattle.adapt_words.specs.Words.{MarkWords}
 use Rattle.adapt_cli.specs.FaultTexts.{Fault, no_round_left}
-use Rattle.adapt_cli.specs.Marks.{IsMarksText, MarksTo}
+use Rattle.adapt_cli.specs.Marks.{IsMarksText, IsNoRoundLeft, MarksTo}
 use Rattle.adapt_cli.specs.Rounds.{LeadTo}
 use Rattle.adapt_cli.specs.Stops.{IsRun, StopsBy}
 use Rattle.adapt_cli.specs.declared.fault.Stop.{Stop}
@@ -25,7 +26,7 @@ mark_status mesh mark rounds fault h = ⊎_elim
     h
 
 -- no round is left
-pub none_left : (mesh : Mesh) (mark : MarkWords) (rounds : List Round) (stop : Stop) → 65535 ≤ length rounds → StopsBy (λ end. end ≡ Err no_round_left) stop → StopsBy (MarksTo mesh mark rounds) stop
+pub none_left : (mesh : Mesh) (mark : MarkWords) (rounds : List Round) (stop : Stop) → 65535 ≤ length rounds → StopsBy IsNoRoundLeft stop → StopsBy (MarksTo mesh mark rounds) stop
 none_left mesh mark rounds (Refused fault) full h = inl (full, inner h)
   where
     inner : {A B : Type 0} {a b : B} → ◌≡◌ {A = Result A B} (Err a) (Err b) → a ≡ b
@@ -47,3 +48,19 @@ marks_made mesh mark rounds first last text left is_first ran written = (left, f
 pub names-valued : (held : Held) (list : List Name) → names_of (map (λ n. (n, worth_of held n)) list) ≡ list
 names-valued held [] = refl
 names-valued held (n ∷ ns) = ap (λ ms. n ∷ ms) (names-valued held ns)
+
+-- one more element of a mapped list
+pub map_more : {X Y : Type 0} (f : X → Y) (xs : List X) (i : ℕ) (d : X) (ys : List Y) (y : Y) → i < length xs → ys ≡ map f (take i xs) → y ≡ f (get_or xs i d) → ys ++ y ∷ [] ≡ map f (take (i + 1) xs)
+map_more f xs i d ys y l e h = (λ j. e j ++ h j ∷ []) ∙ sym (map-append f (take i xs) (get_or xs i d ∷ [])) ∙ ap (map f) (sym (take_more xs i d l))
+
+concat-push : (ts : List (List ℕ)) (t : List ℕ) → concat (ts ++ t ∷ []) ≡ concat ts ++ t
+concat-push [] t = append-nil t
+concat-push (u ∷ ts) t = ap (λ v. u ++ v) (concat-push ts t) ∙ sym (append_assoc u (concat ts) t)
+
+-- one more line
+pub lines_more : {X : Type 0} (f : X → List ℕ) (head : List ℕ) (xs : List X) (i : ℕ) (d : X) (text : List ℕ) → i < length xs → text ≡ head ++ concat (map f (take i xs)) → text ++ f (get_or xs i d) ≡ head ++ concat (map f (take (i + 1) xs))
+lines_more f head xs i d text l e =
+    let more = map_more f xs i d (map f (take i xs)) (f (get_or xs i d)) l refl refl in
+    ap (λ t. t ++ f (get_or xs i d)) e
+    ∙ append_assoc head (concat (map f (take i xs))) (f (get_or xs i d))
+    ∙ ap (λ t. head ++ t) (sym (concat-push (map f (take i xs)) (f (get_or xs i d))) ∙ ap concat more)

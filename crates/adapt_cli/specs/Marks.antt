@@ -52,6 +52,10 @@ MarksTo mesh mark rounds (Err fault) =
     ((65535 ≤ length rounds) × (fault ≡ no_round_left))
     ⊎ ((length rounds < 65535) × (first : State) × IsFirst mesh first × LeadTo mesh mark.pool rounds first (Err fault))
 
+-- all rounds are there already
+abbrev pub IsNoRoundLeft : End → Type 0
+IsNoRoundLeft end = end ≡ Err no_round_left
+
 -- the files of a call for marks
 abbrev pub mark_inputs : MarkWords → Inputs
 mark_inputs mark = record { macro_file = mark.macro_file; marks_file = mark.marks_file }

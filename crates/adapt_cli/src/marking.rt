@@ -11,8 +11,7 @@ ghost use Rattle.mark_strategy.specs.Leaves.{AreLeaves};
 ghost use Rattle.forest_plain.specs.Forests.{members_of, mesh_of, pool_of, sides_of};
 ghost use Rattle.mesh_rounds.specs.State.{IsState, with_values};
 ghost use Rattle.adapt_words.specs.Words.{IsMarkInRange, mark_said};
-ghost use Rattle.adapt_cli.specs.FaultTexts.{no_round_left};
-ghost use Rattle.adapt_cli.specs.Marks.{Chooses, IsMarksText, MarksTo, mark_inputs, marking, marks_text};
+ghost use Rattle.adapt_cli.specs.Marks.{Chooses, IsMarksText, IsNoRoundLeft, MarksTo, mark_inputs, marking, marks_text};
 ghost use Rattle.adapt_cli.specs.Stops.{IsStop, IsTextOf, StopsBy};
 
 use crate::fault::{Fault, Stop};
@@ -36,11 +35,7 @@ use std::alloc::{AllocError, Global};
 const ROUNDS: usize = 65_535;
 
 /// The marks file that a call for marks writes, or why there is none.
-pub fn mark_text<S: Shelf>(
-    alloc: Global,
-    mark: &Mark<'_>,
-    shelf: &mut S,
-) -> Result<Vec<u8>, Stop>
+pub fn mark_text<S: Shelf>(alloc: Global, mark: &Mark<'_>, shelf: &mut S) -> Result<Vec<u8>, Stop>
     requires { IsMarkInRange mark.now }
     ensures ok { IfOk result (λ text. IsTextOf (λ mesh. MarksTo mesh (mark_said mark.now)) (mark_inputs (mark_said mark.now)) (S.files shelf.old) (S.faults shelf.old) (S.faults shelf.new) text.items) }
     ensures stopped { IfErr result (IsStop (λ mesh. MarksTo mesh (mark_said mark.now)) (mark_inputs (mark_said mark.now)) (S.files shelf.old) (S.steady shelf.old) (S.faults shelf.old) (S.faults shelf.new)) }
@@ -61,7 +56,7 @@ pub fn mark_text<S: Shelf>(
 
 // The stop where all rounds are there already; want of memory where there is none for its line.
 fn no_round_left(alloc: Global) -> Stop
-    ensures { StopsBy (λ end. end ≡ Err no_round_left) result }
+    ensures { StopsBy IsNoRoundLeft result }
 {
     match format!(in alloc; "adapt: marks: no round left\n") {
         Ok(line) => Stop::Refused(Fault { status: 4, line }),
@@ -135,9 +130,12 @@ fn with_their_values(
 ) -> Result<Vec<(ElemName, i64)>, AllocError>
     ensures { IfOk result (λ pairs. pairs.items ≡ map (λ n. (n, worth_of values.now n)) leaves.now) }
 {
+    let Ok(worths) = values.values(alloc, leaves) else {
+        return Err(AllocError);
+    };
     let mut pairs = Vec::with_capacity(alloc, leaves.len())?;
-    for leaf in leaves {
-        pairs.push((*leaf, values.value(*leaf).unwrap_or(0)))?;
+    for at in 0..leaves.len() {
+        pairs.push((leaves[at], worths[at]))?;
     }
     Ok(pairs)
 }
@@ -175,7 +173,10 @@ fn header(alloc: Global) -> Result<Vec<u8>, MarkRefusal>
     ensures { IfOk result (λ text. text.items ≡ codes "round,what,where,number\n") }
 {
     let mut text = Vec::new(alloc);
-    if text.extend_from_slice(b"round,what,where,number\n").is_err() {
+    if text
+        .extend_from_slice(b"round,what,where,number\n")
+        .is_err()
+    {
         return Err(MarkRefusal::Memory);
     }
     Ok(text)

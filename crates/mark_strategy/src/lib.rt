@@ -11,6 +11,8 @@ mod bulk;
 mod refusal;
 mod share;
 mod strategies;
+#[cfg(test)]
+mod tests;
 
 pub use bulk::mark_bulk;
 pub use refusal::StrategyRefusal;
