@@ -1,10 +1,13 @@
 -- How a call ends.
 use Rattle.std.proofs.Common.{◌≡◌, ℕ, Bool, refl, sym, List, inl, inr, ⊎_elim, subst}
-use Rattle.std.specs.Prelude.{Option, Some, None, string_bytes}
+use Rattle.std.specs.Prelude.{Option, Some, None, IfSome, Ok, Err, string_bytes}
 use Rattle.mesh_io.specs.Shelves.{Files}
-use Rattle.adapt_words.specs.Words.{RunWords, run}
+use Rattle.compat_check.specs.Meshes.{Mesh}
+use Rattle.mark_file.specs.Meaning.{Round}
+use Rattle.adapt_words.specs.Words.{CommandWords}
 use Rattle.adapt_cli.specs.FaultTexts.{memory_line, read_fault_line, usage}
-use Rattle.adapt_cli.specs.Ending.{Call, Ends, IsNext, IsText, IsUntouched, LineEnds, Source, StopEnds, Tells, TextEnds, Written}
+use Rattle.adapt_cli.specs.Ending.{Call, Ends, IsNext, IsOutcomeOf, IsText, IsUntouched, LineEnds, Source, StopEnds, Tells, TextEnds, Written, inputs_of}
+use Rattle.adapt_cli.specs.Outcome.{End, FilesLeadTo, Inputs}
 use Rattle.adapt_cli.specs.Stops.{IsStop, IsTextOf, IsTurn, name_of}
 use Rattle.adapt_cli.specs.declared.fault.InputFile.{InputFile}
 use Rattle.adapt_cli.specs.declared.fault.InputFile.TheVariants.{Macro, Marks}
@@ -40,28 +43,30 @@ written_out source out err text result is_text ends = ⊎_elim
     (λ h. inr (inr (inl (record { status_is = h.0; text = text; is_text = is_text; out_failed = h.1; err_told = h.2 }))))
     ends
 
-module _ (r : RunWords) (files : Option Files) (steady : Bool) (before now : ℕ) where
-  abbrev pub source_of_run : Source
-  source_of_run = record { command = Some (run r); files = files; steady = steady; before = before; now = now }
+-- a command with files: what the files lead to is its outcome
+module _ (ends : Mesh → List Round → End → Type 0) (command : CommandWords) (inputs : Inputs) (is : inputs_of command ≡ Some inputs) (files : Option Files)
+    (leads : (end : End) → IfSome files (λ told. FilesLeadTo ends inputs told end) → IsOutcomeOf files command end) (steady : Bool) (before now : ℕ) where
+  abbrev pub source_of : Source
+  source_of = record { command = Some command; files = files; steady = steady; before = before; now = now }
 
-  pub text_of_run : (text : List ℕ) → IsTextOf r files before now text → IsText source_of_run text
-  text_of_run text h = record { calm = h.0; outcome = record { command = run r; is_command = refl; outcome = h.1 } }
+  pub text_of : (text : List ℕ) → IsTextOf ends inputs files before now text → IsText source_of text
+  text_of text h = record { calm = h.0; outcome = record { command = command; is_command = refl; outcome = leads (Ok text) h.1 } }
 
-  is_next : (file : InputFile) → IsTurn files r file → IsNext source_of_run (name_of r file)
-  is_next Macro turn = (r, refl, inl refl)
-  is_next Marks turn = (r, refl, inr (refl, turn))
+  is_next : (file : InputFile) → IsTurn files inputs file → IsNext source_of (name_of inputs file)
+  is_next Macro turn = (command, refl, inputs, is, inl refl)
+  is_next Marks turn = (command, refl, inputs, is, inr (refl, turn))
 
-  pub ends_at_stop : (out err : Written) → IsUntouched out → (stop : Stop) → IsStop r files steady before now stop → (result : ℕ) → StopEnds r stop err result → Ends (call source_of_run out err result)
-  ends_at_stop out err kept (Refused fault) h result ends = told source_of_run out err kept (string_bytes fault.line) fault.status result (inr (inr (inl (record { low = h.0; high = h.1; calm = h.2; outcome = record { command = run r; is_command = refl; outcome = h.3 } })))) ends
-  ends_at_stop out err kept Memory h result ends = told source_of_run out err kept memory_line 1 result (inl (record { status_is = refl; line_is = refl; calm = h })) ends
-  ends_at_stop out err kept (ReadFault file) h result ends = told source_of_run out err kept (read_fault_line (name_of r file)) 6 result (inr (inr (inr (record {
+  pub ends_at_stop : (out err : Written) → IsUntouched out → (stop : Stop) → IsStop ends inputs files steady before now stop → (result : ℕ) → StopEnds inputs stop err result → Ends (call source_of out err result)
+  ends_at_stop out err kept (Refused fault) h result at = told source_of out err kept (string_bytes fault.line) fault.status result (inr (inr (inl (record { low = h.0; high = h.1; calm = h.2; outcome = record { command = command; is_command = refl; outcome = leads (Err (fault.status, string_bytes fault.line)) h.3 } })))) at
+  ends_at_stop out err kept Memory h result at = told source_of out err kept memory_line 1 result (inl (record { status_is = refl; line_is = refl; calm = h })) at
+  ends_at_stop out err kept (ReadFault file) h result at = told source_of out err kept (read_fault_line (name_of inputs file)) 6 result (inr (inr (inr (record {
     status_is = refl;
-    name = name_of r file;
+    name = name_of inputs file;
     is_next = is_next file h.1;
     line_is = refl;
     rose = h.0;
     missing = h.2;
-  })))) ends
+  })))) at
 
 -- the words are outside the form
 pub ends_outside : (source : Source) (out err : Written) → IsUntouched out → source.command ≡ None → source.now ≡ source.before → (result : ℕ) → LineEnds err usage 2 result → Ends (call source out err result)

@@ -7,3 +7,4 @@ pub mod Texts
 pub mod FullPools
 pub mod Drawing
 pub mod SoakEnds
+pub mod MarkOutcomes

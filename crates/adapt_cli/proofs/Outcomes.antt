@@ -12,7 +12,7 @@ use Rattle.forest_plain.specs.declared.refusal.RoundRefusal.TheVariants.{RoundsU
 use Rattle.adapt_cli.specs.FaultTexts.{Fault, round_fault}
 use Rattle.adapt_cli.specs.Reports.{IsOutput, IsTextOfState}
 use Rattle.adapt_cli.specs.Rounds.{LeadTo, Refuses, preceded, whole}
-use Rattle.adapt_cli.specs.Outcome.{AcceptsMacro, AcceptsMarks, FollowsMarks, IsRunOutcome, RefusesMarks, RunsTo}
+use Rattle.adapt_cli.specs.Outcome.{AcceptsMacro, AcceptsMarks, End, FilesLeadTo, FollowsMarks, Inputs, RefusesMarks, RunsTo}
 use Rattle.adapt_cli.specs.Stops.{Gives, IsLoadStop, IsReportedRun, IsRun, IsStop, IsTextOf, IsTurn, MacroIsAccepted, StopsBy, name_of}
 use Rattle.adapt_cli.specs.declared.fault.InputFile.TheVariants.{Marks}
 use Rattle.adapt_cli.specs.declared.fault.InputFile.{InputFile}
@@ -69,7 +69,7 @@ refused_status round no_memory fault e = absurd (none e)
     none : None ≡ Some fault → ⊥
     none q = cc
 
-lead_status : (mesh : Mesh) (room : ℕ) (rounds : List Round) (old : State) (fault : Fault) → LeadTo mesh room rounds old (Err fault) → (3 ≤ fault.0) × (fault.0 ≤ 5)
+pub lead_status : (mesh : Mesh) (room : ℕ) (rounds : List Round) (old : State) (fault : Fault) → LeadTo mesh room rounds old (Err fault) → (3 ≤ fault.0) × (fault.0 ≤ 5)
 lead_status mesh room [] old fault h = absurd (apart h)
   where
     apart : {A B : Type 0} {a : A} {b : B} → ◌≡◌ {A = Result A B} (Err b) (Ok a) → ⊥
@@ -92,27 +92,31 @@ lead_status mesh room (round ∷ rounds) old fault h = ⊎_elim
     by new (Ok states) leads e later = absurd (apart e)
     by new (Err f) leads e later = later (subst (λ (g : Fault). LeadTo mesh room rounds new (Err g)) (sym (inner e)) leads)
 
--- ---- a run whose macro file is accepted
-module _ (run : RunWords) (files files_now : Option Files) (before first now : ℕ) (mesh : Mesh) (gives : Gives (λ bytes. AcceptsMacro bytes mesh) run.macro_file files before first) (same : files_now ≡ files) where
+-- a run that is refused has status 4 or 5
+pub run_status : (mesh : Mesh) (run : RunWords) (rounds : List Round) (fault : Fault) → RunsTo mesh run rounds (Err fault) → (3 ≤ fault.0) × (fault.0 ≤ 5)
+run_status mesh run rounds fault h = lead_status mesh run.pool rounds h.0 fault h.2
+
+-- ---- a command whose macro file is accepted
+module _ (ends : Mesh → List Round → End → Type 0) (inputs : Inputs) (files files_now : Option Files) (before first now : ℕ) (mesh : Mesh) (gives : Gives (λ bytes. AcceptsMacro bytes mesh) inputs.macro_file files before first) (same : files_now ≡ files) where
   -- what stands after an accepted macro file, for each end that the marks lead to
   after_macro : (end : Result (List ℕ) Fault) →
-      ((told : Files) → files ≡ Some told → (bytes : List ℕ) → get told run.macro_file ≡ Some bytes → AcceptsMacro bytes mesh → IsRunOutcome run told end) →
-      IfSome files (λ told. IsRunOutcome run told end)
+      ((told : Files) → files ≡ Some told → (bytes : List ℕ) → get told inputs.macro_file ≡ Some bytes → AcceptsMacro bytes mesh → FilesLeadTo ends inputs told end) →
+      IfSome files (λ told. FilesLeadTo ends inputs told end)
   after_macro end follows = by files refl gives.1
     where
-      by : (o : Option Files) → files ≡ o → IfSome o (λ told. (bytes : List ℕ) × (get told run.macro_file ≡ Some bytes) × AcceptsMacro bytes mesh) → IfSome o (λ told. IsRunOutcome run told end)
+      by : (o : Option Files) → files ≡ o → IfSome o (λ told. (bytes : List ℕ) × (get told inputs.macro_file ≡ Some bytes) × AcceptsMacro bytes mesh) → IfSome o (λ told. FilesLeadTo ends inputs told end)
       by None e h = tt
       by (Some told) e h = follows told e h.0 h.1 h.2
 
-  accepted : MacroIsAccepted files run.macro_file
+  accepted : MacroIsAccepted files inputs.macro_file
   accepted = by files gives.1
     where
-      by : (o : Option Files) → IfSome o (λ told. (bytes : List ℕ) × (get told run.macro_file ≡ Some bytes) × AcceptsMacro bytes mesh) → MacroIsAccepted o run.macro_file
+      by : (o : Option Files) → IfSome o (λ told. (bytes : List ℕ) × (get told inputs.macro_file ≡ Some bytes) × AcceptsMacro bytes mesh) → MacroIsAccepted o inputs.macro_file
       by None h = tt
       by (Some told) h = (h.0, h.1, mesh, h.2)
 
   -- the marks file is not there, too long, or refused
-  pub marks_stop : (steady steady_now : Bool) → (steady ≡ true → steady_now ≡ true) → (stop : Stop) → IsLoadStop RefusesMarks 4 Marks run.marks_file files_now steady_now first now stop → IsStop run files steady before now stop
+  pub marks_stop : (steady steady_now : Bool) → (steady ≡ true → steady_now ≡ true) → (stop : Stop) → IsLoadStop RefusesMarks 4 Marks inputs.marks_file files_now steady_now first now stop → IsStop ends inputs files steady before now stop
   marks_stop steady steady_now stays (Refused fault) h = (
     omega (arith, h.0),
     omega (arith, h.0),
@@ -120,29 +124,29 @@ module _ (run : RunWords) (files files_now : Option Files) (before first now : �
     after_macro (Err (fault.status, string_bytes fault.line)) (λ told e bytes at accepts. let there = refuses told e in (bytes, at, inr (mesh, accepts, there.0, there.1, there.2))),
   )
     where
-      refuses : (told : Files) → files ≡ Some told → (marks : List ℕ) × (get told run.marks_file ≡ Some marks) × FollowsMarks mesh run marks (Err (fault.status, string_bytes fault.line))
+      refuses : (told : Files) → files ≡ Some told → (marks : List ℕ) × (get told inputs.marks_file ≡ Some marks) × FollowsMarks (ends mesh) marks (Err (fault.status, string_bytes fault.line))
       refuses told e =
-          let there = subst (λ (o : Option Files). IfSome o (λ t. (bytes : List ℕ) × (get t run.marks_file ≡ Some bytes) × RefusesMarks bytes (string_bytes fault.line))) (same ∙ e) h.2 in
+          let there = subst (λ (o : Option Files). IfSome o (λ t. (bytes : List ℕ) × (get t inputs.marks_file ≡ Some bytes) × RefusesMarks bytes (string_bytes fault.line))) (same ∙ e) h.2 in
           (there.0, there.1, inl (string_bytes fault.line, there.2, λ i. Err (h.0 i, string_bytes fault.line)))
   marks_stop steady steady_now stays Memory h = h ∙ gives.0
   marks_stop steady steady_now stays (ReadFault file) h = (
     ⊎_elim (λ a. inl (omega (arith, a, gives.0))) (λ b. inr (sym gives.0 ∙ b)) h.1,
-    subst (λ (f : InputFile). IsTurn files run f) (sym h.0) accepted,
-    λ steadily. subst (λ (f : InputFile). IfSome files (λ told. get told (name_of run f) ≡ None)) (sym h.0) (subst (λ (o : Option Files). IfSome o (λ told. get told run.marks_file ≡ None)) same (h.2 (stays steadily))),
+    subst (λ (f : InputFile). IsTurn files inputs f) (sym h.0) accepted,
+    λ steadily. subst (λ (f : InputFile). IfSome files (λ told. get told (name_of inputs f) ≡ None)) (sym h.0) (subst (λ (o : Option Files). IfSome o (λ told. get told inputs.marks_file ≡ None)) same (h.2 (stays steadily))),
   )
 
-  module _ (rounds : List Round) (gives_marks : Gives (λ bytes. AcceptsMarks bytes rounds) run.marks_file files_now first now) where
-    after_marks : (end : Result (List ℕ) Fault) → RunsTo mesh run rounds end → IfSome files (λ told. IsRunOutcome run told end)
+  module _ (rounds : List Round) (gives_marks : Gives (λ bytes. AcceptsMarks bytes rounds) inputs.marks_file files_now first now) where
+    after_marks : (end : Result (List ℕ) Fault) → ends mesh rounds end → IfSome files (λ told. FilesLeadTo ends inputs told end)
     after_marks end runs = after_macro end (λ told e bytes at accepts.
-        let there = subst (λ (o : Option Files). IfSome o (λ t. (marks : List ℕ) × (get t run.marks_file ≡ Some marks) × AcceptsMarks marks rounds)) (same ∙ e) gives_marks.1 in
+        let there = subst (λ (o : Option Files). IfSome o (λ t. (marks : List ℕ) × (get t inputs.marks_file ≡ Some marks) × AcceptsMarks marks rounds)) (same ∙ e) gives_marks.1 in
         (bytes, at, inr (mesh, accepts, there.0, there.1, inr (rounds, there.2, runs))))
 
-    pub is_text : (text : List ℕ) → RunsTo mesh run rounds (Ok text) → IsTextOf run files before now text
+    pub is_text : (text : List ℕ) → ends mesh rounds (Ok text) → IsTextOf ends inputs files before now text
     is_text text runs = (gives_marks.0 ∙ gives.0, after_marks (Ok text) runs)
 
-    pub run_stop : (steady : Bool) (stop : Stop) → StopsBy (RunsTo mesh run rounds) stop → IsStop run files steady before now stop
-    run_stop steady (Refused fault) h =
-        let s = lead_status mesh run.pool rounds h.0 (fault.status, string_bytes fault.line) h.2 in
+    pub run_stop : ((fault : Fault) → ends mesh rounds (Err fault) → (3 ≤ fault.0) × (fault.0 ≤ 5)) → (steady : Bool) (stop : Stop) → StopsBy (ends mesh rounds) stop → IsStop ends inputs files steady before now stop
+    run_stop status steady (Refused fault) h =
+        let s = status (fault.status, string_bytes fault.line) h in
         (s.0, s.1, gives_marks.0 ∙ gives.0, after_marks (Err (fault.status, string_bytes fault.line)) h)
-    run_stop steady Memory h = gives_marks.0 ∙ gives.0
-    run_stop steady (ReadFault file) h = absurd h
+    run_stop status steady Memory h = gives_marks.0 ∙ gives.0
+    run_stop status steady (ReadFault file) h = absurd h

@@ -5,8 +5,9 @@ use Rattle.mesh_names.specs.Triangles.{level}
 use Rattle.compat_check.specs.Meshes.{Mesh, shape_of}
 use Rattle.mesh_rounds.specs.State.{IsMeshRound, State}
 use Rattle.soak.specs.Rows.{Drawing, after, rows_for}
-use Rattle.adapt_words.specs.Words.{CommandWords, RunWords, SoakWords, run, soak}
-use Rattle.adapt_cli.specs.Ending.{Call, IsOutcomeOf, IsOutside, IsRefused, IsUnread, LosesLine, LosesText, WantsMemory, WritesLine, WritesText}
+use Rattle.adapt_words.specs.Words.{CommandWords, SoakWords, soak}
+use Rattle.adapt_cli.specs.Ending.{Call, IsOutcomeOf, IsOutside, IsRefused, IsUnread, LosesLine, LosesText, WantsMemory, WritesLine, WritesText, inputs_of}
+use Rattle.adapt_cli.specs.Outcome.{Inputs}
 use Rattle.adapt_cli.specs.FaultTexts.{Fault}
 use Rattle.adapt_cli.specs.Rounds.{whole}
 use Rattle.adapt_cli.specs.SoakEnds.{FaultsAreFullPools, IsFullPool, IsSoakEnd, SoaksEnd}
@@ -59,10 +60,10 @@ module _ (call : Call) (s : SoakWords) (is : call.source.command ≡ Some (soak 
       apart : Some (soak s) ≡ None → ⊥
       apart q = cc
 
-  no-run : (r : RunWords) → call.source.command ≡ Some (run r) → ⊥
-  no-run r e = apart (sym is ∙ e)
+  no-file : (command : CommandWords) → call.source.command ≡ Some command → (inputs : Inputs) → inputs_of command ≡ Some inputs → ⊥
+  no-file command e inputs f = apart (sym (ap inputs_of (ap inside (sym e ∙ is))) ∙ f)
     where
-      apart : Some (soak s) ≡ Some (run r) → ⊥
+      apart : None ≡ Some inputs → ⊥
       apart q = cc
 
   refused : (line : List ℕ) → IsRefused call.source call.status line → IsSoakOutcome s (Err (call.status, line))
@@ -78,7 +79,7 @@ module _ (call : Call) (s : SoakWords) (is : call.source.command ≡ Some (soak 
         full = faults_are_full_pools s (call.status, w.line) (refused w.line h);
         err_took = w.err_took;
       }))))
-      (λ (h : IsUnread call.source call.status w.line). absurd (no-run h.is_next.0 h.is_next.1))))
+      (λ (h : IsUnread call.source call.status w.line). absurd (no-file h.is_next.0 h.is_next.1 h.is_next.2 h.is_next.3))))
       w.tells
 
 pub soaks_end : SoaksEnd

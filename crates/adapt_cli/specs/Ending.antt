@@ -4,9 +4,10 @@ use Rattle.std.specs.FinMap.{get}
 use Rattle.mesh_io.specs.Faults.{Rose}
 use Rattle.mesh_io.specs.Shelves.{Files}
 use Rattle.adapt_words.specs.Numbers.{Word}
-use Rattle.adapt_words.specs.Words.{CommandWords, RunWords, run, soak}
+use Rattle.adapt_words.specs.Words.{CommandWords, mark, run, soak}
 use Rattle.adapt_cli.specs.FaultTexts.{memory_line, read_fault_line, usage, write_fault_line}
-use Rattle.adapt_cli.specs.Outcome.{End, IsRunOutcome}
+use Rattle.adapt_cli.specs.Marks.{IsMarkOutcome, mark_inputs}
+use Rattle.adapt_cli.specs.Outcome.{End, Inputs, IsRunOutcome, run_inputs}
 use Rattle.adapt_cli.specs.Soaks.{IsSoakOutcome}
 use Rattle.adapt_cli.specs.Stops.{MacroIsAccepted, name_of}
 use Rattle.adapt_cli.specs.declared.fault.Stop.{Stop}
@@ -49,10 +50,17 @@ pub record Call : Type 0 where
   pub err : Written
   pub status : ℕ
 
--- what a command leads to; a run's files tell it where the shelf tells its files, and a soak needs none
+-- what a command leads to; the files tell it where the shelf tells its files, and a soak needs none
 abbrev pub IsOutcomeOf : Option Files → CommandWords → End → Type 0
 IsOutcomeOf files (run r) end = IfSome files (λ told. IsRunOutcome r told end)
 IsOutcomeOf files (soak s) end = IsSoakOutcome s end
+IsOutcomeOf files (mark m) end = IfSome files (λ told. IsMarkOutcome m told end)
+
+-- the files of a command; a soak has none
+abbrev pub inputs_of : CommandWords → Option Inputs
+inputs_of (run r) = Some (run_inputs r)
+inputs_of (soak s) = None
+inputs_of (mark m) = Some (mark_inputs m)
 
 -- the outcome of the command
 pub record IsOutcome (source : Source) (end : End) : Type 0 where
@@ -62,7 +70,9 @@ pub record IsOutcome (source : Source) (end : End) : Type 0 where
 
 -- the name is that of the macro file; or that of the marks file, once the macro file is accepted
 abbrev pub IsNext : Source → Word → Type 0
-IsNext source name = (r : RunWords) × (source.command ≡ Some (run r)) × ((name ≡ r.macro_file) ⊎ ((name ≡ r.marks_file) × MacroIsAccepted source.files r.macro_file))
+IsNext source name =
+    (command : CommandWords) × (source.command ≡ Some command) × (inputs : Inputs) × (inputs_of command ≡ Some inputs)
+    × ((name ≡ inputs.macro_file) ⊎ ((name ≡ inputs.marks_file) × MacroIsAccepted source.files inputs.macro_file))
 
 -- there was no memory
 pub record WantsMemory (source : Source) (status : ℕ) (line : List ℕ) : Type 0 where
@@ -148,8 +158,8 @@ TextEnds out err text result =
     ((result ≡ 0) × Took out text × IsUntouched err)
     ⊎ ((result ≡ 7) × Failed out text × (Took err write_fault_line ⊎ Failed err write_fault_line))
 
--- how a run ends at a stop
-abbrev pub StopEnds : RunWords → Stop → Written → ℕ → Type 0
-StopEnds r (Refused fault) err result = LineEnds err (string_bytes fault.line) fault.status result
-StopEnds r Memory err result = LineEnds err memory_line 1 result
-StopEnds r (ReadFault file) err result = LineEnds err (read_fault_line (name_of r file)) 6 result
+-- how a command ends at a stop
+abbrev pub StopEnds : Inputs → Stop → Written → ℕ → Type 0
+StopEnds inputs (Refused fault) err result = LineEnds err (string_bytes fault.line) fault.status result
+StopEnds inputs Memory err result = LineEnds err memory_line 1 result
+StopEnds inputs (ReadFault file) err result = LineEnds err (read_fault_line (name_of inputs file)) 6 result

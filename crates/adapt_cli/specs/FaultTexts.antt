@@ -92,9 +92,13 @@ round_fault round (PoolFull needed kept pool) = Some (full_pool round needed poo
 round_fault round (RoundsUsedUp rounds) = None
 round_fault round Memory = None
 
+-- the fault of a marks file that has all rounds already
+abbrev pub no_round_left : Fault
+no_round_left = (4, codes "adapt: marks: no round left\n")
+
 -- the lines for words that are outside the form
 abbrev pub usage : List ℕ
-usage = codes "usage: adapt run MACRO MARKS [--workers N] [--pool P] [--report]\n       adapt soak START GRID ROUNDS [--workers N] [--pool P]\n"
+usage = codes "usage: adapt run MACRO MARKS [--workers N] [--pool P] [--report]\n       adapt soak START GRID ROUNDS [--workers N] [--pool P]\n       adapt mark MACRO MARKS RULE [--workers N] [--pool P]\n"
 
 -- the line for want of memory
 abbrev pub memory_line : List ℕ

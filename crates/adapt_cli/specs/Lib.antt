@@ -2,6 +2,7 @@ pub mod FaultTexts
 pub mod Rounds
 pub mod Reports
 pub mod Outcome
+pub mod Marks
 pub mod Soaks
 pub mod Stops
 pub mod Ending

@@ -13,6 +13,7 @@ use Rattle.compat_check.specs.declared.refusal.CheckRefusal.{CheckRefusal}
 use Rattle.compat_check.specs.declared.refusal.CheckRefusal.TheVariants.{Memory as no_memory}
 use Rattle.mark_file.specs.Meaning.{Round, marks_meaning}
 use Rattle.mark_file.specs.declared.refusal.MarkRefusal.{MarkRefusal}
+use Rattle.adapt_words.specs.Numbers.{Word}
 use Rattle.adapt_words.specs.Words.{RunWords}
 use Rattle.mesh_rounds.specs.State.{IsFirst, State}
 use Rattle.adapt_cli.specs.FaultTexts.{Fault, macro_line, check_line, marks_line}
@@ -85,16 +86,29 @@ RunsTo mesh run rounds (Ok text) =
     (first : State) × IsFirst mesh first × (states : List State) × LeadTo mesh run.pool rounds first (Ok states) × IsOutput mesh run.report first states text
 RunsTo mesh run rounds (Err fault) = (first : State) × IsFirst mesh first × LeadTo mesh run.pool rounds first (Err fault)
 
--- what follows from the marks file, on a mesh
-abbrev pub FollowsMarks : Mesh → RunWords → List ℕ → End → Type 0
-FollowsMarks mesh run bytes end = ((line : List ℕ) × RefusesMarks bytes line × (end ≡ Err (4, line))) ⊎ ((rounds : List Round) × AcceptsMarks bytes rounds × RunsTo mesh run rounds end)
+-- the names of the files of a command
+pub record Inputs : Type 0 where
+  pub macro_file : Word
+  pub marks_file : Word
+
+-- what follows from the marks file, where `ends` tells what its rounds lead to
+abbrev pub FollowsMarks : (List Round → End → Type 0) → List ℕ → End → Type 0
+FollowsMarks ends bytes end = ((line : List ℕ) × RefusesMarks bytes line × (end ≡ Err (4, line))) ⊎ ((rounds : List Round) × AcceptsMarks bytes rounds × ends rounds end)
 
 -- what follows from the macro file
-abbrev pub FollowsMacro : Files → RunWords → List ℕ → End → Type 0
-FollowsMacro files run bytes end =
+abbrev pub FollowsMacro : (Mesh → List Round → End → Type 0) → Inputs → Files → List ℕ → End → Type 0
+FollowsMacro ends inputs files bytes end =
     ((line : List ℕ) × RefusesMacro bytes line × (end ≡ Err (3, line)))
-    ⊎ ((mesh : Mesh) × AcceptsMacro bytes mesh × (marks : List ℕ) × (get files run.marks_file ≡ Some marks) × FollowsMarks mesh run marks end)
+    ⊎ ((mesh : Mesh) × AcceptsMacro bytes mesh × (marks : List ℕ) × (get files inputs.marks_file ≡ Some marks) × FollowsMarks (ends mesh) marks end)
+
+-- what both files lead to, where `ends` tells what the rounds on the mesh lead to
+abbrev pub FilesLeadTo : (Mesh → List Round → End → Type 0) → Inputs → Files → End → Type 0
+FilesLeadTo ends inputs files end = (bytes : List ℕ) × (get files inputs.macro_file ≡ Some bytes) × FollowsMacro ends inputs files bytes end
+
+-- the files of a run
+abbrev pub run_inputs : RunWords → Inputs
+run_inputs run = record { macro_file = run.macro_file; marks_file = run.marks_file }
 
 -- what a run and its files lead to
 abbrev pub IsRunOutcome : RunWords → Files → End → Type 0
-IsRunOutcome run files end = (bytes : List ℕ) × (get files run.macro_file ≡ Some bytes) × FollowsMacro files run bytes end
+IsRunOutcome run = FilesLeadTo (λ mesh. RunsTo mesh run) (run_inputs run)

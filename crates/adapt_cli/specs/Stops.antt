@@ -9,10 +9,9 @@ use Rattle.forest_plain.specs.declared.refusal.RoundRefusal.{RoundRefusal}
 use Rattle.compat_check.specs.Meshes.{Mesh}
 use Rattle.mark_file.specs.Meaning.{Round}
 use Rattle.adapt_words.specs.Numbers.{Word}
-use Rattle.adapt_words.specs.Words.{RunWords}
 use Rattle.mesh_rounds.specs.State.{State}
 use Rattle.adapt_cli.specs.FaultTexts.{Fault, round_fault}
-use Rattle.adapt_cli.specs.Outcome.{AcceptsMacro, IsRunOutcome}
+use Rattle.adapt_cli.specs.Outcome.{AcceptsMacro, End, FilesLeadTo, Inputs}
 use Rattle.adapt_cli.specs.Reports.{IsReport}
 use Rattle.adapt_cli.specs.Rounds.{LeadTo, last_state}
 use Rattle.adapt_cli.specs.declared.fault.InputFile.{InputFile}
@@ -46,26 +45,26 @@ IsRun mesh pool rounds old new = (states : List State) × LeadTo mesh pool round
 abbrev pub IsReportedRun : Mesh → ℕ → List Round → State → List ℕ → Type 0
 IsReportedRun mesh pool rounds old text = (states : List State) × LeadTo mesh pool rounds old (Ok states) × IsReport mesh 1 states text
 
--- the name of a file of a run
-abbrev pub name_of : RunWords → InputFile → Word
-name_of run Macro = run.macro_file
-name_of run Marks = run.marks_file
+-- the name of a file of a command
+abbrev pub name_of : Inputs → InputFile → Word
+name_of inputs Macro = inputs.macro_file
+name_of inputs Marks = inputs.marks_file
 
 -- where the shelf tells its files, the macro file is there and is accepted
 abbrev pub MacroIsAccepted : Option Files → Word → Type 0
 MacroIsAccepted files name = IfSome files (λ told. (bytes : List ℕ) × (get told name ≡ Some bytes) × (mesh : Mesh) × AcceptsMacro bytes mesh)
 
 -- it is the turn of a file to be loaded: of the marks file once the macro file is accepted
-abbrev pub IsTurn : Option Files → RunWords → InputFile → Type 0
-IsTurn files run Macro = Unit {0}
-IsTurn files run Marks = MacroIsAccepted files run.macro_file
+abbrev pub IsTurn : Option Files → Inputs → InputFile → Type 0
+IsTurn files inputs Macro = Unit {0}
+IsTurn files inputs Marks = MacroIsAccepted files inputs.macro_file
 
--- when each stop of a run comes: what the run and its files lead to, or why that cannot be told; `files`, `steady`, `before` and `now` are the shelf's
-abbrev pub IsStop : RunWords → Option Files → Bool → ℕ → ℕ → Stop → Type 0
-IsStop run files steady before now (Refused fault) =
-    (3 ≤ fault.status) × (fault.status ≤ 5) × (now ≡ before) × IfSome files (λ told. IsRunOutcome run told (Err (fault.status, string_bytes fault.line)))
-IsStop run files steady before now Memory = now ≡ before
-IsStop run files steady before now (ReadFault file) = Rose before now × IsTurn files run file × (steady ≡ true → IfSome files (λ told. get told (name_of run file) ≡ None))
+-- when each stop of a command comes: what its files lead to, or why that cannot be told; `ends` tells what the rounds on the mesh lead to, and `files`, `steady`, `before` and `now` are the shelf's
+abbrev pub IsStop : (Mesh → List Round → End → Type 0) → Inputs → Option Files → Bool → ℕ → ℕ → Stop → Type 0
+IsStop ends inputs files steady before now (Refused fault) =
+    (3 ≤ fault.status) × (fault.status ≤ 5) × (now ≡ before) × IfSome files (λ told. FilesLeadTo ends inputs told (Err (fault.status, string_bytes fault.line)))
+IsStop ends inputs files steady before now Memory = now ≡ before
+IsStop ends inputs files steady before now (ReadFault file) = Rose before now × IsTurn files inputs file × (steady ≡ true → IfSome files (λ told. get told (name_of inputs file) ≡ None))
 
 -- when each stop of a load comes; `refuses` tells the lines of this status
 abbrev pub IsLoadStop : (List ℕ → List ℕ → Type 0) → ℕ → InputFile → Word → Option Files → Bool → ℕ → ℕ → Stop → Type 0
@@ -83,6 +82,6 @@ IsRefusedWith status line (ReadFault file) = ⊥
 abbrev pub Gives : (List ℕ → Type 0) → Word → Option Files → ℕ → ℕ → Type 0
 Gives holds name files before now = (now ≡ before) × IfSome files (λ told. (bytes : List ℕ) × (get told name ≡ Some bytes) × holds bytes)
 
--- the text that a run is to write, which is the outcome where the shelf tells its files
-abbrev pub IsTextOf : RunWords → Option Files → ℕ → ℕ → List ℕ → Type 0
-IsTextOf run files before now text = (now ≡ before) × IfSome files (λ told. IsRunOutcome run told (Ok text))
+-- the text that a command is to write, which is what its files lead to where the shelf tells them
+abbrev pub IsTextOf : (Mesh → List Round → End → Type 0) → Inputs → Option Files → ℕ → ℕ → List ℕ → Type 0
+IsTextOf ends inputs files before now text = (now ≡ before) × IfSome files (λ told. FilesLeadTo ends inputs told (Ok text))

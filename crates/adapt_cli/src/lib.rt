@@ -6,6 +6,7 @@ pub mod fault;
 pub mod laws;
 pub mod load;
 pub mod macro_lines;
+pub mod marking;
 pub mod outcome;
 pub mod program;
 pub mod reports;

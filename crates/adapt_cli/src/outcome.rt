@@ -3,7 +3,7 @@ ghost use Rattle.std.specs.Prelude.{◌≡◌, ◌≤◌, All, IfErr, IfOk, Ok};
 ghost use Rattle.mesh_names.specs.Marks.{IsWellFormed};
 ghost use Rattle.mark_file.specs.Meaning.{rounds_read};
 ghost use Rattle.adapt_words.specs.Words.{IsRunInRange, run_said};
-ghost use Rattle.adapt_cli.specs.Outcome.{RunsTo};
+ghost use Rattle.adapt_cli.specs.Outcome.{RunsTo, run_inputs};
 ghost use Rattle.adapt_cli.specs.Stops.{IsStop, IsTextOf, StopsBy};
 
 use crate::fault::Stop;
@@ -27,8 +27,8 @@ pub fn run_text<R: Threads + Sync, S: Shelf>(
     shelf: &mut S,
 ) -> Result<Vec<u8>, Stop>
     requires { IsRunInRange run.now }
-    ensures ok { IfOk result (λ text. IsTextOf (run_said run.now) (S.files shelf.old) (S.faults shelf.old) (S.faults shelf.new) text.items) }
-    ensures stopped { IfErr result (IsStop (run_said run.now) (S.files shelf.old) (S.steady shelf.old) (S.faults shelf.old) (S.faults shelf.new)) }
+    ensures ok { IfOk result (λ text. IsTextOf (λ mesh. RunsTo mesh (run_said run.now)) (run_inputs (run_said run.now)) (S.files shelf.old) (S.faults shelf.old) (S.faults shelf.new) text.items) }
+    ensures stopped { IfErr result (IsStop (λ mesh. RunsTo mesh (run_said run.now)) (run_inputs (run_said run.now)) (S.files shelf.old) (S.steady shelf.old) (S.faults shelf.old) (S.faults shelf.new)) }
 {
     let mesh = match load_macro(alloc, shelf, run.macro_file) {
         Ok(mesh) => mesh,

@@ -1,14 +1,15 @@
 //! The top call.
 ghost use Rattle.std.specs.Prelude.{◌≡◌, Some, map, string_bytes};
 ghost use Rattle.adapt_words.specs.Words as spec;
-ghost use Rattle.adapt_words.specs.Words.{IsRunInRange, IsSoakInRange, command_of, run_said, soak_said};
+ghost use Rattle.adapt_words.specs.Words.{IsMarkInRange, IsRunInRange, IsSoakInRange, command_of, mark_said, run_said, soak_said};
 ghost use Rattle.adapt_cli.specs.Ending.{Ends, Source, StopEnds};
 
 use crate::ending::{MEMORY, write_line, write_read_fault, write_text};
 use crate::fault::{InputFile, Stop};
+use crate::marking::mark_text;
 use crate::outcome::run_text;
 use crate::soaking::soak_text;
-use adapt_words::{Command, Run, Soak, USAGE, WordsRefusal, read_words};
+use adapt_words::{Command, Mark, Run, Soak, USAGE, WordsRefusal, read_words};
 use mesh_io::{Gate, Shelf, Sink};
 use std::alloc::Global;
 use std::thread::Threads;
@@ -19,16 +20,18 @@ use std::thread::Threads;
 /// marks from the shelf and writes the mesh after the last round to `out`, or with `--report` a line
 /// for each round, or else one line that says what is wrong to `err`.
 /// `soak START GRID ROUNDS [--workers N] [--pool P]` makes rounds of marks, drawn from START, on a
-/// grid of GRID squares in a row, and writes one line. Out is written only when its whole text is
-/// there.
+/// grid of GRID squares in a row, and writes one line.
+/// `mark MACRO MARKS RULE [--workers N] [--pool P]` makes the rounds of a run, and writes a marks file
+/// whose one round, the next, marks the leaves that RULE chooses by their values. Out is written only
+/// when its whole text is there.
 ///
 /// | Status | Comes |
 /// |---|---|
 /// | 0 | the text was written |
 /// | 1 | want of memory |
-/// | 2 | the words are of neither form |
+/// | 2 | the words are of no form |
 /// | 3 | the macro file is too long, malformed, or no mesh on which bisection is well defined |
-/// | 4 | the marks file is too long or malformed, or marks what is no leaf or goes too deep |
+/// | 4 | the marks file is too long or malformed, or marks what is no leaf or goes too deep, or leaves `mark` no round |
 /// | 5 | a round needs more patches than the pool has |
 /// | 6 | a file could not be read |
 /// | 7 | a write failed |
@@ -46,6 +49,7 @@ pub fn adapt<R: Threads + Sync, S: Shelf, O: Sink, E: Sink, G: Gate + Sync>(
     match read_words(alloc, words) {
         Ok(Command::Run(run)) => end_run(rt, alloc, &run, shelf, out, err),
         Ok(Command::Soak(soak)) => end_soak(rt, alloc, &soak, out, err),
+        Ok(Command::Mark(mark)) => end_mark(alloc, &mark, shelf, out, err),
         Err(WordsRefusal::Outside) => write_line(err, USAGE, 2),
         Err(WordsRefusal::Memory) => write_line(err, MEMORY, 1),
     }
@@ -65,7 +69,7 @@ fn end_run<R: Threads + Sync, S: Shelf, O: Sink, E: Sink>(
 {
     match run_text(rt, alloc, run, shelf) {
         Ok(text) => write_text(out, err, &text),
-        Err(stop) => write_stop(run, stop, err),
+        Err(stop) => write_stop(run.macro_file, run.marks_file, stop, err),
     }
 }
 
@@ -88,14 +92,31 @@ fn end_soak<R: Threads + Sync, O: Sink, E: Sink>(
     }
 }
 
-// Writes the line of a stop to err.
-fn write_stop<E: Sink>(run: &Run<'_>, stop: Stop, err: &mut E) -> u8
-    ensures { StopEnds (run_said run.now) stop (record { old = E.holds err.old; new = E.holds err.new; before = E.faults err.old; now = E.faults err.new }) result }
+// Makes a call for marks, and writes what it leads to.
+fn end_mark<S: Shelf, O: Sink, E: Sink>(
+    alloc: Global,
+    mark: &Mark<'_>,
+    shelf: &mut S,
+    out: &mut O,
+    err: &mut E,
+) -> u8
+    requires { IsMarkInRange mark.now }
+    ensures { Ends (record { source = record { command = Some (spec.mark (mark_said mark.now)); files = S.files shelf.old; steady = S.steady shelf.old; before = S.faults shelf.old; now = S.faults shelf.new }; out = record { old = O.holds out.old; new = O.holds out.new; before = O.faults out.old; now = O.faults out.new }; err = record { old = E.holds err.old; new = E.holds err.new; before = E.faults err.old; now = E.faults err.new }; status = result }) }
+{
+    match mark_text(alloc, mark, shelf) {
+        Ok(text) => write_text(out, err, &text),
+        Err(stop) => write_stop(mark.macro_file, mark.marks_file, stop, err),
+    }
+}
+
+// Writes the line of a stop of a command with these files to err.
+fn write_stop<E: Sink>(macro_file: &str, marks_file: &str, stop: Stop, err: &mut E) -> u8
+    ensures { StopEnds (record { macro_file = macro_file.now; marks_file = marks_file.now }) stop (record { old = E.holds err.old; new = E.holds err.new; before = E.faults err.old; now = E.faults err.new }) result }
 {
     match stop {
         Stop::Refused(fault) => write_line(err, &fault.line, fault.status),
         Stop::Memory => write_line(err, MEMORY, 1),
-        Stop::ReadFault(InputFile::Macro) => write_read_fault(err, run.macro_file),
-        Stop::ReadFault(InputFile::Marks) => write_read_fault(err, run.marks_file),
+        Stop::ReadFault(InputFile::Macro) => write_read_fault(err, macro_file),
+        Stop::ReadFault(InputFile::Marks) => write_read_fault(err, marks_file),
     }
 }

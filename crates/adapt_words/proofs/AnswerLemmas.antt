@@ -10,7 +10,7 @@ use Rattle.clap.specs.Words.{App, Row, fault_of, matches_of}
 use Rattle.clap.specs.declared.error.kind.ErrorKind.{ErrorKind}
 use Rattle.adapt_words.specs.Commands.{found_in}
 use Rattle.adapt_words.specs.Numbers.{Word}
-use Rattle.adapt_words.specs.Words.{Answers, command_of, run_of, soak_of, run, soak}
+use Rattle.adapt_words.specs.Words.{Answers, CommandWords, command_of, mark, mark_of, run_of, soak_of, run, soak}
 use Rattle.adapt_words.specs.declared.words.WordsRefusal.{WordsRefusal}
 use Rattle.adapt_words.specs.declared.words.WordsRefusal.TheVariants.{Outside, Memory}
 
@@ -49,10 +49,12 @@ other_word : (word name : Word) → word ≢ name → bytes_eq word name ≡ fal
 other_word word name differs = false_from_ne_true (bytes_eq word name) (λ e. differs ((bytes_eq-Decides word name).0 e))
 
 -- words that begin with the name of no command are outside
-pub command_of-other : (words : List Word) (first : Word) → slice_get words 0 ≡ Some first → first ≢ codes "run" → first ≢ codes "soak" → command_of words ≡ None
-command_of-other [] first e no_run no_soak = refl
-command_of-other (word ∷ words) first e no_run no_soak =
+pub command_of-other : (words : List Word) (first : Word) → slice_get words 0 ≡ Some first → first ≢ codes "run" → first ≢ codes "soak" → first ≢ codes "mark" → command_of words ≡ None
+command_of-other [] first e no_run no_soak no_mark = refl
+command_of-other (word ∷ words) first e no_run no_soak no_mark =
     let same : word ≡ first = ap (λ o. unwrap_or o first) e in
     let all = word ∷ words in
-    ap (λ b. cond b (option_map run (run_of all)) (cond (bytes_eq word (codes "soak")) (option_map soak (soak_of all)) None)) (other_word word (codes "run") (λ h. no_run (sym same ∙ h)))
-    ∙ ap (λ b. cond b (option_map soak (soak_of all)) None) (other_word word (codes "soak") (λ h. no_soak (sym same ∙ h)))
+    let marks : Option CommandWords = cond (bytes_eq word (codes "mark")) (option_map mark (mark_of all)) None in
+    ap (λ b. cond b (option_map run (run_of all)) (cond (bytes_eq word (codes "soak")) (option_map soak (soak_of all)) marks)) (other_word word (codes "run") (λ h. no_run (sym same ∙ h)))
+    ∙ ap (λ b. cond b (option_map soak (soak_of all)) marks) (other_word word (codes "soak") (λ h. no_soak (sym same ∙ h)))
+    ∙ ap (λ b. cond b (option_map mark (mark_of all)) None) (other_word word (codes "mark") (λ h. no_mark (sym same ∙ h)))

@@ -28,6 +28,11 @@ abbrev pub soak_app : App
 soak_app = fold with_rule (new_app (codes "soak"))
     (required (codes "start") ∷ required (codes "grid") ∷ required (codes "rounds") ∷ option (codes "workers") ∷ option (codes "pool") ∷ [])
 
+-- `mark MACRO MARKS RULE [--workers N] [--pool P]`
+abbrev pub mark_app : App
+mark_app = fold with_rule (new_app (codes "mark"))
+    (required (codes "macro") ∷ required (codes "marks") ∷ required (codes "rule") ∷ option (codes "workers") ∷ option (codes "pool") ∷ [])
+
 -- what `clap` finds for each argument, where it takes the words; the first of them is the command's own
 unfoldable pub found_in : App → List Word → Option (List Row)
 found_in app words = if is_empty (fault_of app words) then Some (matches_of app words) else None

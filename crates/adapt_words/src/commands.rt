@@ -1,7 +1,7 @@
 //! The commands as `clap` has them.
 ghost use Rattle.std.specs.Prelude.{◌≡◌, false, true, map, string_bytes, IfOk};
 ghost use Rattle.clap.specs.Words.{app_of, found_of, is_simple_and_free, rows_of, rule_of};
-ghost use Rattle.adapt_words.specs.Commands.{required, option, flag, found_in, run_app, soak_app};
+ghost use Rattle.adapt_words.specs.Commands.{required, option, flag, found_in, mark_app, run_app, soak_app};
 ghost use Rattle.adapt_words.specs.Words.{Answers};
 
 use crate::words::WordsRefusal;
@@ -53,6 +53,18 @@ pub(crate) fn soak_command<'a>(alloc: Global) -> Result<Command<'a>, AllocError>
         .arg(required_arg(alloc, "start"))?
         .arg(required_arg(alloc, "grid"))?
         .arg(required_arg(alloc, "rounds"))?
+        .arg(option_arg(alloc, "workers"))?
+        .arg(option_arg(alloc, "pool"))
+}
+
+/// `mark MACRO MARKS RULE [--workers N] [--pool P]`.
+pub(crate) fn mark_command<'a>(alloc: Global) -> Result<Command<'a>, AllocError>
+    ensures { IfOk result (λ command. app_of command ≡ mark_app) }
+{
+    Command::new(alloc, "mark")
+        .arg(required_arg(alloc, "macro"))?
+        .arg(required_arg(alloc, "marks"))?
+        .arg(required_arg(alloc, "rule"))?
         .arg(option_arg(alloc, "workers"))?
         .arg(option_arg(alloc, "pool"))
 }

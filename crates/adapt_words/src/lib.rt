@@ -3,10 +3,12 @@
 
 mod commands;
 mod numbers;
+mod rules;
 mod values;
 mod words;
 
-pub use words::{Command, Run, Soak, USAGE, WordsRefusal, read_words};
+pub use rules::Rule;
+pub use words::{Command, Mark, Run, Soak, USAGE, WordsRefusal, read_words};
 
 #[cfg(test)]
 mod tests;

@@ -24,7 +24,7 @@ pub(crate) fn number_in(low: u32, high: u32, word: &str) -> Option<u32>
 }
 
 // A text with a plus is a number for `parse`.
-fn begins_with_plus(word: &str) -> bool
+pub(crate) fn begins_with_plus(word: &str) -> bool
     ensures { MatchBool result (get_or word.now 0 0 ≡ 43) (get_or word.now 0 0 ≢ 43) }
 {
     word.as_bytes().first() == Some(&b'+')

@@ -1,5 +1,6 @@
 //! Words and what they say, by the rules of the form.
-use crate::{Command, Run, Soak, USAGE, WordsRefusal, read_words};
+use crate::{Command, Mark, Rule, Run, Soak, USAGE, WordsRefusal, read_words};
+use mark_strategy::Share;
 use std::alloc::{AllocError, Global};
 use std::test::Fail;
 
@@ -232,6 +233,42 @@ fn no_soaks(rt: HostRuntime) -> Result<(), Fail> {
     Ok(())
 }
 
+fn is_mark(alloc: Global, line: &str, rule: Rule, pool: u32) -> Result<bool, AllocError> {
+    let words = words_of(alloc, line)?;
+    let want = Mark {
+        macro_file: "q",
+        marks_file: "m",
+        rule,
+        workers: 4,
+        pool,
+    };
+    Ok(read_words(alloc, words.as_slice()) == Ok(Command::Mark(want)))
+}
+
+#[test]
+fn calls_for_marks(rt: HostRuntime) -> Result<(), Fail> {
+    let Some(share) = Share::new(3, 4) else {
+        return Ok(());
+    };
+    let alloc = rt.alloc();
+    assert!(rt; is_mark(alloc, "mark q m max:3/4", Rule::Max(share), 65_536)?);
+    assert!(rt; is_mark(alloc, "mark q --pool=9 m bulk:03/004", Rule::Bulk(share), 9)?);
+    assert!(rt; is_mark(alloc, "mark q m equal:0", Rule::Equal(0), 65_536)?);
+    let lines = [
+        "mark q m",
+        "mark q m max:3/4 x",
+        "mark q m max:4/3",
+        "mark q m bulk:1",
+        "mark q m equal:4611686018427387905",
+        "mark q m equal:3/4",
+        "mark q m max:3/4 --report",
+    ];
+    for line in lines {
+        assert!(rt; is_outside(alloc, line)?, "{line}");
+    }
+    Ok(())
+}
+
 #[test]
 fn no_words(rt: HostRuntime) -> Result<(), Fail> {
     let words: Vec<String> = Vec::new(rt.alloc());
@@ -248,6 +285,9 @@ fn usage(rt: HostRuntime) -> Result<(), Fail> {
     );
     assert!(rt;
         lines.next() == Some("       adapt soak START GRID ROUNDS [--workers N] [--pool P]")
+    );
+    assert!(rt;
+        lines.next() == Some("       adapt mark MACRO MARKS RULE [--workers N] [--pool P]")
     );
     assert!(rt; lines.next() == Some(""));
     assert!(rt; lines.next() == None);

@@ -1,17 +1,18 @@
 //! The words of the program.
 ghost use Rattle.std.specs.Prelude.{◌≡◌, map, option_map, string_bytes, IfOk, IfSome};
 ghost use Rattle.clap.specs.Words.{found_of, rows_of};
-ghost use Rattle.adapt_words.specs.Words.{Answers, IsInRange, IsRunInRange, IsSoakInRange, command_of, run_of, run_said, said, soak_of, soak_said};
+ghost use Rattle.adapt_words.specs.Words.{Answers, IsInRange, IsMarkInRange, IsRunInRange, IsSoakInRange, command_of, mark_of, mark_said, run_of, run_said, said, soak_of, soak_said};
 ghost use Rattle.adapt_words.specs.Words as spec;
 
-use crate::commands::{find, run_command, soak_command};
+use crate::commands::{find, mark_command, run_command, soak_command};
+use crate::rules::{Rule, rule_in};
 use crate::values::{is_given, number_of, pool_in, word_of, workers_in};
 use clap::ArgMatches;
 use std::alloc::Global;
 
 /// The lines on err for words that are outside the form.
 pub const USAGE: &str =
-    "usage: adapt run MACRO MARKS [--workers N] [--pool P] [--report]\n       adapt soak START GRID ROUNDS [--workers N] [--pool P]\n";
+    "usage: adapt run MACRO MARKS [--workers N] [--pool P] [--report]\n       adapt soak START GRID ROUNDS [--workers N] [--pool P]\n       adapt mark MACRO MARKS RULE [--workers N] [--pool P]\n";
 
 /// What the words ask for.
 #[derive(Clone, Copy, Debug, PartialEq, Eq)]
@@ -20,6 +21,8 @@ pub enum Command<'a> {
     Run(Run<'a>),
     /// `soak START GRID ROUNDS [--workers N] [--pool P]`.
     Soak(Soak),
+    /// `mark MACRO MARKS RULE [--workers N] [--pool P]`.
+    Mark(Mark<'a>),
 }
 
 /// A run over a macro file and a marks file.
@@ -38,6 +41,16 @@ pub struct Soak {
     pub start: u32,
     pub grid: u32,
     pub rounds: u32,
+    pub workers: u32,
+    pub pool: u32,
+}
+
+/// Marks for the leaves that a run leads to, by their values.
+#[derive(Clone, Copy, Debug, PartialEq, Eq)]
+pub struct Mark<'a> {
+    pub macro_file: &'a str,
+    pub marks_file: &'a str,
+    pub rule: Rule,
     pub workers: u32,
     pub pool: u32,
 }
@@ -62,6 +75,10 @@ pub fn read_words<'a>(alloc: Global, words: &'a [String]) -> Result<Command<'a>,
     match first.as_str() {
         "run" => Ok(Command::Run(read_run(alloc, words)?)),
         "soak" => Ok(Command::Soak(read_soak(alloc, words)?)),
+        "mark" => match read_mark(alloc, words) {
+            Ok(mark) => Ok(Command::Mark(mark)),
+            Err(refusal) => Err(refusal),
+        },
         _ => Err(WordsRefusal::Outside),
     }
 }
@@ -116,4 +133,42 @@ fn soak_in(matches: &ArgMatches<'_>) -> Option<Soak>
         workers: workers_in(matches)?,
         pool: pool_in(matches)?,
     })
+}
+
+// The marks that the words ask for, of which the first is `mark`.
+fn read_mark<'a>(alloc: Global, words: &'a [String]) -> Result<Mark<'a>, WordsRefusal>
+    ensures told { Answers mark_said (mark_of (map string_bytes words.entry.now)) result }
+    ensures ranges { IfOk result IsMarkInRange }
+{
+    let Ok(command) = mark_command(alloc) else {
+        return Err(WordsRefusal::Memory);
+    };
+    let matches = find(command, words)?;
+    let Some(mark) = mark_in(&matches) else {
+        return Err(WordsRefusal::Outside);
+    };
+    Ok(mark)
+}
+
+// The marks that were found.
+fn mark_in<'a>(matches: &ArgMatches<'a>) -> Option<Mark<'a>>
+    ensures told { option_map mark_said result ≡ spec.mark_in (rows_of (found_of matches.now)) }
+    ensures ranges { IfSome result IsMarkInRange }
+{
+    let macro_file = word_of(matches, "macro")?;
+    let marks_file = word_of(matches, "marks")?;
+    Some(Mark {
+        macro_file,
+        marks_file,
+        rule: rule_of(matches)?,
+        workers: workers_in(matches)?,
+        pool: pool_in(matches)?,
+    })
+}
+
+// The rule that was found.
+fn rule_of(matches: &ArgMatches<'_>) -> Option<Rule>
+    ensures { result ≡ spec.rule_of (rows_of (found_of matches.now)) }
+{
+    rule_in(word_of(matches, "rule")?)
 }

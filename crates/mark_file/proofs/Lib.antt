@@ -4,3 +4,4 @@ pub mod AcceptedLemmas
 pub mod RoundLemmas
 pub mod ReadLemmas
 pub mod CornerLemmas
+pub mod WrittenLemmas

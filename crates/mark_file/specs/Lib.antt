@@ -3,3 +3,4 @@ pub mod Rows
 pub mod Meaning
 pub mod Unread
 pub mod Corners
+pub mod Written

@@ -16,3 +16,4 @@ mod row;
 mod source;
 #[cfg(test)]
 mod tests;
+pub mod write;

@@ -1,6 +1,7 @@
 use crate::read::read_marks;
+use crate::write::put_row;
 use mesh_names::name::ElemName;
-use mesh_names::rows::{Place, What};
+use mesh_names::rows::{MarkRow, Place, What};
 use mesh_names::spelling::{put_name, read_name};
 use std::alloc::{AllocError, Global};
 use std::fmt::Write;
@@ -330,5 +331,32 @@ fn a_written_name_is_read_again(rt: HostRuntime) -> Result<(), Fail> {
     assert!(rt; put_name(&mut text, name).is_ok());
     assert!(rt; text.as_slice() == "at 65534.011".as_bytes());
     assert!(rt; read_name(&text.as_slice()[3..]) == Some(name));
+    Ok(())
+}
+
+fn row(what: What, place: Place, number: i64) -> MarkRow {
+    MarkRow {
+        row: 9,
+        what,
+        place,
+        number,
+    }
+}
+
+#[test]
+fn rows_are_written_as_they_are_read(rt: HostRuntime) -> Result<(), Fail> {
+    let name = ElemName::top(0).child_at(false).child_at(true);
+    let last = ElemName::top(65_534);
+    let mut text = "round,what,where,number\n".as_bytes().to_vec(rt.alloc())?;
+    put_row(&mut text, 2, &row(What::Mark, Place::Elem(name), -3))?;
+    put_row(&mut text, 2, &row(What::Elem, Place::EveryLeaf, 7))?;
+    put_row(
+        &mut text,
+        65_535,
+        &row(What::Vert, Place::Corner(last, 2), -2_147_483_648),
+    )?;
+    let lines =
+        "round,what,where,number\n2,mark,0.01,-3\n2,elem,*,7\n65535,vert,65534/2,-2147483648\n";
+    assert!(rt; text.as_slice() == lines.as_bytes());
     Ok(())
 }

@@ -9,6 +9,7 @@ use std::thread::Threads;
 /// What err is told of words that are no call.
 pub const USAGE: &str = "usage: adapt run MACRO MARKS [--workers N] [--pool P] [--report]
        adapt soak START GRID ROUNDS [--workers N] [--pool P]
+       adapt mark MACRO MARKS RULE [--workers N] [--pool P]
 ";
 
 /// The line of a soak of one round on the grid of one square.

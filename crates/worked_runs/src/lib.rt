@@ -11,6 +11,8 @@ mod forests;
 #[cfg(test)]
 mod kinds;
 #[cfg(test)]
+mod marks;
+#[cfg(test)]
 mod meshes;
 #[cfg(test)]
 mod run;

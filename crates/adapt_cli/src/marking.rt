@@ -1,0 +1,195 @@
+//! Marks for the next round.
+ghost use Rattle.std.specs.Prelude.{◌≡◌, ◌+◌, ◌++◌, ◌<◌, ◌≤◌, All, IfErr, IfOk, List, OnOk, Ok, codes, length, map, string_bytes};
+ghost use Rattle.std.specs.List.{concat};
+ghost use Rattle.mesh_names.specs.Marks.{IsWellFormed};
+ghost use Rattle.mesh_names.specs.Names.{Name};
+ghost use Rattle.compat_check.specs.Meshes.{across_in, shape_of};
+ghost use Rattle.dof_transfer.specs.Held.{worth_of};
+ghost use Rattle.mark_file.specs.Meaning.{rounds_read};
+ghost use Rattle.mark_file.specs.Written.{row_line};
+ghost use Rattle.mark_strategy.specs.Leaves.{AreLeaves};
+ghost use Rattle.forest_plain.specs.Forests.{members_of, mesh_of, pool_of, sides_of};
+ghost use Rattle.mesh_rounds.specs.State.{IsState, with_values};
+ghost use Rattle.adapt_words.specs.Words.{IsMarkInRange, mark_said};
+ghost use Rattle.adapt_cli.specs.Marks.{Chooses, IsMarksText, IsNoRoundLeft, MarksTo, mark_inputs, marking, marks_text};
+ghost use Rattle.adapt_cli.specs.Stops.{IsStop, IsTextOf, StopsBy};
+
+use crate::fault::{Fault, Stop};
+use crate::load::{load_macro, load_marks};
+use crate::rounds::run_rounds;
+use adapt_words::{Mark, Rule};
+use compat_check::mesh::MacroMesh;
+use dof_transfer::ElementValues;
+use forest_plain::Forest;
+use forest_plain::forest::PlainForest;
+use mark_file::refusal::MarkRefusal;
+use mark_file::write::put_row;
+use mark_strategy::{StrategyRefusal, mark_bulk, mark_equal, mark_max};
+use mesh_io::Shelf;
+use mesh_names::name::ElemName;
+use mesh_names::rows::{MarkRow, Place, RoundMarks, What};
+use mesh_rounds::values::Values;
+use std::alloc::{AllocError, Global};
+
+// How many rounds a marks file can have.
+const ROUNDS: usize = 65_535;
+
+/// The marks file that a call for marks writes, or why there is none.
+pub fn mark_text<S: Shelf>(alloc: Global, mark: &Mark<'_>, shelf: &mut S) -> Result<Vec<u8>, Stop>
+    requires { IsMarkInRange mark.now }
+    ensures ok { IfOk result (λ text. IsTextOf (λ mesh. MarksTo mesh (mark_said mark.now)) (mark_inputs (mark_said mark.now)) (S.files shelf.old) (S.faults shelf.old) (S.faults shelf.new) text.items) }
+    ensures stopped { IfErr result (IsStop (λ mesh. MarksTo mesh (mark_said mark.now)) (mark_inputs (mark_said mark.now)) (S.files shelf.old) (S.steady shelf.old) (S.faults shelf.old) (S.faults shelf.new)) }
+{
+    let mesh = match load_macro(alloc, shelf, mark.macro_file) {
+        Ok(mesh) => mesh,
+        Err(stop) => return Err(stop),
+    };
+    let rounds = match load_marks(alloc, shelf, mark.marks_file) {
+        Ok(rounds) => rounds,
+        Err(stop) => return Err(stop),
+    };
+    if rounds.len() >= ROUNDS {
+        return Err(no_round_left(alloc));
+    }
+    mark_leaves(alloc, &mesh, mark, &rounds)
+}
+
+// The stop where all rounds are there already; want of memory where there is none for its line.
+fn no_round_left(alloc: Global) -> Stop
+    ensures { StopsBy IsNoRoundLeft result }
+{
+    match format!(in alloc; "adapt: marks: no round left\n") {
+        Ok(line) => Stop::Refused(Fault { status: 4, line }),
+        Err(_) => Stop::Memory,
+    }
+}
+
+// The marks after these rounds on a mesh.
+fn mark_leaves(
+    alloc: Global,
+    mesh: &MacroMesh,
+    mark: &Mark<'_>,
+    rounds: &[RoundMarks],
+) -> Result<Vec<u8>, Stop>
+    requires ranges { IsMarkInRange mark.now }
+    requires left { length rounds.now < 65535 }
+    requires formed { All (λ r. All IsWellFormed r.rows.items) rounds.now }
+    ensures ok { IfOk result (λ text. MarksTo mesh.now (mark_said mark.now) (rounds_read rounds.now) (Ok text.items)) }
+    ensures stopped { IfErr result (StopsBy (MarksTo mesh.now (mark_said mark.now) (rounds_read rounds.now))) }
+{
+    let mut forest = PlainForest::new(alloc, mesh, mark.pool);
+    let Ok(mut values) = Values::new(alloc, mesh) else {
+        return Err(Stop::Memory);
+    };
+    if let Err(stop) = run_rounds(alloc, mesh, &mut forest, &mut values, rounds) {
+        return Err(stop);
+    }
+    state_marks(
+        alloc,
+        mesh,
+        &mut forest,
+        &values,
+        &mark.rule,
+        rounds.len() as u32 + 1,
+    )
+}
+
+// The marks that the rule gives on a mesh.
+fn state_marks(
+    alloc: Global,
+    mesh: &MacroMesh,
+    forest: &mut PlainForest<'_>,
+    values: &Values,
+    rule: &Rule,
+    round: u32,
+) -> Result<Vec<u8>, Stop>
+    requires mesh { mesh_of forest.old ≡ shape_of mesh.now }
+    requires state { IsState mesh.now (with_values (members_of forest.old) values.now) }
+    requires round { (1 ≤ round) × (round ≤ 65535) }
+    ensures ok { IfOk result (λ text. IsMarksText mesh.now rule.now round (with_values (members_of forest.old) values.now) text.items) }
+    ensures memory { IfErr result (λ stop. stop ≡ Stop.Memory) }
+{
+    let Ok(leaves) = forest.leaves() else {
+        return Err(Stop::Memory);
+    };
+    let leaves = with_their_values(alloc, &leaves, &values.elements)?;
+    let Ok(chosen) = choose(alloc, &leaves, rule) else {
+        return Err(Stop::Memory);
+    };
+    match marks_of(alloc, round, &chosen) {
+        Ok(text) => Ok(text),
+        Err(_) => Err(Stop::Memory),
+    }
+}
+
+// The leaves, each with its value.
+fn with_their_values(
+    alloc: Global,
+    leaves: &[ElemName],
+    values: &ElementValues,
+) -> Result<Vec<(ElemName, i64)>, AllocError>
+    ensures { IfOk result (λ pairs. pairs.items ≡ map (λ n. (n, worth_of values.now n)) leaves.now) }
+{
+    let Ok(worths) = values.values(alloc, leaves) else {
+        return Err(AllocError);
+    };
+    let mut pairs = Vec::with_capacity(alloc, leaves.len())?;
+    for at in 0..leaves.len() {
+        pairs.push((leaves[at], worths[at]))?;
+    }
+    Ok(pairs)
+}
+
+// The leaves that the rule chooses.
+fn choose(
+    alloc: Global,
+    leaves: &[(ElemName, i64)],
+    rule: &Rule,
+) -> Result<Vec<ElemName>, StrategyRefusal>
+    requires { AreLeaves leaves.now }
+    ensures { IfOk result (λ names. Chooses rule.now leaves.now names.items) }
+{
+    match *rule {
+        Rule::Max(share) => mark_max(alloc, leaves, share),
+        Rule::Bulk(share) => mark_bulk(alloc, leaves, share),
+        Rule::Equal(goal) => mark_equal(alloc, leaves, goal),
+    }
+}
+
+// A marks file whose one round marks these leaves.
+fn marks_of(alloc: Global, round: u32, names: &[ElemName]) -> Result<Vec<u8>, MarkRefusal>
+    requires { (1 ≤ round) × (round ≤ 65535) }
+    ensures { IfOk result (λ text. text.items ≡ marks_text round names.now) }
+{
+    let mut text = header(alloc)?;
+    for name in names {
+        put_row(&mut text, round, &marking(*name))?;
+    }
+    Ok(text)
+}
+
+// The header of a marks file.
+fn header(alloc: Global) -> Result<Vec<u8>, MarkRefusal>
+    ensures { IfOk result (λ text. text.items ≡ codes "round,what,where,number\n") }
+{
+    let mut text = Vec::new(alloc);
+    if text
+        .extend_from_slice(b"round,what,where,number\n")
+        .is_err()
+    {
+        return Err(MarkRefusal::Memory);
+    }
+    Ok(text)
+}
+
+// The row that marks a leaf for one bisection.
+fn marking(name: ElemName) -> MarkRow
+    ensures { result ≡ marking name }
+{
+    MarkRow {
+        row: 0,
+        what: What::Mark,
+        place: Place::Elem(name),
+        number: 1,
+    }
+}

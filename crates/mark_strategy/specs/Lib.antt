@@ -1,0 +1,4 @@
+pub mod Shares
+pub mod Leaves
+pub mod Strategies
+pub mod Picks
