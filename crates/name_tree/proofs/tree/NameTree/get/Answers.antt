@@ -1,0 +1,20 @@
+use Rattle.std.proofs.Common.{◌≡◌, ◌<◌, ◌∙◌, sym, ap, subst, refl, true, true≢false, length, ℕ, List, Option, Some, None, unwrap_or, is_some, option_map}
+use Rattle.std.specs.FinMap.{FinMap, contains_key, empty, get, insert, remove}
+use Rattle.mesh_names.specs.Names.{Name, name_cmp, depth}
+use Rattle.name_tree.specs.declared.nodes.Entry.{Entry}
+use Rattle.name_tree.specs.NodeSlots.{slots_of}
+use Rattle.name_tree.specs.Paths.{IsPath}
+use Rattle.name_tree.specs.Slots.{Slot, Slots, live_at, live_of}
+use Rattle.name_tree.specs.Trees.{Pairs, pairs_of, place}
+use Rattle.name_tree.proofs.LiveNames.{get-live, kept-insert, live-emptied, remove-absent}
+use Rattle.name_tree.proofs.SlotsOfNodes.{keeps-slots, live-slot, moved-kept, moved-live, moved-pairs, new-slots, no-slot, node-inside, put-kept, put-pairs, put-slots, same-entries, slot-there, some-slot}
+use Rattle.name_tree.proofs.tree.NameTree.get.Goals as goal
+
+pub returns-in_err-place : goal.returns-in_err-place
+returns-in_err-place c = c.from_residual.ensures ∙ ap (λ (o : Option Slot). unwrap_or o None) (sym (no-slot c.self.inside.nodes c.args.name (sym c.in_err-place.ensures.place))) ∙ ap (λ (s : Slots). live_at s c.args.name) c.self.view_is
+
+pub entry-requires : goal.entry-requires
+entry-requires c = node-inside c.self.inside.nodes c.args.name c.in_ok-place.place c.self.invariant.0 (sym c.in_ok-place.ensures.place)
+
+pub returns : goal.returns
+returns c = c.entry.ensures ∙ ap (λ (o : Option Slot). unwrap_or o None) (sym (some-slot c.self.inside.nodes c.args.name c.in_ok-place.place c.in_ok-place.ensures.low (sym c.in_ok-place.ensures.place))) ∙ ap (λ (s : Slots). live_at s c.args.name) c.self.view_is
