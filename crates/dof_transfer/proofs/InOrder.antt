@@ -1,15 +1,11 @@
 -- Values of keys in order.
-use Rattle.std.proofs.Common.{◌≡◌, ℤ, ℕ, ◌<◌, Bool, true, true≢false, List, [], ◌∷◌, ◌++◌, ◌≤◌, map, length, get_or, arith, Option, Some, None, suc, subst, refl, sym, ap, ◌∙◌, unwrap_or, option_map}
-use Rattle.std.specs.Prelude.{All, pos, slice_get}
-use Rattle.std.proofs.lemmas.List.{append_assoc, append-nil, get_or-map, length-append, length-map}
-use Rattle.std.proofs.lemmas.Option.{get_or_from_slice_get, slice_get_read, slice_get_within}
+use Rattle.std.proofs.Common.{◌≡◌, ℤ, ℕ, ◌<◌, Bool, List, [], ◌∷◌, ◌++◌, ◌≤◌, map, length, get_or, arith, Option, Some, subst, refl, sym, ap, ◌∙◌, unwrap_or, option_map}
+use Rattle.std.specs.Prelude.{pos, slice_get}
+use Rattle.std.proofs.lemmas.List.{append-nil, length-append, length-map}
+use Rattle.std.proofs.lemmas.Option.{slice_get_read}
 use Rattle.mesh_names.proofs.Neighbours.{some_inj}
-use Rattle.std.proofs.Math.Seq.{get_or-append_seam}
-use Rattle.std.specs.FinMap.{from_entries}
-use Rattle.std.specs.Option.{option_eq}
-use Rattle.mesh_names.specs.Names.{Name, name_eq}
-use Rattle.mesh_names.proofs.Sets.{tied-same}
-use Rattle.name_tree.specs.Slots.{Slot, Slots, live_at, live_of}
+use Rattle.mesh_names.specs.Names.{Name}
+use Rattle.name_tree.specs.Slots.{Slots, live_at, live_of}
 use Rattle.mesh_names.specs.declared.patch.VertexKey.TheVariants.{Macro, Patch}
 use Rattle.dof_transfer.specs.Held.{worth_of}
 use Rattle.name_tree.specs.InOrder.{AreFirst, IsWorth, owner_of}

@@ -1,8 +1,7 @@
-use Rattle.std.proofs.Common.{ap, ◌∙◌}
+use Rattle.std.proofs.Common.{ap}
 use Rattle.std.specs.FinMap.{FinMap}
 use Rattle.mesh_names.specs.Names.{name_cmp}
 use Rattle.name_tree.specs.declared.nodes.Entry.{Entry}
-use Rattle.name_tree.specs.Slots.{live_of}
 use Rattle.dof_transfer.specs.Held.{Held}
 use Rattle.dof_transfer.proofs.ledger.Ledger.forget.Goals as goal
 
