@@ -1,5 +1,5 @@
 -- Values of keys in order.
-use Rattle.std.proofs.Common.{◌≡◌, ℤ, ℕ, ◌<◌, List, [], ◌∷◌, ◌++◌, ◌≤◌, map, length, get_or, arith, Option, Some, None, sym, ap, ◌∙◌}
+use Rattle.std.proofs.Common.{◌≡◌, ℤ, List, [], ◌∷◌, ◌++◌, map, length, get_or, arith, Option, Some, sym, ap, ◌∙◌}
 use Rattle.std.specs.Prelude.{pos, slice_get}
 use Rattle.std.proofs.lemmas.List.{append_assoc, get_or-map, length-append, length-map}
 use Rattle.std.proofs.lemmas.Option.{get_or_from_slice_get, slice_get_within}

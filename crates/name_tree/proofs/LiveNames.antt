@@ -1,5 +1,5 @@
 -- What stands in slots, as they change.
-use Rattle.std.proofs.Common.{◌≡◌, Bool, true, false, cond, ◌&&◌, T, List, [], ◌∷◌, refl, ap, sym, ◌∙◌, subst, Option, Some, None, unwrap_or, is_some, not, true≢false}
+use Rattle.std.proofs.Common.{◌≡◌, Bool, true, false, cond, ◌&&◌, T, List, [], ◌∷◌, refl, ap, sym, ◌∙◌, subst, Option, Some, None, unwrap_or, is_some, true≢false}
 use Rattle.std.specs.Ordering.{is_lt, is_eq, eq_by_cmp}
 use Rattle.std.specs.FinMap.{FinMap, get, insert, remove, contains_key, entries, find, is_sorted, get-from_entries, get-insert, get-remove, get-empty, empty, get-entries, entries_sorted, same_map}
 use Rattle.std.specs.FinMap.Entries.{below_all}
@@ -102,7 +102,6 @@ remove-absent m n none = same_map name_cmp_total name_cmp-same _ _ (λ q. get-re
         | true ↦ λ (e : eq_by_cmp name_cmp q n ≡ true). sym none ∙ ap (get m) (sym (same_name q n e))
         | false ↦ λ _. refl
       ] refl
-
 
 -- a slot more takes none away
 pub kept-insert : (s : Slots) (n q : Name) (v : Slot) → contains_key s q ≡ true → contains_key (insert s n v) q ≡ true

@@ -1,12 +1,11 @@
 -- A tree as pairs are added and given back.
-use Rattle.std.proofs.Common.{◌≡◌, ℕ, zero, suc, ◌+◌, ◌*◌, ◌^◌, ◌<◌, ◌≤◌, set, get_or, Bool, true, false, List, [], ◌∷◌, ◌++◌, length, refl, sym, ap, ◌∙◌, subst, arith, Option, Some, None, inl, inr, ◌⊎◌, ⊎_elim, length-set}
-use Rattle.std.specs.Prelude.{◌≢◌, All, AllPairs, slice_index_or, slice_set}
+use Rattle.std.proofs.Common.{◌≡◌, ℕ, ◌+◌, ◌*◌, ◌<◌, ◌≤◌, set, Bool, true, false, List, [], ◌∷◌, ◌++◌, length, refl, sym, ap, ◌∙◌, subst, arith, Option, Some, None, ⊎_elim, length-set}
+use Rattle.std.specs.Prelude.{◌≢◌, All, slice_index_or}
 use Rattle.std.proofs.lemmas.List.{get_or-set_same, get_or-set_other, get_or_past}
 use Rattle.std.proofs.lemmas.List.Elements.{All-push}
 use Rattle.std.proofs.lemmas.List.Quantifiers.{all_pairs_push}
 use Rattle.mesh_names.specs.Names.{digit}
 use Rattle.mesh_names.proofs.Neighbours.{some_inj, none_some}
-use Rattle.name_tree.specs.declared.nodes.Entry.{Entry}
 use Rattle.name_tree.specs.declared.nodes.Node.{Node}
 use Rattle.name_tree.specs.declared.nodes.Nodes.{Nodes}
 use Rattle.name_tree.specs.Trees.{IsBlank, IsKept, IsTree, Source, Root, Under, Pairs, blank, node_at, pair_at, pairs_of}
@@ -246,24 +245,27 @@ module _ (t u : Nodes) (i q : ℕ) (k : IsKept t) (n : IsNamed (pairs_of t) i) (
 
 -- one pair more in a tree that is kept
 pub kept-wider : (t u : Nodes) (k : IsKept t) → k.count < 2147483647 → length u.nodes.items ≡ length t.nodes.items + 2 → ((i : ℕ) → node_at u.nodes.items i ≡ node_at t.nodes.items i) → u.tops.items ≡ t.tops.items → u.spare.items ≡ [] → IsKept u × IsFree u k.count
-kept-wider t u k few longer nodes tops none = (record {
-  count = k.count + 1;
-  whole = let w = k.whole in omega arith;
-  small = omega arith;
-  tree = record {
-    within = λ s p e. let low = k.tree.within s p (sym (ap (λ (f : Pairs). f s) same) ∙ e) in omega arith;
-    apart = λ s r p d e. k.tree.apart s r p (sym (ap (λ (f : Pairs). f s) same) ∙ d) (sym (ap (λ (f : Pairs). f r) same) ∙ e);
-    unnamed = λ s p e. nothing (λ q. q ≢ p);
-    others = λ i j d low high. absurd (omega (arith, ap length none));
-    inside = nothing (λ q. q < k.count + 1);
-  };
-  blanks = nothing (IsBlank u.nodes.items);
-}, record {
-  inside = let w = k.whole in omega arith;
-  blank = record { zero = nodes (2 * k.count) ∙ past (2 * k.count) (let w = k.whole in omega arith); one = nodes (2 * k.count + 1) ∙ past (2 * k.count + 1) (let w = k.whole in omega arith) };
-  unnamed = λ s e. let low = k.tree.within s k.count (sym (ap (λ (f : Pairs). f s) same) ∙ e) in absurd (omega arith);
-  unspared = nothing (λ q. q ≢ k.count);
-}) where
+kept-wider t u k few longer nodes tops none = (
+  record {
+    count = k.count + 1;
+    whole = let w = k.whole in omega arith;
+    small = omega arith;
+    tree = record {
+      within = λ s p e. let low = k.tree.within s p (sym (ap (λ (f : Pairs). f s) same) ∙ e) in omega arith;
+      apart = λ s r p d e. k.tree.apart s r p (sym (ap (λ (f : Pairs). f s) same) ∙ d) (sym (ap (λ (f : Pairs). f r) same) ∙ e);
+      unnamed = λ s p e. nothing (λ q. q ≢ p);
+      others = λ i j d low high. absurd (omega (arith, ap length none));
+      inside = nothing (λ q. q < k.count + 1);
+    };
+    blanks = nothing (IsBlank u.nodes.items);
+  },
+  record {
+    inside = let w = k.whole in omega arith;
+    blank = record { zero = nodes (2 * k.count) ∙ past (2 * k.count) (let w = k.whole in omega arith); one = nodes (2 * k.count + 1) ∙ past (2 * k.count + 1) (let w = k.whole in omega arith) };
+    unnamed = λ s e. let low = k.tree.within s k.count (sym (ap (λ (f : Pairs). f s) same) ∙ e) in absurd (omega arith);
+    unspared = nothing (λ q. q ≢ k.count);
+  },
+) where
   same : pairs_of u ≡ pairs_of t
   same = pairs-same t.tops.items u.tops.items t.nodes.items u.nodes.items tops nodes
 

@@ -1,5 +1,5 @@
 -- Where names stand in a tree.
-use Rattle.std.proofs.Common.{◌≡◌, ℕ, zero, suc, ◌+◌, ◌-◌, ◌*◌, ◌<◌, ◌≤◌, set, get_or, Bool, true, false, List, [], ◌∷◌, length, drop, refl, sym, ap, ◌∙◌, subst, arith, Option, Some, None, option_map, unwrap_or, inl, inr, ◌⊎◌, ⊎_elim, eqb, ne_eqb, eqb-true, eq-eqb, true≢false}
+use Rattle.std.proofs.Common.{◌≡◌, ℕ, zero, suc, ◌+◌, ◌-◌, ◌*◌, ◌<◌, ◌≤◌, set, get_or, Bool, true, false, List, [], ◌∷◌, length, drop, refl, sym, ap, ◌∙◌, arith, Option, Some, None, option_map, unwrap_or, inl, inr, ◌⊎◌, ⊎_elim, eqb, eqb-true, eq-eqb, true≢false}
 use Rattle.std.specs.Prelude.{◌≢◌, IfSome}
 use Rattle.mesh_names.specs.Names.{Name, digit, depth}
 use Rattle.mesh_names.proofs.Neighbours.{some_inj, none_some}

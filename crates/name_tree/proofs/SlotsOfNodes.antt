@@ -1,24 +1,23 @@
 -- The slots of a tree, name by name.
-use Rattle.std.proofs.Common.{◌≡◌, ◌≢◌, ℕ, zero, suc, ◌+◌, ◌*◌, ◌<◌, ◌≤◌, set, get_or, Bool, true, false, cond, leb, List, [], ◌∷◌, ◌++◌, map, length, refl, sym, ap, ◌∙◌, subst, arith, Option, Some, None, option_map, unwrap_or, is_some, inl, inr, ◌⊎◌, ⊎_elim, true≢false, length-set}
+use Rattle.std.proofs.Common.{◌≡◌, ◌≢◌, ℕ, zero, suc, ◌<◌, ◌≤◌, set, Bool, true, false, cond, List, [], ◌∷◌, ◌++◌, map, length, refl, sym, ap, ◌∙◌, subst, arith, Option, Some, None, option_map, unwrap_or, is_some, inl, inr, ◌⊎◌, ⊎_elim, true≢false, length-set}
 use Rattle.std.specs.Prelude.{All, slice_index_or}
 use Rattle.std.proofs.lemmas.List.{get_or-set_same, get_or-set_other, get_or_past}
 use Rattle.std.proofs.lemmas.Bool.{cases_lt}
 use Rattle.std.specs.Ordering.{eq_by_cmp}
-use Rattle.std.specs.FinMap.{FinMap, contains_key, empty, find, get, get-empty, insert, from_entries, get-from_entries, get-insert, same_map}
-use Rattle.mesh_names.specs.Names.{Name, depth, digit, name_cmp}
+use Rattle.std.specs.FinMap.{contains_key, empty, find, get, get-empty, insert, get-from_entries, get-insert, same_map}
+use Rattle.mesh_names.specs.Names.{Name, depth, name_cmp}
 use Rattle.mesh_names.specs.Order.{name_cmp_total, name_cmp-same}
-use Rattle.mesh_names.proofs.Neighbours.{some_inj, none_some}
+use Rattle.mesh_names.proofs.Neighbours.{none_some}
 use Rattle.mesh_names.proofs.Sets.{is_or_not, same-tied, tied-same}
-use Rattle.name_tree.specs.declared.nodes.Entry.{Entry}
 use Rattle.name_tree.specs.declared.nodes.Node.{Node}
 use Rattle.name_tree.specs.declared.nodes.Nodes.{Nodes}
-use Rattle.name_tree.specs.Growth.{IsNamed, Keeps}
+use Rattle.name_tree.specs.Growth.{Keeps}
 use Rattle.name_tree.specs.NodeSlots.{gathered, moved_node, names_within, slots_of, with_slot, words}
-use Rattle.name_tree.specs.Slots.{Slot, Slots, live_at, live_of, moved_slot}
+use Rattle.name_tree.specs.Slots.{Slot, live_at, live_of, moved_slot}
 use Rattle.name_tree.specs.Trees.{IsBlank, IsKept, IsTree, Pairs, Root, Source, Under, blank, live_in, node_at, pair_at, pairs_of, place, slot_in}
 use Rattle.name_tree.proofs.LiveNames.{same_live}
 use Rattle.name_tree.proofs.MorePairs.{blanks-else, named-within}
-use Rattle.name_tree.proofs.Places.{named-place, nat_either, one_place, place-kept, source_either, top-nowhere}
+use Rattle.name_tree.proofs.Places.{named-place, nat_either, one_place, place-kept, top-nowhere}
 
 -- in a list
 abbrev among : {A : Type 0} → A → List A → Type 0

@@ -1,5 +1,5 @@
 -- How a tree grows and shrinks.
-use Rattle.std.specs.Prelude.{◌≡◌, ◌≢◌, ℕ, ◌+◌, ◌*◌, ◌<◌, Bool, All, length, Option, Some, None}
+use Rattle.std.specs.Prelude.{◌≡◌, ◌≢◌, ℕ, ◌+◌, ◌*◌, ◌<◌, Bool, All, length, Some, None}
 use Rattle.mesh_names.specs.Names.{Name, digit}
 use Rattle.name_tree.specs.Trees.{IsBlank, Pairs, Source, Under, live_in, node_at, pairs_of}
 use Rattle.name_tree.specs.declared.nodes.Nodes.{Nodes}

@@ -1,7 +1,7 @@
 -- The nodes of a tree as slots by name.
 use Rattle.std.specs.Prelude.{ℕ, Bool, true, false, map, length, Option, Some, None, List, [], ◌∷◌, ◌++◌, zero, suc}
 use Rattle.std.specs.FinMap.{from_entries}
-use Rattle.mesh_names.specs.Names.{Name, name_cmp}
+use Rattle.mesh_names.specs.Names.{Name}
 use Rattle.name_tree.specs.Slots.{Slot, Slots, moved_slot}
 use Rattle.name_tree.specs.declared.nodes.Node.{Node}
 use Rattle.name_tree.specs.Trees.{pairs_of, slot_in}

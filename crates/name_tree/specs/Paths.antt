@@ -1,5 +1,5 @@
 -- Paths that are remembered, and what they lead to.
-use Rattle.std.specs.Prelude.{◌≡◌, ℕ, ◌<◌, ◌≤◌, length, List, Option, Some, None, IfSome}
+use Rattle.std.specs.Prelude.{◌≡◌, ℕ, Some, IfSome}
 use Rattle.mesh_names.specs.Names.{Name, depth}
 use Rattle.name_tree.specs.Trees.{LeadsTo, Pairs, place}
 use Rattle.name_tree.specs.declared.path.Path.{Path}

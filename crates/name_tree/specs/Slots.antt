@@ -1,5 +1,5 @@
 -- Slots by name, and what stands in them.
-use Rattle.std.specs.Prelude.{option_map, slice_index_or, ℕ, ℤ, Bool, true, false, map, length, unwrap_or, Option, Some, None, List, [], ◌∷◌, ◌++◌, zero, suc, refl}
+use Rattle.std.specs.Prelude.{option_map, slice_index_or, ℕ, ℤ, unwrap_or, Option, Some, None, List, [], ◌∷◌, refl}
 use Rattle.std.specs.Coded.{Coded, code_by, coded×, coded_ℕ, coded_ℤ, coded_option, coded_list, coded_bool}
 use Rattle.std.specs.FinMap.{FinMap, code, entries, from_entries, get}
 use Rattle.mesh_names.specs.Names.{Name, name_cmp}

@@ -1,4 +1,4 @@
-use Rattle.std.proofs.Common.{◌≡◌, ◌-◌, ◌/◌, ◌^◌, ◌<◌, ◌≤◌, ℕ, List, Bool, arith, refl, sym, ap, ◌∙◌, subst}
+use Rattle.std.proofs.Common.{◌≡◌, ◌-◌, ◌/◌, ◌^◌, ◌<◌, ℕ, arith, sym, ap, ◌∙◌, subst}
 use Rattle.mesh_names.specs.Names.{bits_of, depth, letters}
 use Rattle.name_tree.proofs.FirstLetters.{first-bits-below, first-letters}
 use Rattle.name_tree.proofs.letters.first_letters.Goals as goal

@@ -1,6 +1,6 @@
-use Rattle.std.proofs.Common.{◌≡◌, sym, ap, ◌∙◌, refl, subst, arith, ℕ, ◌+◌, ◌*◌, ◌<◌, List, Bool, length, set, Some, ◌∷◌}
-use Rattle.mesh_names.specs.Names.{Name, depth, digit}
-use Rattle.name_tree.specs.Trees.{LeadsTo, Pairs, Root, Under, pairs_of, place}
+use Rattle.std.proofs.Common.{◌≡◌, sym, ap, ◌∙◌, subst, arith, ℕ, ◌+◌, length, set, Some, ◌∷◌}
+use Rattle.mesh_names.specs.Names.{Name, depth}
+use Rattle.name_tree.specs.Trees.{LeadsTo, Under, pairs_of, place}
 use Rattle.name_tree.proofs.Places.{grows-keeps, keeps-path, keeps-then, leads-child, named-place, place-kept, stays-keeps, to_child}
 use Rattle.name_tree.proofs.nodes.Nodes.+make.Goals as goal
 

@@ -1,4 +1,4 @@
-use Rattle.std.proofs.Common.{◌≡◌, ◌<◌, ◌≤◌, ◌*◌, ◌^◌, arith, refl, sym, ap, ◌∙◌}
+use Rattle.std.proofs.Common.{arith, sym, ◌∙◌}
 use Rattle.name_tree.specs.Trees.{Root, pairs_of}
 use Rattle.name_tree.proofs.Places.{common-leads}
 use Rattle.name_tree.proofs.nodes.Nodes.begin.Goals as goal

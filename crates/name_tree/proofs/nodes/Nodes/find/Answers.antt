@@ -1,9 +1,9 @@
-use Rattle.std.proofs.Common.{◌≡◌, ℕ, ◌+◌, ◌-◌, ◌<◌, ◌≤◌, ◌*◌, ◌^◌, Bool, true, false, None, Some, List, length, ◌∷◌, arith, refl, sym, ap, ◌∙◌, subst}
+use Rattle.std.proofs.Common.{◌≡◌, ℕ, ◌+◌, ◌-◌, ◌≤◌, ◌*◌, Bool, true, false, ◌∷◌, arith, sym, ap, ◌∙◌}
 use Rattle.std.specs.Prelude.{slice_index}
 use Rattle.mesh_names.specs.Names.{depth, digit}
 use Rattle.name_tree.specs.Letters.{first_letters}
-use Rattle.name_tree.specs.Trees.{Under, pairs_of, place}
-use Rattle.name_tree.proofs.Places.{leads-first, leads-more, leads-nowhere, place-within, top-nowhere}
+use Rattle.name_tree.specs.Trees.{Under, pairs_of}
+use Rattle.name_tree.proofs.Places.{leads-more, leads-nowhere, place-within, top-nowhere}
 use Rattle.name_tree.proofs.nodes.Nodes.find.Goals as goal
 
 pub returns-in_err-level-clause-place : goal.returns-in_err-level-clause-place

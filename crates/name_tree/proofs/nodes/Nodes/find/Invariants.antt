@@ -1,4 +1,4 @@
-use Rattle.std.proofs.Common.{◌≡◌, ◌-◌, ◌≤◌}
+use Rattle.std.proofs.Common.{◌-◌, ◌≤◌}
 use Rattle.mesh_names.specs.Names.{depth}
 use Rattle.name_tree.specs.Trees.{LeadsTo, pairs_of}
 use Rattle.name_tree.proofs.nodes.Nodes.find.Given as goal

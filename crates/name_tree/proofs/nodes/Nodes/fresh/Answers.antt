@@ -1,4 +1,4 @@
-use Rattle.std.proofs.Common.{◌≡◌, ℕ, ◌+◌, ◌*◌, ◌<◌, ◌/◌, length, arith, sym, ap, ◌∙◌, subst, Some, None, List, []}
+use Rattle.std.proofs.Common.{◌≡◌, ◌/◌, arith, ◌∙◌, subst}
 use Rattle.name_tree.specs.Trees.{IsKept}
 use Rattle.name_tree.specs.Growth.{IsFree}
 use Rattle.name_tree.proofs.MorePairs.{empty_list, kept-wider}

@@ -1,4 +1,4 @@
-use Rattle.std.proofs.Common.{◌≡◌, ap, sym, ◌∙◌, List, ℕ, ◌++◌, ◌∷◌, []}
+use Rattle.std.proofs.Common.{ap, ◌∙◌, List, ℕ, ◌++◌, ◌∷◌, []}
 use Rattle.name_tree.proofs.MorePairs.{parted-given, parted-kept}
 use Rattle.name_tree.proofs.nodes.Nodes.part.Goals as goal
 

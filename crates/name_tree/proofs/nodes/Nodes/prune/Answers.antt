@@ -1,9 +1,6 @@
-use Rattle.std.proofs.Common.{◌≡◌, ℕ, ◌+◌, ◌*◌, ◌<◌, length, arith, sym, ap, ◌∙◌, subst, Some, None, List, refl, inl, inr, ⊎_elim, Bool}
-use Rattle.mesh_names.specs.Names.{Name, depth, digit}
-use Rattle.mesh_names.proofs.Neighbours.{none_some}
+use Rattle.std.proofs.Common.{◌≡◌, arith, sym, Some}
 use Rattle.name_tree.specs.Trees.{Under, pairs_of, place}
-use Rattle.name_tree.specs.Growth.{IsNamed}
-use Rattle.name_tree.proofs.Places.{adds-kept, leads-left, live-adds, named-place, place-left, place-within, shrinks-live}
+use Rattle.name_tree.proofs.Places.{adds-kept, leads-left, named-place, place-left, place-within, shrinks-live}
 use Rattle.name_tree.proofs.nodes.Nodes.prune.Goals as goal
 
 there : (c : goal.In-Some-find) → place (pairs_of c.args.self.now) c.in-Some.parent.0 c.in-Some.parent.1 ≡ Some c.in-Some-find.place

@@ -1,4 +1,4 @@
-use Rattle.std.proofs.Common.{◌≡◌, ◌-◌, ◌+◌, ◌≤◌, length, ℕ}
+use Rattle.std.proofs.Common.{◌≡◌, ◌-◌, ◌+◌, length}
 use Rattle.name_tree.specs.Trees.{Source, pairs_of}
 use Rattle.name_tree.proofs.nodes.Nodes.reach.Given as goal
 

@@ -1,6 +1,6 @@
-use Rattle.std.proofs.Common.{◌≡◌, ℕ, ◌+◌, ◌*◌, ◌^◌, ◌<◌, length, arith, sym, ap, ◌∙◌, subst, Some, None, List}
+use Rattle.std.proofs.Common.{arith, sym, ap, ◌∙◌, subst}
 use Rattle.name_tree.specs.declared.nodes.Node.{Node}
-use Rattle.name_tree.specs.Trees.{Pairs, Under, node_at, pairs_of}
+use Rattle.name_tree.specs.Trees.{Pairs, Under, pairs_of}
 use Rattle.name_tree.specs.Growth.{Adds, IsNamed}
 use Rattle.name_tree.proofs.MorePairs.{joined-adds, joined-empty, joined-entries, joined-kept, named-within, pairs-same}
 use Rattle.name_tree.proofs.nodes.Nodes.sprout.Goals as goal

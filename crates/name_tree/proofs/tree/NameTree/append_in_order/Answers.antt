@@ -1,4 +1,4 @@
-use Rattle.std.proofs.Common.{◌≡◌, ◌<◌, ◌∙◌, sym, ap, subst, refl, true, true≢false, length, ℕ, List, Option, Some, None, unwrap_or, is_some, option_map}
+use Rattle.std.proofs.Common.{◌≡◌, ◌<◌, ◌∙◌, sym, ap, subst, refl, length, ℕ, Option, Some, None, unwrap_or}
 use Rattle.std.proofs.Common.{get_or, arith, rules}
 use Rattle.std.specs.Prelude.{slice_get}
 use Rattle.std.proofs.lemmas.Bool.{ltb-true}
@@ -8,15 +8,8 @@ use mir.Val.{SFits}
 use mir.Syntax.{w64}
 use Rattle.name_tree.specs.InOrder.{AreFirst}
 use Rattle.name_tree.proofs.InOrders.{first_more, next_worth}
-use Rattle.std.specs.FinMap.{FinMap, contains_key, empty, get, insert, remove}
-use Rattle.mesh_names.specs.Names.{Name, name_cmp, depth}
-use Rattle.name_tree.specs.declared.nodes.Entry.{Entry}
-use Rattle.name_tree.specs.NodeSlots.{slots_of}
-use Rattle.name_tree.specs.Paths.{IsPath}
-use Rattle.name_tree.specs.Slots.{Slot, Slots, live_at, live_of}
-use Rattle.name_tree.specs.Trees.{Pairs, pairs_of, place}
-use Rattle.name_tree.proofs.LiveNames.{get-live, kept-insert, live-emptied, remove-absent}
-use Rattle.name_tree.proofs.SlotsOfNodes.{keeps-slots, live-slot, moved-kept, moved-live, moved-pairs, new-slots, no-slot, node-inside, put-kept, put-pairs, put-slots, same-entries, slot-there, some-slot}
+use Rattle.name_tree.specs.Slots.{Slot, Slots, live_at}
+use Rattle.name_tree.proofs.SlotsOfNodes.{node-inside, some-slot}
 use Rattle.name_tree.proofs.tree.NameTree.append_in_order.Goals as goal
 
 pub entry-requires : goal.entry-requires
