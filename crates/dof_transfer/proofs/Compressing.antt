@@ -4,12 +4,12 @@ use Rattle.std.proofs.lemmas.List.Sums.{sum_by-cons}
 use Rattle.std.specs.FinMap.{get}
 use Rattle.dof_admin.specs.Administration.{IsRenumbering, used_at, used_count}
 use Rattle.mesh_names.specs.Names.{Name}
-use Rattle.dof_transfer.specs.declared.entries.Entry.{Entry}
+use Rattle.name_tree.specs.declared.nodes.Entry.{Entry}
 use Rattle.dof_transfer.specs.declared.ledger.Ledger.{Ledger}
-use Rattle.dof_transfer.specs.Slots.{live_at, moved_slot}
+use Rattle.name_tree.specs.Slots.{live_at, moved_slot}
 use Rattle.dof_transfer.specs.Held.{Held, AreSized, IsCompressed, IsSound, index_of, value_of}
 use Rattle.dof_transfer.specs.Ledgers.{held_of}
-use Rattle.dof_transfer.proofs.LiveNames.{get-live}
+use Rattle.name_tree.proofs.LiveNames.{get-live}
 use Rattle.dof_transfer.proofs.Soundness.{beyond}
 use Rattle.dof_transfer.proofs.Exchanging.{get_or-other}
 

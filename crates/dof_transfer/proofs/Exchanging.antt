@@ -6,7 +6,7 @@ use Rattle.std.specs.FinMap.{get, get-remove}
 use Rattle.mesh_names.specs.Names.{Name}
 use Rattle.mesh_names.specs.Order.{name_cmp_total}
 use Rattle.mesh_names.specs.declared.patch.PatchName.{PatchName}
-use Rattle.dof_transfer.specs.declared.entries.Entry.{Entry}
+use Rattle.name_tree.specs.declared.nodes.Entry.{Entry}
 use Rattle.dof_transfer.specs.Held.{Held, given_back, taken, all_given_back, all_taken}
 use Rattle.dof_transfer.specs.Exchanges.{value_in, bisected, all_bisected, child, children, halves, listed, part, sum_in, with_values}
 use Rattle.dof_transfer.proofs.FirstNames.{untied}

@@ -9,11 +9,11 @@ use Rattle.mesh_names.specs.Names.{Name, name_cmp, depth}
 use Rattle.mesh_names.specs.Order.{name_cmp_total}
 use Rattle.mesh_names.proofs.Sets.{same-tied, tied-same}
 use Rattle.compat_check.specs.Meshes.{Mesh}
-use Rattle.dof_transfer.specs.declared.entries.Entry.{Entry}
+use Rattle.name_tree.specs.declared.nodes.Entry.{Entry}
 use Rattle.dof_transfer.specs.declared.ledger.Ledger.{Ledger}
-use Rattle.dof_transfer.specs.Slots.{Slots, live_of}
+use Rattle.name_tree.specs.Slots.{Slots, live_of}
 use Rattle.dof_transfer.specs.Ledgers.{held_of}
-use Rattle.dof_transfer.proofs.LiveNames.{live-empty}
+use Rattle.name_tree.proofs.LiveNames.{live-empty}
 use Rattle.dof_transfer.specs.Held.{Held, AreSized, least_unused, taken, value_of}
 use Rattle.dof_transfer.specs.Macros.{HoldsFirst, first_entry}
 use Rattle.dof_transfer.proofs.Soundness.{sound-taken}

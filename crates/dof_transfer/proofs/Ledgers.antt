@@ -5,8 +5,8 @@ use Rattle.std.specs.FinMap.{get, insert, contains_key, get-insert}
 use Rattle.mesh_names.specs.Names.{Name, name_cmp}
 use Rattle.mesh_names.specs.Order.{name_cmp_total}
 use Rattle.mesh_names.proofs.Sets.{same-tied}
-use Rattle.dof_transfer.specs.declared.entries.Entry.{Entry}
-use Rattle.dof_transfer.specs.Slots.{Slot, Slots, live_at, readied}
+use Rattle.name_tree.specs.declared.nodes.Entry.{Entry}
+use Rattle.name_tree.specs.Slots.{Slot, Slots, live_at}
 
 pub kept-insert : (s : Slots) (n q : Name) (v : Slot) → contains_key s q ≡ true → contains_key (insert s n v) q ≡ true
 kept-insert s n q v h = ap is_some (get-insert name_cmp_total s n v q) ∙ either (eq_by_cmp name_cmp q n) (get s q) h where
@@ -16,12 +16,6 @@ kept-insert s n q v h = ap is_some (get-insert name_cmp_total s n v q) ∙ eithe
 
 pub there-insert : (s : Slots) (n : Name) (v : Slot) → contains_key (insert s n v) n ≡ true
 there-insert s n v = ap is_some (get-insert name_cmp_total s n v n) ∙ ap (λ (b : Bool). is_some (cond b (Some v) (get s n))) (same-tied n n refl)
-
-pub kept-readied : (s : Slots) (n q : Name) → contains_key s q ≡ true → contains_key (readied s n) q ≡ true
-kept-readied s n q h = elim (contains_key s n) as (λ (b : Bool). contains_key (cond b s (insert s n None)) q ≡ true) [ true ↦ h | false ↦ kept-insert s n q None h ]
-
-pub there-readied : (s : Slots) (n : Name) → contains_key (readied s n) n ≡ true
-there-readied s n = elim (contains_key s n) as (λ (b : Bool). contains_key s n ≡ b → contains_key (cond b s (insert s n None)) n ≡ true) [ true ↦ λ (e : contains_key s n ≡ true). e | false ↦ λ _. there-insert s n None ] refl
 
 -- a live name has a slot
 pub there-live : (s : Slots) (n : Name) (e : Entry) → live_at s n ≡ Some e → contains_key s n ≡ true

@@ -1,5 +1,3 @@
-pub mod SlotMaps
-pub mod LiveNames
 pub mod Soundness
 pub mod Ledgers
 pub mod FirstNames

@@ -12,7 +12,7 @@ use Rattle.mesh_names.specs.Triangles.{Shape, level, size}
 use Rattle.mesh_names.specs.Forests.{Names, Has, IsLeaf}
 use Rattle.mesh_names.specs.declared.patch.PatchName.{PatchName}
 use Rattle.mesh_names.proofs.Sets.{In, both_sides, has-in, in-has, is_or_not, same-tied, tied-same, union-either, union-left, union-right}
-use Rattle.dof_transfer.specs.declared.entries.Entry.{Entry}
+use Rattle.name_tree.specs.declared.nodes.Entry.{Entry}
 use Rattle.dof_transfer.specs.Held.{Held, value_of, given_back, taken, all_given_back, all_taken, least_unused}
 use Rattle.dof_transfer.specs.Exchanges.{IsPair, value_in, bisected, all_bisected, coarsened, all_coarsened, by_level, joined, all_members, members_of, child, children, element_change, halves, listed, part, sum_in, with_values}
 use Rattle.dof_transfer.specs.Changes.{AreBisections, AreCoarsenings, AreOfForest, AreParents, IsBottom, IsChange}

@@ -12,7 +12,7 @@ use Rattle.mesh_names.specs.Names.{Name, name_cmp, depth}
 use Rattle.mesh_names.specs.Order.{name_cmp_total}
 use Rattle.mesh_names.specs.declared.patch.PatchName.{PatchName}
 use Rattle.mesh_names.proofs.Sets.{tied-same}
-use Rattle.dof_transfer.specs.declared.entries.Entry.{Entry}
+use Rattle.name_tree.specs.declared.nodes.Entry.{Entry}
 use Rattle.dof_transfer.specs.Held.{Held, AreSized, IsSized, all_given_back, all_taken, given_back, least_unused, taken, value_of}
 use Rattle.dof_transfer.specs.Exchanges.{bisected, child, children, coarsened, floor_half, halves, members_of, sum_in, value_in, with_values}
 

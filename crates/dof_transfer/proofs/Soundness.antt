@@ -7,7 +7,7 @@ use Rattle.std.specs.FinMap.{get, insert, get-insert, get-remove}
 use Rattle.dof_admin.specs.Administration.{IsLeastUnused, used_at, with_used}
 use Rattle.mesh_names.specs.Names.{Name, name_cmp}
 use Rattle.mesh_names.specs.Order.{name_cmp_total}
-use Rattle.dof_transfer.specs.declared.entries.Entry.{Entry}
+use Rattle.name_tree.specs.declared.nodes.Entry.{Entry}
 use Rattle.dof_transfer.specs.Held.{Held, IsSound, SetsValue, index_of, least_unused, cleared, given_back, taken}
 use Rattle.mesh_names.proofs.Sets.{same-tied, tied-same}
 

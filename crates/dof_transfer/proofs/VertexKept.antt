@@ -15,7 +15,7 @@ use Rattle.mesh_names.specs.declared.patch.VertexKey.{VertexKey}
 use Rattle.mesh_names.specs.declared.patch.VertexKey.TheVariants.{Macro, Patch}
 use Rattle.mesh_names.proofs.Sets.{is_or_not, same-tied, tied-same}
 use Rattle.compat_check.specs.Meshes.{Mesh}
-use Rattle.dof_transfer.specs.declared.entries.Entry.{Entry}
+use Rattle.name_tree.specs.declared.nodes.Entry.{Entry}
 use Rattle.dof_transfer.specs.Held.{Held, IsCompressed, IsSound, IsTidied, SetsValue, cleared, given_back, index_of, least_unused, taken, value_of, all_given_back}
 use Rattle.dof_transfer.specs.Exchanges.{floor_half}
 use Rattle.dof_transfer.specs.VertexValues.{AreMade, AreSmall, IsMade, IsVertexSound, SetsVertex, VertexHeld, index_at, owners, value_at, worth}

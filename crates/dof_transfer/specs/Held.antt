@@ -5,8 +5,8 @@ use Rattle.std.specs.Coded.{Coded, code_by, coded×, coded_ℕ, coded_list, code
 use Rattle.std.specs.FinMap.{FinMap, code, get, insert, remove}
 use Rattle.dof_admin.specs.Administration.{used_at, used_count, with_used}
 use Rattle.mesh_names.specs.Names.{Name, name_cmp, depth}
-use Rattle.dof_transfer.specs.declared.entries.Entry.{Entry}
-use Rattle.dof_transfer.specs.Slots.{entry_code}
+use Rattle.name_tree.specs.declared.nodes.Entry.{Entry}
+use Rattle.name_tree.specs.Slots.{entry_code}
 
 -- the live names, and whether each index below the size is used
 pub record Held : Type 0 where

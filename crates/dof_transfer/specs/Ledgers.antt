@@ -2,7 +2,7 @@
 use Rattle.std.specs.Prelude.{◌≡◌, false, true}
 use Rattle.std.specs.FinMap.{contains_key}
 use Rattle.mesh_names.specs.Names.{Name}
-use Rattle.dof_transfer.specs.Slots.{live_of}
+use Rattle.name_tree.specs.Slots.{live_of}
 use Rattle.dof_transfer.specs.Held.{Held}
 use Rattle.dof_transfer.specs.Exchanges.{child}
 use Rattle.dof_transfer.specs.declared.ledger.Ledger.{Ledger}

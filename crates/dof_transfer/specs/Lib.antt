@@ -1,6 +1,4 @@
-pub mod Slots
 pub mod Held
-pub mod InOrder
 pub mod Exchanges
 pub mod Ledgers
 pub mod Macros

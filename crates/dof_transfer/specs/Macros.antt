@@ -4,7 +4,7 @@ use Rattle.std.specs.FinMap.{get}
 use Rattle.mesh_names.specs.Names.{Name}
 use Rattle.mesh_names.specs.Triangles.{size}
 use Rattle.compat_check.specs.Meshes.{Mesh, shape_of}
-use Rattle.dof_transfer.specs.declared.entries.Entry.{Entry}
+use Rattle.name_tree.specs.declared.nodes.Entry.{Entry}
 use Rattle.dof_transfer.specs.Held.{Held, IsSound}
 
 -- of the first macro elements each has its value, and its own number as its index; no other name has any

@@ -111,7 +111,6 @@ impl ElementValues {
         self.ledger.prepare(delta.born.len(), &born, &died)?;
         self.ledger.bisect_all(&delta.born);
         self.ledger.coarsen_all(mesh, &died, &mut sums);
-        self.ledger.forget_all(&born);
         self.ledger.forget_below(&died);
         Ok(())
     }

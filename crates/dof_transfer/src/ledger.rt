@@ -7,16 +7,16 @@ ghost use Rattle.dof_transfer.specs.Held.{IsCompressed, IsSound, IsTidied, SetsV
 ghost use Rattle.dof_transfer.specs.Exchanges.{value_in};
 ghost use Rattle.dof_transfer.specs.Ledgers.{KeepsReady, held_of};
 
-use crate::entries::{Entries, Entry};
 use crate::refusal::TransferRefusal;
 use dof_admin::DofAdmin;
 use mesh_names::name::ElemName;
+use name_tree::{Entry, NameTree};
 use std::alloc::{AllocError, Global};
 
 /// The entries of live names, and the administration that their indices come from.
 #[derive(Drop)]
 pub(crate) struct Ledger {
-    pub(crate) entries: Entries,
+    pub(crate) entries: NameTree,
     pub(crate) admin: DofAdmin,
 }
 
@@ -26,7 +26,7 @@ impl Ledger {
         ensures { result ≡ record { entries = empty; admin = record { flags = []; spare = 0 } } }
     {
         Ledger {
-            entries: Entries::new(alloc),
+            entries: NameTree::new(alloc),
             admin: DofAdmin::new(alloc),
         }
     }
@@ -116,7 +116,7 @@ impl Ledger {
         }
     }
 
-    /// Takes the name's slot away where nothing stands in it. Takes no memory.
+    /// Gives the place of the name's slot back where nothing stands in it or beside it. Takes no memory.
     pub(crate) fn forget(&mut self, name: ElemName)
         ensures held { held_of self.new ≡ held_of self.old }
         ensures admin { self.new.admin ≡ self.old.admin }

@@ -4,7 +4,6 @@
 mod bisecting;
 mod coarsening;
 mod elements;
-mod entries;
 mod ledger;
 mod preparing;
 mod refusal;

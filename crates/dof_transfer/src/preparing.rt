@@ -82,17 +82,7 @@ impl Ledger {
         Ok(())
     }
 
-    /// Takes the empty slots of the names away. Takes no memory.
-    pub(crate) fn forget_all(&mut self, names: &[ElemName])
-        ensures held { held_of self.new ≡ held_of self.old }
-        ensures admin { self.new.admin ≡ self.old.admin }
-    {
-        for name in names {
-            self.forget(*name);
-        }
-    }
-
-    /// Takes the empty slots of the names' children away. Takes no memory.
+    /// Gives the places of the names' children back, where nothing stands in them. Takes no memory.
     pub(crate) fn forget_below(&mut self, names: &[ElemName])
         requires { All (λ n. depth n < 24) names.now }
         ensures held { held_of self.new ≡ held_of self.old }

@@ -8,7 +8,7 @@ ghost use Rattle.macro_file.specs.declared.text.MacroVertex.{MacroVertex};
 ghost use Rattle.compat_check.specs.Meshes.{shape_of};
 ghost use Rattle.dof_transfer.specs.Exchanges.{floor_half};
 ghost use Rattle.dof_transfer.specs.Held.{all_given_back};
-ghost use Rattle.dof_transfer.specs.InOrder.{AreFirst};
+ghost use Rattle.name_tree.specs.InOrder.{AreFirst};
 ghost use Rattle.dof_transfer.specs.Ledgers.{HasRoom, KeepsReady};
 ghost use Rattle.dof_transfer.specs.VertexLedgers.{vertices_of};
 ghost use Rattle.dof_transfer.specs.VertexValues.{AreMacroVertices, AreMade, AreSmall, IsMade, IsVertexSound, IsVertexTidied, SetsVertex, index_at, owners, value_at, worth};

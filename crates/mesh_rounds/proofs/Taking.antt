@@ -5,7 +5,7 @@ use Rattle.std.proofs.lemmas.List.{take_more}
 use Rattle.std.specs.Ordering.{eq_by_cmp}
 use Rattle.mesh_names.specs.Names.{Name, name_cmp}
 use Rattle.mesh_names.proofs.Sets.{both_sides, is_or_not, same-tied, tied-same}
-use Rattle.dof_transfer.specs.declared.entries.Entry.{Entry}
+use Rattle.name_tree.specs.declared.nodes.Entry.{Entry}
 use Rattle.dof_transfer.specs.Held.{Held, SetsValue, index_of, value_of}
 use Rattle.mesh_rounds.specs.Setting.{Holding}
 use Rattle.mesh_rounds.specs.Taking.{AllTake, IsAmong, LeavesTake, Takes}

@@ -14,7 +14,7 @@ use Rattle.mesh_names.proofs.Leaving.{leaves_are}
 use Rattle.mesh_names.proofs.Sets.{both_sides, is_or_not}
 use Rattle.macro_file.specs.declared.text.MacroVertex.{MacroVertex}
 use Rattle.compat_check.specs.Meshes.{shape_of}
-use Rattle.dof_transfer.specs.declared.entries.Entry.{Entry}
+use Rattle.name_tree.specs.declared.nodes.Entry.{Entry}
 use Rattle.dof_transfer.specs.Held.{Held, value_of}
 use Rattle.dof_transfer.specs.VertexNames.{IsVertexIn}
 use Rattle.dof_transfer.specs.VertexValues.{value_at}

@@ -38,5 +38,5 @@ returns-clause-values c = λ before after of change.
     let start : held_of c.prepare.new.self ≡ c.args.self.now = c.in_ok-prepare.ensures.held ∙ c.self.view_is in
     let refined : held_of c.bisect_all.new.self ≡ all_bisected c.args.self.now born = c.bisect_all.ensures.held ∙ (λ i. all_bisected (start i) (c.deref-5.ensures.value i)) in
     let listed : c.deref-6.result.now ≡ all_members died = c.deref-6.ensures.value ∙ c.in_ok-died.ensures ∙ ap all_members c.deref-2.ensures.value in
-    let whole : held_of c.forget_below.new.self ≡ element_change (shape_of c.args.mesh.now) c.args.self.now born died = c.forget_below.ensures.held ∙ c.forget_all.ensures.held ∙ c.coarsen_all.ensures.held ∙ (λ i. all_coarsened (refined i) (by_level (shape_of c.args.mesh.now) (listed i))) in
+    let whole : held_of c.forget_below.new.self ≡ element_change (shape_of c.args.mesh.now) c.args.self.now born died = c.forget_below.ensures.held ∙ c.coarsen_all.ensures.held ∙ (λ i. all_coarsened (refined i) (by_level (shape_of c.args.mesh.now) (listed i))) in
     subst (AreElementValues (shape_of c.args.mesh.now) after c.args.self.now) (sym whole) (element-values (shape_of c.args.mesh.now) c.args.self.now born died before after c.requires.died of change)

@@ -1,11 +1,9 @@
-use Rattle.std.proofs.Common.{ap, ◌∙◌}
+use Rattle.std.proofs.Common.{ap}
 use Rattle.std.specs.FinMap.{FinMap}
 use Rattle.mesh_names.specs.Names.{name_cmp}
-use Rattle.dof_transfer.specs.declared.entries.Entry.{Entry}
-use Rattle.dof_transfer.specs.Slots.{live_of}
+use Rattle.name_tree.specs.declared.nodes.Entry.{Entry}
 use Rattle.dof_transfer.specs.Held.{Held}
-use Rattle.dof_transfer.proofs.LiveNames.{live-forgotten}
 use Rattle.dof_transfer.proofs.ledger.Ledger.forget.Goals as goal
 
 pub returns-clause-held : goal.returns-clause-held
-returns-clause-held c = ap {B = Held} (λ (l : FinMap name_cmp Entry). record { live = l; flags = c.args.self.now.admin.flags }) (ap live_of c.forget.ensures ∙ live-forgotten c.args.self.now.entries c.args.name)
+returns-clause-held c = ap {B = Held} (λ (l : FinMap name_cmp Entry). record { live = l; flags = c.args.self.now.admin.flags }) c.forget.ensures

@@ -1,5 +1,5 @@
 use Rattle.std.proofs.Common.{◌∙◌, sym}
-use Rattle.dof_transfer.proofs.LiveNames.{get-live}
+use Rattle.name_tree.proofs.LiveNames.{get-live}
 use Rattle.dof_transfer.proofs.ledger.Ledger.get.Goals as goal
 
 pub returns : goal.returns

@@ -1,9 +1,9 @@
 use Rattle.std.proofs.Common.{◌≡◌, ap, ◌∙◌, sym, subst, ℕ, ℤ, pos, Option, unwrap_or, option_map, w64, rules}
 use Rattle.std.proofs.lemmas.Int.{to_z-of_z}
-use Rattle.dof_transfer.specs.declared.entries.Entry.{Entry}
+use Rattle.name_tree.specs.declared.nodes.Entry.{Entry}
 use Rattle.dof_transfer.specs.Held.{IsSound, cleared, given_back}
 use Rattle.dof_transfer.specs.Ledgers.{held_of}
-use Rattle.dof_transfer.proofs.LiveNames.{get-live}
+use Rattle.name_tree.proofs.LiveNames.{get-live}
 use Rattle.dof_transfer.proofs.Soundness.{sound-given_back}
 use Rattle.dof_transfer.proofs.ledger.Ledger.give_back.Goals as goal
 

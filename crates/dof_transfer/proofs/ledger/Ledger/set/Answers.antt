@@ -2,11 +2,11 @@ use Rattle.std.proofs.Common.{◌≡◌, ap, ◌∙◌, sym, subst, ℤ, Option,
 use Rattle.std.proofs.lemmas.Int.{to_z-of_z}
 use Rattle.std.specs.FinMap.{FinMap, insert, insert as put_in}
 use Rattle.mesh_names.specs.Names.{name_cmp}
-use Rattle.dof_transfer.specs.declared.entries.Entry.{Entry}
-use Rattle.dof_transfer.specs.Slots.{live_of}
+use Rattle.name_tree.specs.declared.nodes.Entry.{Entry}
+use Rattle.name_tree.specs.Slots.{live_of}
 use Rattle.dof_transfer.specs.Held.{IsSound, SetsValue}
 use Rattle.dof_transfer.specs.Ledgers.{held_of}
-use Rattle.dof_transfer.proofs.LiveNames.{get-live, live-put}
+use Rattle.name_tree.proofs.LiveNames.{get-live, live-put}
 use Rattle.dof_transfer.proofs.Soundness.{sets_value, sound-set}
 use Rattle.dof_transfer.proofs.ledger.Ledger.set.Goals as goal
 

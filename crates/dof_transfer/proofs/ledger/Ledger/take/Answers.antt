@@ -2,10 +2,10 @@ use Rattle.std.proofs.Common.{◌≡◌, ap, ◌∙◌, sym, subst, ℕ, ℤ, So
 use Rattle.std.proofs.lemmas.Int.{to_z-of_z}
 use Rattle.std.specs.FinMap.{contains_key, insert, insert as put_in}
 use Rattle.dof_admin.specs.Administration.{with_used}
-use Rattle.dof_transfer.specs.Slots.{Slots, live_of}
+use Rattle.name_tree.specs.Slots.{Slots, live_of}
 use Rattle.dof_transfer.specs.Held.{IsSound, taken}
 use Rattle.dof_transfer.specs.Ledgers.{held_of}
-use Rattle.dof_transfer.proofs.LiveNames.{live-put}
+use Rattle.name_tree.proofs.LiveNames.{live-put}
 use Rattle.dof_transfer.proofs.Soundness.{least_is, sound-taken}
 use Rattle.dof_transfer.proofs.Ledgers.{kept-insert}
 use Rattle.dof_transfer.proofs.ledger.Ledger.take.Goals as goal

@@ -2,7 +2,7 @@ use Rattle.std.proofs.Common.{◌≡◌, [], true, replicate, ap, ◌∙◌, sym
 use Rattle.dof_transfer.specs.Held.{Held, least_unused}
 use Rattle.dof_transfer.specs.Ledgers.{held_of}
 use Rattle.dof_transfer.proofs.FirstNames.{least-all}
-use Rattle.dof_transfer.proofs.LiveNames.{live-empty}
+use Rattle.name_tree.proofs.LiveNames.{live-empty}
 use Rattle.dof_transfer.proofs.Soundness.{least_is}
 use Rattle.dof_transfer.proofs.ledger.Ledger.use_first.Goals as goal
 

@@ -1,6 +1,6 @@
 use Rattle.std.proofs.Common.{◌≡◌, length}
 use Rattle.dof_transfer.specs.Held.{worth_of}
-use Rattle.dof_transfer.specs.InOrder.{AreFirst}
+use Rattle.name_tree.specs.InOrder.{AreFirst}
 use Rattle.dof_transfer.specs.Ledgers.{held_of}
 use Rattle.dof_transfer.proofs.ledger.Ledger.values.Given as goal
 

@@ -1,5 +1,5 @@
 use Rattle.std.proofs.Common.{◌≡◌, length}
-use Rattle.dof_transfer.specs.InOrder.{AreFirst}
+use Rattle.name_tree.specs.InOrder.{AreFirst}
 use Rattle.dof_transfer.specs.VertexLedgers.{vertices_of}
 use Rattle.dof_transfer.specs.VertexValues.{worth}
 use Rattle.dof_transfer.proofs.vertex_ledger.VertexLedger.values.Given as goal

@@ -1,0 +1,11 @@
+//! A tree of names, with an index and a value for some of them.
+#![tactic(auto)]
+
+mod growing;
+mod letters;
+mod nodes;
+mod path;
+mod tree;
+
+pub use nodes::Entry;
+pub use tree::{Keyed, NameTree};
