@@ -9,7 +9,7 @@ use Rattle.table_words.specs.Writes.{WriteHistory, WriteBorn, WriteDied, WriteNa
 use Rattle.table_words.specs.Places.{member_of, child_place}
 use Rattle.table_words.specs.Setup.{Setup}
 use Rattle.table_words.specs.Words.{Node, node, Words}
-use Rattle.table_words.specs.Views.{Resting, FirstHalf, SecondHalf, Closing, Worker, Reader, Views}
+use Rattle.table_words.specs.Views.{Resting, FirstHalf, SecondHalf, Closing, Worker, Reader, Owner, Views}
 use Rattle.table_steps.specs.States.{State}
 use Rattle.table_steps.specs.Steps.{Step}
 
@@ -100,3 +100,24 @@ IsLocal s w n v b = (u : Write) × (b.words ≡ written w u)
 -- the view of that seat alone, but for the seat that a split makes or a join ends
 abbrev pub StepsLocal : Type 0
 StepsLocal = (s : Setup) (a b : State) → Step s a b → IsLocal s a.words a.seats a.views b
+
+-- a write of a reader's pass leaves all words but how many pins are taken, and RELEASED
+abbrev pub ReaderLeaves : Words → Words → Type 0
+ReaderLeaves w b = (b.round ≡ w.round) × (b.cursor ≡ w.cursor) × (b.free ≡ w.free) × (b.row ≡ w.row) × (b.claimed ≡ w.claimed) × (b.head ≡ w.head)
+    × (b.history ≡ w.history) × (b.born ≡ w.born) × (b.died ≡ w.died) × (b.name ≡ w.name)
+
+-- one of a worker's pass leaves the round, pins, FREE and the rows; CURSOR rises by 1 at most, and a claim bit that is set stays
+abbrev pub WorkerLeaves : Words → Words → Type 0
+WorkerLeaves w b = (b.round ≡ w.round) × (b.taken ≡ w.taken) × (b.free ≡ w.free) × (b.released ≡ w.released) × (b.row ≡ w.row)
+    × ((b.cursor ≡ w.cursor) ⊎ (b.cursor ≡ w.cursor + 1)) × ((x : ℕ) → (b.claimed x ≡ w.claimed x) ⊎ ((w.claimed x ≡ 0) × (b.claimed x ≡ 1)))
+
+-- and one of the owner leaves RELEASED and names; CURSOR, a claim bit and BORN of a block become nothing but 0
+abbrev pub OwnerLeaves : Words → Words → Type 0
+OwnerLeaves w b = (b.released ≡ w.released) × (b.name ≡ w.name) × ((b.cursor ≡ w.cursor) ⊎ (b.cursor ≡ 0))
+    × ((x : ℕ) → ((b.claimed x ≡ w.claimed x) ⊎ (b.claimed x ≡ 0)) × ((b.born x ≡ w.born x) ⊎ (b.born x ≡ 0)))
+
+-- the law of what a seat's write leaves as it was; in both halves the owner leaves all words
+abbrev pub WritesLeave : Type 0
+WritesLeave = (s : Setup) (w : Words) (v : Views) (j : ℕ) (u : Write) → MayWrite s w v j u → ((j ≡ 0 → ⊥) → (v.kind j ≡ Reader → ReaderLeaves w (written w u))
+    × (v.kind j ≡ Worker → WorkerLeaves w (written w u)))
+    × (v.kind j ≡ Owner → OwnerLeaves w (written w u) × ((v.ruling.phase ≡ FirstHalf) ⊎ (v.ruling.phase ≡ SecondHalf) → written w u ≡ w))
