@@ -334,27 +334,32 @@ fn a_written_name_is_read_again(rt: HostRuntime) -> Result<(), Fail> {
     Ok(())
 }
 
-fn row(what: What, place: Place, number: i64) -> MarkRow {
-    MarkRow {
-        row: 9,
-        what,
-        place,
-        number,
-    }
-}
-
 #[test]
 fn rows_are_written_as_they_are_read(rt: HostRuntime) -> Result<(), Fail> {
     let name = ElemName::top(0).child_at(false).child_at(true);
     let last = ElemName::top(65_534);
     let mut text = "round,what,where,number\n".as_bytes().to_vec(rt.alloc())?;
-    put_row(&mut text, 2, &row(What::Mark, Place::Elem(name), -3))?;
-    put_row(&mut text, 2, &row(What::Elem, Place::EveryLeaf, 7))?;
-    put_row(
-        &mut text,
-        65_535,
-        &row(What::Vert, Place::Corner(last, 2), -2_147_483_648),
-    )?;
+    let mark = MarkRow {
+        row: 9,
+        what: What::Mark,
+        place: Place::Elem(name),
+        number: -3,
+    };
+    let elem = MarkRow {
+        row: 9,
+        what: What::Elem,
+        place: Place::EveryLeaf,
+        number: 7,
+    };
+    let vert = MarkRow {
+        row: 9,
+        what: What::Vert,
+        place: Place::Corner(last, 2),
+        number: -2_147_483_648,
+    };
+    put_row(&mut text, 2, &mark)?;
+    put_row(&mut text, 2, &elem)?;
+    put_row(&mut text, 65_535, &vert)?;
     let lines =
         "round,what,where,number\n2,mark,0.01,-3\n2,elem,*,7\n65535,vert,65534/2,-2147483648\n";
     assert!(rt; text.as_slice() == lines.as_bytes());
