@@ -1,4 +1,5 @@
--- The chains of blocks: at each place the newest block first, and on along the HISTORY words of its members.
+-- The chains of blocks. Each block in the chain of a place is a version of the place: the LINK word names the newest,
+-- and the HISTORY word of a block's member the version before it.
 use Rattle.std.specs.Prelude.{◌≡◌, ℕ, ◌+◌, ◌<◌, ◌≤◌, Bool, false, List, [], ◌∷◌, ◌⊎◌}
 use Rattle.table_words.specs.Places.{member_of, child_place}
 use Rattle.table_words.specs.Words.{Node, node}
@@ -29,7 +30,7 @@ IsHead round died life x l = (l ≡ node 0 0)
     ⊎ ((b : ℕ) × (s : Bool) × (l.block ≡ b + 1) × (chained (life b) s ≡ x + 1) × (0 < l.died → l.died ≡ died b)
     × (l.died ≡ 0 → (died b ≡ 0) ⊎ (died b ≡ round + 1)))
 
--- a HISTORY word of a block that was born at n names nothing, or a block in the chain of the same place that was retired in a finished round before n
+-- a HISTORY word of a block that was born at n names no older version, or a block in the chain of the same place that was retired in a finished round before n
 abbrev pub IsOlder : ℕ → (ℕ → ℕ) → (ℕ → Life) → ℕ → ℕ → Node → Type 0
 IsOlder round died life x n l = (l ≡ node 0 0)
     ⊎ ((c : ℕ) × (t : Bool) × (l ≡ node (c + 1) (died c)) × (chained (life c) t ≡ x + 1) × (0 < died c) × (0 < n → died c < n) × (died c ≤ round))

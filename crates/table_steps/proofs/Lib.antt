@@ -20,6 +20,7 @@ pub mod Sweeping
 pub mod RollBack
 pub mod StepsKeep
 pub mod Local
+pub mod WritesLeave
 pub mod Reuse
 pub mod Onward
 pub mod OnwardRounds

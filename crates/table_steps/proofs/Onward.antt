@@ -64,11 +64,11 @@ module _ (s : Setup) (w : Words) (n : ℕ) (v : Views) where
     read_ends : (x k : ℕ) (l : Node) → ReadNext s w (v.read j) x k l → (l.block ≡ 0) ⊎ ((0 < l.died) × (l.died ≤ q)) → Onward s w n v (λ b. ((b.views.read j).walk ≡ Still) × HasEntry (b.views.read j).notes record { round = q; name = k; bisected = false })
     read_ends x k l next how = (_, ByReadEnds (j, q, kind, pin, x, k, l, next, how, refl), here (λ (u : Read). (u.walk ≡ Still) × HasEntry u.notes record { round = q; name = k; bisected = false }) v.read j _ (refl, inl refl))
 
-    read_goes : (x k : ℕ) (l : Node) → ReadNext s w (v.read j) x k l → (c : ℕ) → l.block ≡ c + 1 → (l.died ≡ 0) ⊎ (q < l.died) → (t : Bool) → w.name (member_of c t) ≡ k → (d : ℕ) × (u : Bool) × (l.block ≡ d + 1) × Onward s w n v (λ b. (b.views.read j).walk ≡ At x k d u)
-    read_goes x k l next c is how t named = (c, t, is, (_, ByReadGoes (j, q, kind, pin, x, k, c, l, next, is, how, t, named, refl), here (λ (u : Read). u.walk ≡ At x k c t) v.read j _ refl))
+    read_goes : (x k : ℕ) (l : Node) → ReadNext s w (v.read j) x k l → (c : ℕ) → l.block ≡ c + 1 → (l.died ≡ 0) ⊎ (q < l.died) → (t : Bool) → w.name (member_of c t) ≡ k → (d : ℕ) × (u : Bool) × (l.block ≡ d + 1) × Onward s w n v (λ b. ((b.views.read j).walk ≡ At x k d u) × ((b.views.read j).back ≡ l.died))
+    read_goes x k l next c is how t named = (c, t, is, (_, ByReadGoes (j, q, kind, pin, x, k, c, l, next, is, how, t, named, refl), here (λ (u : Read). (u.walk ≡ At x k c t) × (u.back ≡ l.died)) v.read j _ (refl, refl)))
 
-    read_passes : (x k c : ℕ) (t : Bool) → (v.read j).walk ≡ At x k c t → (w.born c ≡ 0) ⊎ (q < w.born c) → Onward s w n v (λ b. (b.views.read j).walk ≡ Past x k c t)
-    read_passes x k c t at how = (_, ByReadPasses (j, q, kind, pin, x, k, c, t, at, how, refl), here (λ (u : Read). u.walk ≡ Past x k c t) v.read j _ refl)
+    read_passes : (x k c : ℕ) (t : Bool) → (v.read j).walk ≡ At x k c t → (w.born c ≡ 0) ⊎ (q < w.born c) → Onward s w n v (λ b. ((b.views.read j).walk ≡ Past x k c t) × ((b.views.read j).back ≡ (v.read j).back))
+    read_passes x k c t at how = (_, ByReadPasses (j, q, kind, pin, x, k, c, t, at, how, refl), here (λ (u : Read). (u.walk ≡ Past x k c t) × (u.back ≡ (v.read j).back)) v.read j _ (refl, refl))
 
     read_finds : (x k c : ℕ) (t : Bool) → (v.read j).walk ≡ At x k c t → 0 < w.born c → w.born c ≤ q → Onward s w n v (λ b. ((b.views.read j).walk ≡ Still) × HasEntry (b.views.read j).notes record { round = q; name = k; bisected = true } × HasChildren s (b.views.read j).places k c t)
     read_finds x k c t at born late = (_, ByReadFinds (j, q, kind, pin, x, k, c, t, at, born, late, refl), here (λ (u : Read). (u.walk ≡ Still) × HasEntry u.notes record { round = q; name = k; bisected = true } × HasChildren s u.places k c t) v.read j _ (refl, inl refl, children s (v.read j).places k c t))
@@ -106,7 +106,7 @@ workers_go_on s w n v (g, r) j x k kind = (onward, arrived)
 pub readers_go_on : ReadersGoOn
 readers_go_on s w n v (g, r) j q x k kind pin = (onward, arrived)
   where
-    onward : (l : Node) → ReadNext s w (v.read j) x k l → Onward s w n v (λ b. ((b.views.read j).walk ≡ Still) × HasEntry (b.views.read j).notes record { round = q; name = k; bisected = false }) ⊎ ((c : ℕ) × (t : Bool) × (l.block ≡ c + 1) × Onward s w n v (λ b. (b.views.read j).walk ≡ At x k c t))
+    onward : (l : Node) → ReadNext s w (v.read j) x k l → Onward s w n v (λ b. ((b.views.read j).walk ≡ Still) × HasEntry (b.views.read j).notes record { round = q; name = k; bisected = false }) ⊎ ((c : ℕ) × (t : Bool) × (l.block ≡ c + 1) × Onward s w n v (λ b. ((b.views.read j).walk ≡ At x k c t) × ((b.views.read j).back ≡ l.died)))
     onward l next = ⊎_elim
         (λ none. inl (read_ends s w n v j q kind pin x k l next (inl none)))
         (λ (some : (b : ℕ) × (l.block ≡ b + 1)). let m = (next_named s w n v (g, r) j x k some.0 l some.1).1 q kind pin next in
@@ -118,7 +118,7 @@ readers_go_on s w n v (g, r) j q x k kind pin = (onward, arrived)
         ]))
         (none_or_block l)
 
-    arrived : (c : ℕ) (t : Bool) → (v.read j).walk ≡ At x k c t → Onward s w n v (λ b. (b.views.read j).walk ≡ Past x k c t) ⊎ Onward s w n v (λ b. ((b.views.read j).walk ≡ Still) × HasEntry (b.views.read j).notes record { round = q; name = k; bisected = true } × HasChildren s (b.views.read j).places k c t)
+    arrived : (c : ℕ) (t : Bool) → (v.read j).walk ≡ At x k c t → Onward s w n v (λ b. ((b.views.read j).walk ≡ Past x k c t) × ((b.views.read j).back ≡ (v.read j).back)) ⊎ Onward s w n v (λ b. ((b.views.read j).walk ≡ Still) × HasEntry (b.views.read j).notes record { round = q; name = k; bisected = true } × HasChildren s (b.views.read j).places k c t)
     arrived c t at = dite (ℕ_discrete (w.born c) 0)
         (λ z. inl (read_passes s w n v j q kind pin x k c t at (inl z)))
         (λ o. elim (dec_lt q (w.born c)) [

@@ -9,7 +9,9 @@ use Rattle.table_words.specs.Writes.{WriteHistory, WriteBorn, WriteDied, WriteNa
 use Rattle.table_words.specs.Places.{member_of, child_place}
 use Rattle.table_words.specs.Setup.{Setup}
 use Rattle.table_words.specs.Words.{Node, node, Words}
-use Rattle.table_words.specs.Views.{Resting, FirstHalf, SecondHalf, Closing, Worker, Reader, Views}
+use Rattle.table_words.specs.Views.{Resting, FirstHalf, SecondHalf, Closing, Worker, Reader, Owner, Views}
+use Rattle.table_state.specs.Ghosts.{Life, Loose}
+use Rattle.table_state.specs.Laws.{Always}
 use Rattle.table_steps.specs.States.{State}
 use Rattle.table_steps.specs.Steps.{Step}
 
@@ -100,3 +102,41 @@ IsLocal s w n v b = (u : Write) × (b.words ≡ written w u)
 -- the view of that seat alone, but for the seat that a split makes or a join ends
 abbrev pub StepsLocal : Type 0
 StepsLocal = (s : Setup) (a b : State) → Step s a b → IsLocal s a.words a.seats a.views b
+
+-- a write of a reader's pass leaves all words but how many pins are taken, and RELEASED
+abbrev pub ReaderLeaves : Words → Words → Type 0
+ReaderLeaves w b = (b.round ≡ w.round) × (b.cursor ≡ w.cursor) × (b.free ≡ w.free) × (b.row ≡ w.row) × (b.claimed ≡ w.claimed) × (b.head ≡ w.head)
+    × (b.history ≡ w.history) × (b.born ≡ w.born) × (b.died ≡ w.died) × (b.name ≡ w.name)
+
+-- one of a worker's pass leaves the round, pins, FREE and the rows; CURSOR rises by 1 at most, and a claim bit that is set stays
+abbrev pub WorkerLeaves : Words → Words → Type 0
+WorkerLeaves w b = (b.round ≡ w.round) × (b.taken ≡ w.taken) × (b.free ≡ w.free) × (b.released ≡ w.released) × (b.row ≡ w.row)
+    × ((b.cursor ≡ w.cursor) ⊎ (b.cursor ≡ w.cursor + 1)) × ((x : ℕ) → (b.claimed x ≡ w.claimed x) ⊎ ((w.claimed x ≡ 0) × (b.claimed x ≡ 1)))
+
+-- and one of the owner leaves RELEASED and names; CURSOR, a claim bit and BORN of a block become nothing but 0
+abbrev pub OwnerLeaves : Words → Words → Type 0
+OwnerLeaves w b = (b.released ≡ w.released) × (b.name ≡ w.name) × ((b.cursor ≡ w.cursor) ⊎ (b.cursor ≡ 0))
+    × ((x : ℕ) → ((b.claimed x ≡ w.claimed x) ⊎ (b.claimed x ≡ 0)) × ((b.born x ≡ w.born x) ⊎ (b.born x ≡ 0)))
+
+-- the law of what a seat's write leaves as it was; in both halves the owner leaves all words
+abbrev pub WritesLeave : Type 0
+WritesLeave = (s : Setup) (w : Words) (v : Views) (j : ℕ) (u : Write) → MayWrite s w v j u → ((j ≡ 0 → ⊥) → (v.kind j ≡ Reader → ReaderLeaves w (written w u))
+    × (v.kind j ≡ Worker → WorkerLeaves w (written w u)))
+    × (v.kind j ≡ Owner → OwnerLeaves w (written w u) × ((v.ruling.phase ≡ FirstHalf) ⊎ (v.ruling.phase ≡ SecondHalf) → written w u ≡ w))
+
+-- the block was drawn and is in no chain
+abbrev pub IsLoose : (ℕ → Life) → ℕ → Type 0
+IsLoose life c = (u : ℕ) × (life c ≡ Loose u)
+
+-- From w to b a worker's pass has changed HISTORY and NAME words of a block in no chain alone; DIED of such a block, or from 0 to the current
+-- round; BORN from 0 to the current round; and LINK words of children of a block in no chain, or so that they name a block with BORN 0
+abbrev pub WorkerChanges : ℕ → (ℕ → Life) → Words → Words → Type 0
+WorkerChanges e life w b = ((h : ℕ) → ((b.history h ≡ w.history h) × (b.name h ≡ w.name h)) ⊎ ((c : ℕ) × (t : Bool) × (h ≡ member_of c t) × IsLoose life c))
+    × ((c : ℕ) → (b.died c ≡ w.died c) ⊎ IsLoose life c ⊎ ((w.died c ≡ 0) × (b.died c ≡ w.round + 1)))
+    × ((c : ℕ) → (b.born c ≡ w.born c) ⊎ ((w.born c ≡ 0) × (b.born c ≡ w.round + 1)))
+    × ((x : ℕ) → (b.head x ≡ w.head x) ⊎ ((c : ℕ) × (t u : Bool) × (x ≡ child_place e c t u) × IsLoose life c)
+    ⊎ ((c : ℕ) × (w.born c ≡ 0) × (b.head x ≡ node (c + 1) 0)))
+
+-- the law that a write of a worker's pass changes blocks and LINK words of a lawful state so alone
+abbrev pub WorkersChange : Type 0
+WorkersChange = Always (λ s w n v g. (j : ℕ) (u : Write) → v.kind j ≡ Worker → MayWrite s w v j u → WorkerChanges s.elements g.life w (written w u))

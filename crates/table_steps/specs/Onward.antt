@@ -38,15 +38,15 @@ WorkersGoOn = Always (λ s w n v g. (j x k : ℕ) → v.kind j ≡ Worker →
     × Onward s w n v (λ b. ((b.views.work j).walk ≡ Still) × HasEntry (b.views.work j).known k × HasChildren s (b.views.work j).found k c t))
     ⊎ Onward s w n v (λ b. ((b.views.work j).walk ≡ Still) × HasEntry (b.views.work j).had (c, k) × HasChildren s (b.views.work j).stood k c t)))
 
--- the law that a reader's walk does: it ends with the note that the name is not bisected at the
--- pinned round, or goes to the block, and there finds the name bisected, or passes by
+-- the law that a reader's walk does: it ends with the note that the name is not bisected at the pinned round, or goes to the
+-- block, and there finds the name bisected, or passes by; and it keeps the retired round of the word by which it came
 abbrev pub ReadersGoOn : Type 0
 ReadersGoOn = Always (λ s w n v g. (j q x k : ℕ) → v.kind j ≡ Reader → (v.read j).pin ≡ q + 1 →
     ((l : Node) → ReadNext s w (v.read j) x k l
     → Onward s w n v (λ b. ((b.views.read j).walk ≡ Still) × HasEntry (b.views.read j).notes record { round = q; name = k; bisected = false })
-    ⊎ ((c : ℕ) × (t : Bool) × (l.block ≡ c + 1) × Onward s w n v (λ b. (b.views.read j).walk ≡ At x k c t)))
+    ⊎ ((c : ℕ) × (t : Bool) × (l.block ≡ c + 1) × Onward s w n v (λ b. ((b.views.read j).walk ≡ At x k c t) × ((b.views.read j).back ≡ l.died))))
     × ((c : ℕ) (t : Bool) → (v.read j).walk ≡ At x k c t →
-    Onward s w n v (λ b. (b.views.read j).walk ≡ Past x k c t)
+    Onward s w n v (λ b. ((b.views.read j).walk ≡ Past x k c t) × ((b.views.read j).back ≡ (v.read j).back))
     ⊎ Onward s w n v (λ b. ((b.views.read j).walk ≡ Still) × HasEntry (b.views.read j).notes record { round = q; name = k; bisected = true }
     × HasChildren s (b.views.read j).places k c t)))
 

@@ -1,7 +1,7 @@
 //! Laws over the definitions alone.
 ghost use Rattle.table_steps.specs.WalkLaws.{NextNamed};
 ghost use Rattle.table_steps.specs.Steps.{StepsKeep};
-ghost use Rattle.table_steps.specs.Local.{StepsLocal};
+ghost use Rattle.table_steps.specs.Local.{StepsLocal, WorkersChange, WritesLeave};
 ghost use Rattle.table_steps.specs.Reuse.{StepsSpare};
 ghost use Rattle.table_steps.specs.Onward.{ClaimsGoBack, ClaimsGoOn, PassesJoined, PassesMade, PinsFit, PinsGoOn, ReadersGoOn, ReadyBelow, SinglesGoOn, WorkersGoOn};
 ghost use Rattle.table_steps.specs.OnwardSweeps.{SweepsGoOn};
@@ -13,6 +13,8 @@ pub fn laws()
     ensures next { NextNamed }
     ensures steps { StepsKeep }
     ensures local { StepsLocal }
+    ensures leave { WritesLeave }
+    ensures change { WorkersChange }
     ensures spare { StepsSpare }
     ensures workers { WorkersGoOn }
     ensures readers { ReadersGoOn }

@@ -5,7 +5,8 @@
 //! taken, and the words and views after it. `Step` is any of them. `StepsKeep` leads from a lawful
 //! state to a lawful one, so the rule holds between any two steps of any seats. `StepsLocal` says that
 //! a step makes at most one write, one that its seat may make, and changes the view of its seat;
-//! `StepsSpare` that it leaves alone the blocks to which walks go.
+//! `WritesLeave` and `WorkersChange` what such a write leaves as it was, and `StepsSpare` that a step
+//! leaves alone the blocks to which walks go.
 //!
 //! # There are steps
 //!
@@ -13,7 +14,8 @@
 //! steps there are from each lawful state, and what the seat knows after them.
 //!
 //! - A walk goes on, ends, or finds the name bisected, whatever its next word or BORN is
-//!   (`WorkersGoOn`, `ReadersGoOn`, and `GrownGoesOn` for blocks that were born in the round).
+//!   (`WorkersGoOn`, `ReadersGoOn`, and `GrownGoesOn` for blocks that were born in the round). A reader's
+//!   walk keeps the retired round by which it came, so that a loop over it has a measure.
 //! - A reader's pass sees the round, pins it, and gives its pin back, and is ready exactly below the
 //!   limit (`PinsGoOn`, `ReadyBelow`, `PinsFit`).
 //! - Passes are made beside others, and joined with all that they knew (`PassesMade`, `PassesJoined`).

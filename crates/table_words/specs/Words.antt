@@ -9,7 +9,7 @@ use Rattle.table_words.specs.Layout.{TableWord, Round, Cursor, FreeCount, Releas
 use Rattle.table_words.specs.Layout.{content}
 use Rattle.table_words.specs.Places.{member_of, child_place, place_count, place_at}
 
--- what a LINK or HISTORY word names: one more than a block, or 0 for none, and its retired round
+-- the version of a place that a LINK or HISTORY word names: one more than its block, or 0 for none, and its retired round
 pub record Node : Type 0 where
   pub block : ℕ
   pub died : ℕ

@@ -1,5 +1,6 @@
 use Rattle.table_steps.proofs.StepsKeep.{next_named, steps_keep}
 use Rattle.table_steps.proofs.Local.{steps_local}
+use Rattle.table_steps.proofs.WritesLeave.{workers_change, writes_leave}
 use Rattle.table_steps.proofs.Reuse.{steps_spare}
 use Rattle.table_steps.proofs.Onward.{workers_go_on, readers_go_on, pins_go_on, ready_below, pins_fit, passes_made, passes_joined, claims_go_on, singles_go_on, claims_go_back}
 use Rattle.table_steps.proofs.OnwardRounds.{loads_go_on, fills_go_on, retiring_goes_on, rounds_go_on, notes_go_on, rows_go_on, grown_goes_on}
@@ -14,6 +15,12 @@ returns-clause-steps c = steps_keep
 
 pub returns-clause-local : goal.returns-clause-local
 returns-clause-local c = steps_local
+
+pub returns-clause-leave : goal.returns-clause-leave
+returns-clause-leave c = writes_leave
+
+pub returns-clause-change : goal.returns-clause-change
+returns-clause-change c = workers_change
 
 pub returns-clause-spare : goal.returns-clause-spare
 returns-clause-spare c = steps_spare
