@@ -5,8 +5,6 @@
 #[cfg(test)]
 mod commands;
 #[cfg(test)]
-mod corner;
-#[cfg(test)]
 mod files;
 #[cfg(test)]
 mod forests;
