@@ -26,6 +26,7 @@ mod Whole
 mod Firsts
 mod OneGrading
 mod Causes
-mod Halving
+mod AskingNoGrades
+pub mod Halving
 mod Placing
 mod Exact

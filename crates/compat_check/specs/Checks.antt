@@ -150,3 +150,15 @@ IsCheckRefusal text (NeighboursDiffer r k) = IsValidText text × (text.neighbour
 IsCheckRefusal text (Incompatible r k) = IsFaultless text × IsFirstEdge (count_of text) (IsUngradable (triples_of text)) r k
 IsCheckRefusal text (GradeTooHigh r grade) = IsFaultless text × IsTooHigh (triples_of text) r grade
 IsCheckRefusal text Memory = Unit {0}
+
+-- the refusal is of the triangulation, and not of its refinement edges
+abbrev pub AsksNoGrades : CheckRefusal → Type 0
+AsksNoGrades (Incompatible r k) = ⊥
+AsksNoGrades (GradeTooHigh r grade) = ⊥
+AsksNoGrades refusal = Unit {0}
+
+-- the labels of the edges: those that are given, or else 1 on the boundary and 0 inside
+pub record AreEdgeLabels (text : MacroText) (labels : List (List ℤ)) : Type 0 where
+  pub given : text.labels_given ≡ true → labels ≡ map (λ (e : MacroElem). e.labels) text.elements.items
+  pub each : text.labels_given ≡ false → length labels ≡ count_of text
+  pub made : text.labels_given ≡ false → (r k : ℕ) → r < count_of text → k < 3 → slice_index_or (slice_index_or labels r []) k (pos 0) ≡ made_label (across_of (bare (triples_of text)) r (edge_of k))

@@ -20,7 +20,7 @@ use macro_file::{MacroElem, MacroText, MacroVertex};
 use mesh_names::laws;
 use std::alloc::{AllocError, Global};
 
-fn corners_of(alloc: Global, elements: &[MacroElem]) -> Result<Vec<[u32; 3]>, AllocError>
+pub(crate) fn corners_of(alloc: Global, elements: &[MacroElem]) -> Result<Vec<[u32; 3]>, AllocError>
     ensures { IfOk result (λ triples. triples.items ≡ map (λ e. e.corners) elements.now) }
 {
     let mut triples = Vec::new(alloc);
@@ -208,7 +208,7 @@ fn first_differing(elements: &[MacroElem], sides: &[Option<Side>]) -> Option<usi
     None
 }
 
-fn check_neighbours(
+pub(crate) fn check_neighbours(
     given: bool,
     elements: &[MacroElem],
     sides: &[Option<Side>],
@@ -231,7 +231,7 @@ fn check_neighbours(
 }
 
 // The labels that were given, or else those that the sides make.
-fn labels(
+pub(crate) fn labels(
     alloc: Global,
     given: bool,
     elements: &[MacroElem],
@@ -248,8 +248,8 @@ fn labels(
     made_labels(alloc, sides, elements.len() as u32)
 }
 
-// The faults that bisection does not look at: all but those of grades and of given neighbours.
-fn check_valid(
+// The table of sides, where there is none of the faults but those of given neighbours and of grades.
+pub(crate) fn valid_sides(
     alloc: Global,
     vertices: &[MacroVertex],
     triples: &[[u32; 3]],
@@ -278,7 +278,7 @@ pub fn check(alloc: Global, text: MacroText) -> Result<MacroMesh, CheckRefusal>
         neighbours_given,
     } = text;
     let triples = corners_of(alloc, &elements)?;
-    let sides = check_valid(alloc, &vertices, &triples)?;
+    let sides = valid_sides(alloc, &vertices, &triples)?;
     check_neighbours(neighbours_given, &elements, &sides)?;
     let grades = check_grades(alloc, &sides, triples.len() as u32)?;
     let labels = labels(alloc, labels_given, &elements, &sides)?;

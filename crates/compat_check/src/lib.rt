@@ -20,7 +20,9 @@ pub mod steps;
 mod tests;
 mod triples;
 mod twins;
+pub mod validity;
 
 pub use checking::check;
 pub use mesh::MacroMesh;
 pub use refusal::CheckRefusal;
+pub use validity::{check_valid, edge_labels};

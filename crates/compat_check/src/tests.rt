@@ -1,6 +1,6 @@
 //! What a checked mesh tells: the square of two triangles, and the same with one of them turned.
-use crate::{MacroMesh, check};
-use macro_file::read_macro;
+use crate::{CheckRefusal, MacroMesh, check, check_valid, edge_labels};
+use macro_file::{MacroText, read_macro};
 use mesh_names::name::ElemName;
 use mesh_names::patch::{PatchName, VertexKey};
 use std::alloc::{AllocError, Global};
@@ -23,11 +23,22 @@ element vertices: 2 0 1 2 3 0
 element boundaries: 5 6 0 7 0 -8
 ";
 
-fn mesh_of(alloc: Global, text: &str) -> Result<MacroMesh, AllocError> {
+/// Four triangles round a centre, whose refinement edges all point to it.
+const WHEEL: &str = "number of vertices: 5
+number of elements: 4
+vertex coordinates: 0 0 2 0 2 2 0 2 1 1
+element vertices: 0 4 1 1 4 2 2 4 3 3 4 0
+";
+
+fn text_of(alloc: Global, text: &str) -> Result<MacroText, AllocError> {
     if text.len() > 1000 {
         return Err(AllocError);
     }
-    let text = read_macro(alloc, text.as_bytes()).map_err(|_| AllocError)?;
+    read_macro(alloc, text.as_bytes()).map_err(|_| AllocError)
+}
+
+fn mesh_of(alloc: Global, text: &str) -> Result<MacroMesh, AllocError> {
+    let text = text_of(alloc, text)?;
     check(alloc, text).map_err(|_| AllocError)
 }
 
@@ -113,5 +124,47 @@ element boundaries: 5 6 7
     assert_eq!(rt; mesh.points(child), points);
     assert_eq!(rt; mesh.labels(child), [0, 7, 5]);
     assert_eq!(rt; mesh.labels(child.child(0)), [5, 0, 7]);
+    Ok(())
+}
+
+#[test]
+fn a_wheel_is_a_triangulation_on_which_bisection_is_not_defined(
+    rt: HostRuntime,
+) -> Result<(), Fail> {
+    let text = text_of(rt.alloc(), WHEEL)?;
+    assert_eq!(rt; check_valid(rt.alloc(), &text), Ok(()));
+    let refused = check(rt.alloc(), text).err();
+    let third = CheckRefusal::Incompatible {
+        element: 2,
+        edge: 0,
+    };
+    assert_eq!(rt; refused, Some(third));
+    Ok(())
+}
+
+#[test]
+fn labels_that_are_not_given_are_1_on_the_boundary(rt: HostRuntime) -> Result<(), Fail> {
+    let text = text_of(rt.alloc(), WHEEL)?;
+    let labels = edge_labels(rt.alloc(), &text).map_err(|_| AllocError)?;
+    assert_eq!(rt; labels.as_slice(), [[0, 1, 0]; 4].as_slice());
+    let given = text_of(rt.alloc(), TURNED_SQUARE)?;
+    let labels = edge_labels(rt.alloc(), &given).map_err(|_| AllocError)?;
+    assert_eq!(rt; labels.as_slice(), [[5, 6, 0], [7, 0, -8]].as_slice());
+    Ok(())
+}
+
+#[test]
+fn an_element_given_twice_is_no_triangulation(rt: HostRuntime) -> Result<(), Fail> {
+    let twice = "number of vertices: 3
+number of elements: 2
+vertex coordinates: 0 0 1 0 0 1
+element vertices: 0 1 2 1 2 0
+";
+    let text = text_of(rt.alloc(), twice)?;
+    let twins = CheckRefusal::TwinElements {
+        first: 0,
+        second: 1,
+    };
+    assert_eq!(rt; check_valid(rt.alloc(), &text), Err(twins));
     Ok(())
 }
