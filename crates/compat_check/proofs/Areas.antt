@@ -1,5 +1,5 @@
--- A triangle is flat where two rectangles have one area.
-use Rattle.std.proofs.Common.{◌≡◌, ℕ, ◌<◌, eqb, List, sym, ap, ◌∙◌, arith, eq-eqb, eqb-true, ◌≤◌, inl, inr, ⊎_elim, lit<}
+-- Three points lie on a line where two rectangles have one area.
+use Rattle.std.proofs.Common.{◌≡◌, ℕ, ◌<◌, eqb, Bool, List, sym, subst, ap, ◌∙◌, arith, eq-eqb, eqb-true, ◌≤◌, inl, inr, ⊎_elim, lit<}
 use Rattle.std.specs.Prelude.{ℤ, pos, ◌-ℤ◌, ◌*ℤ◌, ◌↔◌, IsTrue, Some, slice_get}
 use Rattle.std.specs.Int.{w64, w128}
 use Rattle.std.proofs.lemmas.Int.{to_z-of_z, ints, fits_signed_mul, fits_signed_from_abs}
@@ -20,14 +20,17 @@ no_difference p q e = omega (arith, ints)
 same_from_difference : (p q : ℤ) → p -ℤ q ≡ pos 0 → p ≡ q
 same_from_difference p q e = omega (arith, ints)
 
-pub flat_answer : (vertices : List MacroVertex) (t : Triple) (a b c : MacroVertex) (p q : ℤ) → slice_get vertices (corner_of t 0) ≡ Some a → slice_get vertices (corner_of t 1) ≡ Some b → slice_get vertices (corner_of t 2) ≡ Some c → SFits w128 p → SFits w128 q →
-    p ≡ (b.x -ℤ a.x) *ℤ (c.y -ℤ a.y) → q ≡ (c.x -ℤ a.x) *ℤ (b.y -ℤ a.y) → (IsTrue (eqb (of_z w128 p) (of_z w128 q)) ↔ IsFlat vertices t)
-flat_answer vertices t a b c p q ha hb hc fp fq ep eq =
-    let area : doubled_area (point_at vertices (corner_of t 0)) (point_at vertices (corner_of t 1)) (point_at vertices (corner_of t 2)) ≡ p -ℤ q =
-    (λ i. doubled_area (point_of (ha i)) (point_of (hb i)) (point_of (hc i))) ∙ (λ i. sym ep i -ℤ sym eq i) in (
+pub line_answer : (a b c : MacroVertex) (p q : ℤ) → SFits w128 p → SFits w128 q → p ≡ (b.x -ℤ a.x) *ℤ (c.y -ℤ a.y) → q ≡ (c.x -ℤ a.x) *ℤ (b.y -ℤ a.y) →
+    (IsTrue (eqb (of_z w128 p) (of_z w128 q)) ↔ (doubled_area (a.x, a.y) (b.x, b.y) (c.x, c.y) ≡ pos 0))
+line_answer a b c p q fp fq ep eq =
+    let area : doubled_area (a.x, a.y) (b.x, b.y) (c.x, c.y) ≡ p -ℤ q = λ i. sym ep i -ℤ sym eq i in (
       λ h. area ∙ no_difference p q (same_bits p q fp fq (eqb-true (of_z w128 p) (of_z w128 q) h)),
       λ h. eq-eqb (of_z w128 p) (of_z w128 q) (ap (of_z w128) (same_from_difference p q (sym area ∙ h))),
     )
+
+pub flat_answer : (vertices : List MacroVertex) (t : Triple) (a b c : MacroVertex) (flat : Bool) → slice_get vertices (corner_of t 0) ≡ Some a → slice_get vertices (corner_of t 1) ≡ Some b → slice_get vertices (corner_of t 2) ≡ Some c →
+    (IsTrue flat ↔ (doubled_area (a.x, a.y) (b.x, b.y) (c.x, c.y) ≡ pos 0)) → (IsTrue flat ↔ IsFlat vertices t)
+flat_answer vertices t a b c flat ha hb hc h = subst (λ (y : (ℤ × ℤ) × (ℤ × ℤ) × (ℤ × ℤ)). IsTrue flat ↔ (doubled_area y.0 y.1 y.2 ≡ pos 0)) (λ i. (point_of (sym ha i), point_of (sym hb i), point_of (sym hc i))) h
 
 inside : (count k : ℕ) → (count ≤ k → ⊥) → k < count
 inside count k h = ⊎_elim (λ x. x) (λ y. absurd (h y)) (cases_lt k count)

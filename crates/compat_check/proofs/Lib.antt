@@ -6,7 +6,7 @@ mod Vertices
 mod Ranks
 mod Links
 mod Meetings
-mod Areas
+pub mod Areas
 mod Sorted3
 mod Stepping
 mod TwinKeys

@@ -18,11 +18,12 @@ pub mod refusal;
 pub mod steps;
 #[cfg(test)]
 mod tests;
-mod triples;
+pub mod triples;
 mod twins;
 pub mod validity;
 
 pub use checking::check;
 pub use mesh::MacroMesh;
 pub use refusal::CheckRefusal;
+pub use triples::are_in_line;
 pub use validity::{check_valid, edge_labels};

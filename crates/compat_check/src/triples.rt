@@ -1,7 +1,7 @@
-//! Faults of single elements.
-ghost use Rattle.std.specs.Prelude.{◌≡◌, ◌-ℤ◌, ◌*ℤ◌, ◌↔◌, IsTrue, None, length};
+//! Triangles without area, and the other faults of single elements.
+ghost use Rattle.std.specs.Prelude.{◌≡◌, ◌-ℤ◌, ◌*ℤ◌, ◌↔◌, IsTrue, None, length, pos};
 ghost use Rattle.macro_file.specs.Limits.{AtMost};
-ghost use Rattle.compat_check.specs.Faults.{IsFirst, IsFlat, IsOutside, IsRepeated, triple_in};
+ghost use Rattle.compat_check.specs.Faults.{IsFirst, IsFlat, IsOutside, IsRepeated, doubled_area, triple_in};
 
 use macro_file::MacroVertex;
 
@@ -34,14 +34,22 @@ fn rectangle(from: &MacroVertex, across: &MacroVertex, up: &MacroVertex) -> i128
     span(from.x, across.x) * span(from.y, up.y)
 }
 
+/// Whether three vertices lie on a line.
+pub fn are_in_line(first: &MacroVertex, second: &MacroVertex, third: &MacroVertex) -> bool
+    ensures { IsTrue result ↔ (doubled_area (first.now.x, first.now.y) (second.now.x, second.now.y) (third.now.x, third.now.y) ≡ pos 0) }
+{
+    rectangle(first, second, third) == rectangle(first, third, second)
+}
+
 fn is_flat(vertices: &[MacroVertex], triple: &[u32; 3]) -> bool
     requires { IsOutside (length vertices.now) triple.now → ⊥ }
     ensures { IsTrue result ↔ IsFlat vertices.now triple.now }
 {
-    let first = &vertices[triple[0] as usize];
-    let second = &vertices[triple[1] as usize];
-    let third = &vertices[triple[2] as usize];
-    rectangle(first, second, third) == rectangle(first, third, second)
+    are_in_line(
+        &vertices[triple[0] as usize],
+        &vertices[triple[1] as usize],
+        &vertices[triple[2] as usize],
+    )
 }
 
 /// The first element with a corner that is no vertex.

@@ -1,4 +1,4 @@
-use Rattle.std.proofs.Common.{refl, rules, length}
+use Rattle.std.proofs.Common.{refl, length}
 use Rattle.std.proofs.lemmas.Option.{slice_get_read}
 use Rattle.mesh_names.specs.Triangles.{corner_of}
 use Rattle.compat_check.proofs.Areas.{corners_inside, flat_answer}
@@ -8,8 +8,8 @@ pub returns : goal.returns
 returns c =
     let vertices = c.args.vertices.now in
     let inside = corners_inside (length vertices) c.args.triple.now c.requires in
-    flat_answer vertices c.args.triple.now c.index-vertices-triple.result c.index-vertices-triple-2.result c.index-vertices-triple-3.result c.rectangle.result c.rectangle-2.result
+    flat_answer vertices c.args.triple.now c.index-vertices-triple.result c.index-vertices-triple-2.result c.index-vertices-triple-3.result c.are_in_line.result
     (slice_get_read vertices (length vertices) (corner_of c.args.triple.now 0) c.index-vertices-triple.result refl inside.0 c.index-vertices-triple.is)
     (slice_get_read vertices (length vertices) (corner_of c.args.triple.now 1) c.index-vertices-triple-2.result refl inside.1 c.index-vertices-triple-2.is)
     (slice_get_read vertices (length vertices) (corner_of c.args.triple.now 2) c.index-vertices-triple-3.result refl inside.2 c.index-vertices-triple-3.is)
-    (search rules) (search rules) c.rectangle.ensures c.rectangle-2.ensures
+    c.are_in_line.ensures
