@@ -23,7 +23,7 @@ mod Lows
 mod Graded
 mod Labelling
 mod Whole
-mod Firsts
+pub mod Firsts
 mod OneGrading
 mod Causes
 mod AskingNoGrades

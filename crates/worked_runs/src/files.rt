@@ -94,3 +94,10 @@ element vertices: 2 0 1 2 3 0
 vertex values: 1 10 100 1000
 element values: 11 -5
 ";
+
+/// An L-shaped domain, whose corner at (0, 0) is vertex 3 of each of its triangles.
+pub const L_SHAPE: &str = "number of vertices: 8
+number of elements: 6
+vertex coordinates: -1 -1 0 -1 -1 0 0 0 1 0 -1 1 0 1 1 1
+element vertices: 0 3 1 3 0 2 3 5 2 5 3 6 3 7 4 7 3 6
+";
