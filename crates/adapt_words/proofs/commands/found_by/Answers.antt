@@ -7,7 +7,7 @@ use Rattle.adapt_words.specs.Commands.{found_in}
 use Rattle.adapt_words.specs.Words.{Answers}
 use Rattle.adapt_words.specs.declared.words.WordsRefusal.{WordsRefusal}
 use Rattle.adapt_words.proofs.AnswerLemmas.{found-some, found-none, refused}
-use Rattle.adapt_words.proofs.commands.find.Goals as goal
+use Rattle.adapt_words.proofs.commands.found_by.Goals as goal
 
 pub returns-in-Ok : goal.returns-in-Ok
 returns-in-Ok c =
