@@ -1,0 +1,9 @@
+pub mod Edges
+pub mod Rows
+pub mod Halves
+pub mod Sums
+pub mod CutEdges
+pub mod Cuts
+pub mod CutTexts
+pub mod FlatPieces
+pub mod PieceTexts

@@ -1,0 +1,4 @@
+pub mod Centres
+pub mod Mended
+pub mod Refusals
+pub mod Promises
