@@ -9,3 +9,4 @@ pub mod Drawing
 pub mod SoakEnds
 pub mod MarkOutcomes
 pub mod FilesInTurn
+pub mod SoakStops

@@ -9,3 +9,4 @@ pub mod Rounds
 pub mod SoakEnds
 pub mod Soaks
 pub mod Stops
+pub mod Mending

@@ -53,6 +53,10 @@ pub fn adapt<R: Threads + Sync, S: Shelf, O: Sink, E: Sink, G: Gate + Sync>(
         Ok(Command::Soak(soak)) => end_soak(rt, alloc, &soak, out, err),
         Ok(Command::Mark(mark)) => finish(mark_text(alloc, &mark, shelf), out, err),
         Ok(Command::Mend(mend)) => finish(mend_text(alloc, &mend, shelf), out, err),
+        Ok(Command::Save(_)) => write_line(err, USAGE, 2),
+        Ok(Command::Join(_)) => write_line(err, USAGE, 2),
+        Ok(Command::Resume(_)) => write_line(err, USAGE, 2),
+        Ok(Command::Find(_)) => write_line(err, USAGE, 2),
         Err(WordsRefusal::Outside) => write_line(err, USAGE, 2),
         Err(WordsRefusal::Memory) => write_line(err, MEMORY, 1),
     }
