@@ -1,6 +1,7 @@
 -- What holds of an oriented text, and when each refusal comes.
 use Rattle.std.specs.Prelude.{◌≡◌, ℕ, ◌<◌, true, length}
 use Rattle.macro_file.specs.declared.text.MacroText.{MacroText}
+use Rattle.macro_file.specs.Text.{macro_of}
 use Rattle.mesh_names.specs.Triangles.{size, grade_of}
 use Rattle.mesh_names.specs.Partners.{Edge, Edge2}
 use Rattle.mesh_names.specs.Validity.{Shares}
@@ -8,6 +9,7 @@ use Rattle.compat_check.specs.Meshes.{Mesh}
 use Rattle.compat_check.specs.Checks.{AsksNoGrades, AtNoEdge, IsCheckRefusal, IsFaultless, IsMeshOf, NeighbourDiffers, bare, count_of, triples_of}
 use Rattle.compat_check.specs.declared.refusal.CheckRefusal.{CheckRefusal}
 use Rattle.compat_check.specs.declared.refusal.CheckRefusal.TheVariants as fault
+use Rattle.mesh_orient.specs.Turns.{IsTurned}
 use Rattle.mesh_orient.specs.declared.refusal.OrientRefusal.{OrientRefusal}
 use Rattle.mesh_orient.specs.declared.refusal.OrientRefusal.TheVariants.{Check, NotFound, Memory}
 
@@ -32,6 +34,14 @@ pub record IsPaired (text : MacroText) : Type 0 where
   pub passes : Passes text
   pub pairing : IsPairing text
   pub grades : HasNoGrades text
+
+-- what an oriented text is of its text: it has each element turned, and passes the check; where the text passed already it says the same, and else it is paired
+pub record IsOriented (text made : MacroText) : Type 0 where
+  pub turned : IsTurned text made
+  pub passes : Passes made
+  pub kept : Passes text → macro_of made ≡ macro_of text
+  pub paired : (Passes text → ⊥) → IsPaired made
+  pub neighbours : TellsNeighbours made
 
 -- when each refusal comes; want of memory and a pairing that was not found are free
 abbrev pub IsOrientRefusal : MacroText → OrientRefusal → Type 0

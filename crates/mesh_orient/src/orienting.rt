@@ -5,7 +5,7 @@ ghost use Rattle.mesh_names.specs.Triangles.{grade_of, size};
 ghost use Rattle.compat_check.specs.Checks.{IsFaultless};
 ghost use Rattle.compat_check.specs.Meshes.{shape_of};
 ghost use Rattle.compat_check.specs.declared.refusal.CheckRefusal.TheVariants as fault;
-ghost use Rattle.mesh_orient.specs.Orients.{IsOrientRefusal, IsPaired, Passes, TellsNeighbours};
+ghost use Rattle.mesh_orient.specs.Orients.{IsOrientRefusal, IsOriented, IsPaired, Passes, TellsNeighbours};
 ghost use Rattle.mesh_orient.specs.Turns.{IsTurned};
 
 use crate::pairing::shifts;
@@ -105,11 +105,7 @@ fn paired(alloc: Global, text: &MacroText) -> Result<MacroText, OrientRefusal>
 /// as it is. In any other two elements at a refinement edge have it both, and all grades are 0.
 /// Takes n log n steps for n elements, and those of the search for a pairing.
 pub fn orient(alloc: Global, text: &MacroText) -> Result<MacroText, OrientRefusal>
-    ensures turned { IfOk result (IsTurned text.now) }
-    ensures passes { IfOk result Passes }
-    ensures kept { IfOk result (λ made. Passes text.now → macro_of made ≡ macro_of text.now) }
-    ensures paired { IfOk result (λ made. (Passes text.now → ⊥) → IsPaired made) }
-    ensures neighbours { IfOk result TellsNeighbours }
+    ensures oriented { IfOk result (IsOriented text.now) }
     ensures refused { IfErr result (IsOrientRefusal text.now) }
 {
     check_triangulation(alloc, text)?;

@@ -84,3 +84,74 @@ fn what_is_incompatible_is_oriented(rt: HostRuntime) -> Result<(), Fail> {
     }
     Ok(())
 }
+
+// Elements 0 and 1 are a pair, and element 2 stays alone: it takes its edge 1.
+const FAN_ORIENTED: &str = "DIM: 2
+DIM_OF_WORLD: 2
+
+number of vertices: 4
+number of elements: 3
+
+vertex coordinates:
+0 0
+4 0
+0 4
+1 1
+
+element vertices:
+3 1 0
+1 3 2
+0 2 3
+
+element boundaries:
+5 0 0
+0 6 0
+0 0 7
+
+element neighbours:
+-1 2 1
+2 -1 0
+1 0 -1
+
+vertex values:
+1
+2
+3
+4
+
+element values:
+-1
+-2
+-3
+";
+
+#[test]
+fn labels_and_neighbours_go_along_with_their_edges(rt: HostRuntime) -> Result<(), Fail> {
+    let text = oriented(rt.alloc(), FAN)?;
+    let written = put_macro(rt.alloc(), &text).map_err(|_| AllocError)?;
+    assert_eq!(rt; written.as_slice(), FAN_ORIENTED.as_bytes());
+    Ok(())
+}
+
+#[test]
+fn what_is_accepted_stays_as_it_is(rt: HostRuntime) -> Result<(), Fail> {
+    let text = oriented(rt.alloc(), GRADED)?;
+    assert_eq!(rt; text.elements[0].corners, [2, 0, 1]);
+    assert_eq!(rt; text.elements[1].corners, [2, 3, 0]);
+    assert_eq!(rt; (text.labels_given, text.neighbours_given), (false, false));
+    assert_eq!(rt; count(rt.alloc(), GRADED)?, 1);
+    Ok(())
+}
+
+#[test]
+fn what_is_no_triangulation_is_refused(rt: HostRuntime) -> Result<(), Fail> {
+    let text = format!(in rt.alloc(); "{GRADED}element neighbours: -1 -1 1 -1 -1 0\n")?;
+    let text = text_of(rt.alloc(), text.as_str())?;
+    let refusal = orient(rt.alloc(), &text).err();
+    let fault = CheckRefusal::NeighboursDiffer {
+        element: 1,
+        edge: 1,
+    };
+    assert_eq!(rt; refusal, Some(OrientRefusal::Check { refusal: fault }));
+    Ok(())
+}
