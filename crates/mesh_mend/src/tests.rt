@@ -166,7 +166,7 @@ fn a_flat_piece_is_refused(rt: HostRuntime) -> Result<(), Fail> {
 fn wrong_neighbours_are_refused(rt: HostRuntime) -> Result<(), Fail> {
     let text = format!(in rt.alloc(); "{ONE_SIDED}element neighbours: -1 -1 1 -1 -1 0\n")?;
     let fault = CheckRefusal::NeighboursDiffer {
-        element: 0,
+        element: 1,
         edge: 1,
     };
     let cause = refusal(rt.alloc(), text.as_str())?;
