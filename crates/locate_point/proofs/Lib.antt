@@ -1,0 +1,5 @@
+pub mod Products
+pub mod Crosses
+pub mod Halves
+pub mod Splitting
+pub mod Placing

@@ -1,0 +1,52 @@
+-- Products of whole numbers: they distribute over sums and differences.
+use Rattle.std.proofs.Common.{◌≡◌, ℕ, zero, suc, refl, sym, ap, ◌∙◌, arith}
+use Rattle.std.specs.Prelude.{ℤ, pos, negsuc, ◌+ℤ◌, ◌-ℤ◌, ◌*ℤ◌}
+use Rattle.std.proofs.Math.IntN.{suc_ℤ, pred_ℤ, suc_ℤ-*ℤ, pred_ℤ-*ℤ, suc_ℤ-+ℤ, pred_ℤ-+ℤ, *ℤ_comm, zero-*ℤ}
+use Rattle.std.proofs.lemmas.Int.{ints}
+
+zero_plus : (b : ℤ) → pos 0 +ℤ b ≡ b
+zero_plus b = omega (arith, ints)
+
+grown : (a b c : ℤ) → (a +ℤ b) *ℤ c ≡ (a *ℤ c) +ℤ (b *ℤ c) → (suc_ℤ a +ℤ b) *ℤ c ≡ (suc_ℤ a *ℤ c) +ℤ (b *ℤ c)
+grown a b c known = ap (λ z. z *ℤ c) (suc_ℤ-+ℤ a b) ∙ suc_ℤ-*ℤ (a +ℤ b) c ∙ ap (λ z. z +ℤ c) known ∙ moved (a *ℤ c) (b *ℤ c) c ∙ ap (λ z. z +ℤ (b *ℤ c)) (sym (suc_ℤ-*ℤ a c))
+  where
+    moved : (x y z : ℤ) → (x +ℤ y) +ℤ z ≡ (x +ℤ z) +ℤ y
+    moved x y z = omega (arith, ints)
+
+shrunk : (a b c : ℤ) → (a +ℤ b) *ℤ c ≡ (a *ℤ c) +ℤ (b *ℤ c) → (pred_ℤ a +ℤ b) *ℤ c ≡ (pred_ℤ a *ℤ c) +ℤ (b *ℤ c)
+shrunk a b c known = ap (λ z. z *ℤ c) (pred_ℤ-+ℤ a b) ∙ pred_ℤ-*ℤ (a +ℤ b) c ∙ ap (λ z. z -ℤ c) known ∙ moved (a *ℤ c) (b *ℤ c) c ∙ ap (λ z. z +ℤ (b *ℤ c)) (sym (pred_ℤ-*ℤ a c))
+  where
+    moved : (x y z : ℤ) → (x +ℤ y) -ℤ z ≡ (x -ℤ z) +ℤ y
+    moved x y z = omega (arith, ints)
+
+zero-times : (b c : ℤ) → (pos 0 +ℤ b) *ℤ c ≡ (pos 0 *ℤ c) +ℤ (b *ℤ c)
+zero-times b c = ap (λ z. z *ℤ c) (zero_plus b) ∙ sym (zero_plus (b *ℤ c)) ∙ ap (λ z. z +ℤ (b *ℤ c)) (sym (zero-*ℤ c))
+
+-- a sum times a number
+pub sum-times : (a b c : ℤ) → (a +ℤ b) *ℤ c ≡ (a *ℤ c) +ℤ (b *ℤ c)
+sum-times (pos zero) b c = zero-times b c
+sum-times (pos (suc n)) b c = grown (pos n) b c (sum-times (pos n) b c)
+sum-times (negsuc zero) b c = shrunk (pos zero) b c (zero-times b c)
+sum-times (negsuc (suc n)) b c = shrunk (negsuc n) b c (sum-times (negsuc n) b c)
+
+-- a number times a sum
+pub times-sum : (a b c : ℤ) → a *ℤ (b +ℤ c) ≡ (a *ℤ b) +ℤ (a *ℤ c)
+times-sum a b c = *ℤ_comm a (b +ℤ c) ∙ sum-times b c a ∙ (λ i. *ℤ_comm b a i +ℤ *ℤ_comm c a i)
+
+back : (a b : ℤ) → (a -ℤ b) +ℤ b ≡ a
+back a b = omega (arith, ints)
+
+-- a difference times a number
+pub difference-times : (a b c : ℤ) → (a -ℤ b) *ℤ c ≡ (a *ℤ c) -ℤ (b *ℤ c)
+difference-times a b c = let e : ((a -ℤ b) *ℤ c) +ℤ (b *ℤ c) ≡ a *ℤ c = sym (sum-times (a -ℤ b) b c) ∙ ap (λ z. z *ℤ c) (back a b) in taken ((a -ℤ b) *ℤ c) (b *ℤ c) (a *ℤ c) e
+  where
+    taken : (x y z : ℤ) → x +ℤ y ≡ z → x ≡ z -ℤ y
+    taken x y z e = omega (arith, ints)
+
+-- a number times a difference
+pub times-difference : (a b c : ℤ) → a *ℤ (b -ℤ c) ≡ (a *ℤ b) -ℤ (a *ℤ c)
+times-difference a b c = *ℤ_comm a (b -ℤ c) ∙ difference-times b c a ∙ (λ i. *ℤ_comm b a i -ℤ *ℤ_comm c a i)
+
+-- a difference times a difference
+pub differences-times : (a b c d : ℤ) → (a -ℤ b) *ℤ (c -ℤ d) ≡ ((a *ℤ c) -ℤ (a *ℤ d)) -ℤ ((b *ℤ c) -ℤ (b *ℤ d))
+differences-times a b c d = difference-times a b (c -ℤ d) ∙ (λ i. times-difference a c d i -ℤ times-difference b c d i)
