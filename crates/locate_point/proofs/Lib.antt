@@ -3,3 +3,4 @@ pub mod Crosses
 pub mod Halves
 pub mod Splitting
 pub mod Placing
+pub mod Signs

@@ -1,7 +1,9 @@
 -- Products of whole numbers: they distribute over sums and differences.
-use Rattle.std.proofs.Common.{◌≡◌, ℕ, zero, suc, refl, sym, ap, ◌∙◌, arith}
-use Rattle.std.specs.Prelude.{ℤ, pos, negsuc, ◌+ℤ◌, ◌-ℤ◌, ◌*ℤ◌}
-use Rattle.std.proofs.Math.IntN.{suc_ℤ, pred_ℤ, suc_ℤ-*ℤ, pred_ℤ-*ℤ, suc_ℤ-+ℤ, pred_ℤ-+ℤ, *ℤ_comm, zero-*ℤ}
+use Rattle.std.proofs.Common.{◌≡◌, ℕ, zero, suc, ◌*◌, ◌≤◌, refl, sym, ap, subst, ◌∙◌, arith}
+use Rattle.std.specs.Prelude.{ℤ, pos, negsuc, ◌+ℤ◌, ◌-ℤ◌, ◌*ℤ◌, nat_abs}
+use Rattle.std.proofs.Math.IntN.{suc_ℤ, pred_ℤ, suc_ℤ-*ℤ, pred_ℤ-*ℤ, suc_ℤ-+ℤ, pred_ℤ-+ℤ, *ℤ_comm, zero-*ℤ, neg_ℤ, pos-*ℤ-pos, pos-*ℤ-negsuc, negsuc-*ℤ-pos, negsuc-*ℤ-negsuc}
+use Rattle.macro_file.specs.Limits.{AtMost}
+use Rattle.mesh_io.proofs.Powers.{mul_le}
 use Rattle.std.proofs.lemmas.Int.{ints}
 
 zero_plus : (b : ℤ) → pos 0 +ℤ b ≡ b
@@ -50,3 +52,16 @@ times-difference a b c = *ℤ_comm a (b -ℤ c) ∙ difference-times b c a ∙ (
 -- a difference times a difference
 pub differences-times : (a b c d : ℤ) → (a -ℤ b) *ℤ (c -ℤ d) ≡ ((a *ℤ c) -ℤ (a *ℤ d)) -ℤ ((b *ℤ c) -ℤ (b *ℤ d))
 differences-times a b c d = difference-times a b (c -ℤ d) ∙ (λ i. times-difference a c d i -ℤ times-difference b c d i)
+
+size-negated : (z : ℤ) → nat_abs (neg_ℤ z) ≡ nat_abs z
+size-negated z = omega (arith, ints)
+
+-- the size of a product
+pub size-times : (a b : ℤ) → nat_abs (a *ℤ b) ≡ nat_abs a * nat_abs b
+size-times (pos m) (pos n) = ap nat_abs (pos-*ℤ-pos m n)
+size-times (pos m) (negsuc n) = ap nat_abs (pos-*ℤ-negsuc m n) ∙ size-negated (pos (m * suc n))
+size-times (negsuc m) (pos n) = ap nat_abs (negsuc-*ℤ-pos m n) ∙ size-negated (pos (suc m * n))
+size-times (negsuc m) (negsuc n) = ap nat_abs (negsuc-*ℤ-negsuc m n)
+
+pub product_small : (a b : ℤ) (m n : ℕ) → AtMost m a → AtMost n b → AtMost (m * n) (a *ℤ b)
+product_small a b m n ha hb = subst (λ (k : ℕ). k ≤ m * n) (sym (size-times a b)) (mul_le (nat_abs a) m (nat_abs b) n ha hb)

@@ -3,7 +3,7 @@ ghost use Rattle.std.specs.Prelude.{◌≡◌, ◌↔◌, IsTrue, ◌-ℤ◌, �
 ghost use Rattle.macro_file.specs.Limits.{AtMost};
 ghost use Rattle.compat_check.specs.Faults.{doubled_area};
 ghost use Rattle.compat_check.specs.Within.{IsWithin};
-ghost use Rattle.locate_point.specs.Containing.{AreWithin, Contains};
+ghost use Rattle.locate_point.specs.Containing.{AreWithin, Contains, NoneAbove, NoneBelow};
 
 /// x and y in fine units, at most 4,096,000,000,000,000,000 in size.
 pub type Point = (i64, i64);
@@ -38,6 +38,20 @@ fn doubled_area(first: Point, second: Point, third: Point) -> i128
     rectangle(first, second, third) - rectangle(first, third, second)
 }
 
+// Whether one of the three is below 0.
+fn some_below(a: i128, b: i128, c: i128) -> bool
+    ensures { IsTrue result ↔ (NoneBelow (a, b, c) → ⊥) }
+{
+    a < 0 || b < 0 || c < 0
+}
+
+// Whether one of the three is above 0.
+fn some_above(a: i128, b: i128, c: i128) -> bool
+    ensures { IsTrue result ↔ (NoneAbove (a, b, c) → ⊥) }
+{
+    a > 0 || b > 0 || c > 0
+}
+
 /// Whether a triangle contains a point, inside or on an edge. A flat triangle contains none.
 ///
 /// The point's areas with the three edges make up the area of the triangle: so it is flat where all
@@ -51,7 +65,5 @@ pub fn contains(corners: Corners, point: Point) -> bool
     let a = doubled_area(second, apex, point);
     let b = doubled_area(apex, first, point);
     let c = doubled_area(first, second, point);
-    let right = a < 0 || b < 0 || c < 0;
-    let left = a > 0 || b > 0 || c > 0;
-    right != left
+    some_below(a, b, c) != some_above(a, b, c)
 }
