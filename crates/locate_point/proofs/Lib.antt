@@ -4,3 +4,8 @@ pub mod Halves
 pub mod Splitting
 pub mod Placing
 pub mod Signs
+pub mod Words
+pub mod Elements
+pub mod Descent
+pub mod Tenths
+pub mod Places

@@ -1,5 +1,5 @@
 -- Where the corners of names lie.
-use Rattle.std.proofs.Common.{◌≡◌, ◌<◌, Bool, true, false, cond, ◌∷◌, length, refl, sym, ap, ◌∙◌, arith, zero-le, subst, inl, inr, ⊎_elim}
+use Rattle.std.proofs.Common.{◌≡◌, List, ◌<◌, Bool, true, false, cond, ◌∷◌, length, refl, sym, ap, ◌∙◌, arith, zero-le, subst, inl, inr, ⊎_elim}
 use Rattle.std.specs.Prelude.{ℤ, pos, ◌+ℤ◌, Option, Some, None, slice_get}
 use Rattle.std.proofs.lemmas.Int.{ints}
 use Rattle.macro_file.specs.declared.text.MacroVertex.{MacroVertex}
@@ -7,10 +7,10 @@ use Rattle.mesh_names.specs.Names.{Name}
 use Rattle.mesh_names.specs.Triangles.{Vertex, Corner, Mid, before, middle, triangle}
 use Rattle.compat_check.specs.Faults.{point_of}
 use Rattle.compat_check.specs.Meshes.{Mesh, shape_of}
-use Rattle.compat_check.specs.Points.{Point, half, between, point, AreTenths, MidpointsExact}
-use Rattle.compat_check.specs.Within.{IsWithin}
+use Rattle.compat_check.specs.Points.{Point, half, between, point, points, AreTenths, MidpointsExact}
+use Rattle.compat_check.specs.Within.{IsWithin, corner}
 use Rattle.compat_check.proofs.Halving.{between_within}
-use Rattle.locate_point.specs.Containing.{AreWithin, corners_of}
+use Rattle.locate_point.specs.Covering.{AreWithin, corners_of}
 use Rattle.locate_point.specs.Children.{ContainsByChildren}
 use Rattle.locate_point.proofs.Splitting.{split_down, split_up}
 
@@ -49,3 +49,6 @@ by_children exact mesh tenths n short p =
       split_down (point mesh.vertices t.0) (point mesh.vertices t.1) (point mesh.vertices t.2) (point mesh.vertices (middle t.0 t.1)) p h,
       split_up (point mesh.vertices t.0) (point mesh.vertices t.1) (point mesh.vertices t.2) (point mesh.vertices (middle t.0 t.1)) p h,
     )
+
+pub points_within : (mesh : Mesh) (n : Name) (ps : List Point) → ps ≡ points mesh n → AreWithin (corner ps 0, corner ps 1, corner ps 2)
+points_within mesh n ps e = subst (λ (qs : List Point). AreWithin (corner qs 0, corner qs 1, corner qs 2)) (sym e) (corners_within mesh n)

@@ -11,7 +11,7 @@ use Rattle.macro_file.specs.Limits.{AtMost}
 use mir.Val.{to_z, of_z, SFits}
 use Rattle.compat_check.specs.Faults.{doubled_area}
 use Rattle.compat_check.specs.Points.{Point}
-use Rattle.locate_point.specs.Containing.{Corners, Contains, NoneAbove, NoneBelow, areas, doubled}
+use Rattle.locate_point.specs.Covering.{Corners, Covers, NoneAbove, NoneBelow, areas, doubled}
 use Rattle.locate_point.proofs.Halves.{areas-sum}
 use Rattle.locate_point.proofs.Products.{product_small}
 
@@ -50,7 +50,7 @@ module _ (t : Corners) (p : Point) where
   flat : NoneBelow (areas t p) → NoneAbove (areas t p) → doubled t ≡ pos 0
   flat h k = all_zero (areas t p).0 (areas t p).1 (areas t p).2 (doubled t) (areas-sum t.0 t.1 t.2 p) h k
 
-  signs : (right left : Bool) → ((right ≡ true → ⊥) → NoneBelow (areas t p)) → (right ≡ true → NoneBelow (areas t p) → ⊥) → ((left ≡ true → ⊥) → NoneAbove (areas t p)) → (left ≡ true → NoneAbove (areas t p) → ⊥) → (IsTrue (not (beq right left)) ↔ Contains t p)
+  signs : (right left : Bool) → ((right ≡ true → ⊥) → NoneBelow (areas t p)) → (right ≡ true → NoneBelow (areas t p) → ⊥) → ((left ≡ true → ⊥) → NoneAbove (areas t p)) → (left ≡ true → NoneAbove (areas t p) → ⊥) → (IsTrue (not (beq right left)) ↔ Covers t p)
   signs false false below outer above other = (λ e. absurd (false≢true e), λ k. absurd (k.thick (flat (below false≢true) (above false≢true))))
   signs false true below outer above other = (λ e. record { thick = λ z. other refl (near z (below false≢true)); within = inl (below false≢true) }, λ k. refl)
   signs true false below outer above other = (λ e. record { thick = λ z. outer refl (apart z (above false≢true)); within = inr (above false≢true) }, λ k. refl)
@@ -74,7 +74,7 @@ all_passed a b c x y z fa fb fc ea eb ec P = λ i. P ((to_z-of_z w128 a fa ∙ e
 
 pub around : (t : Corners) (p : Point) (a b c : ℤ) (right left : Bool) → SFits w128 a → SFits w128 b → SFits w128 c → a ≡ (areas t p).0 → b ≡ (areas t p).1 → c ≡ (areas t p).2 →
     ((IsTrue right → NoneBelow (passed a, passed b, passed c) → ⊥) × ((NoneBelow (passed a, passed b, passed c) → ⊥) → IsTrue right)) →
-    ((IsTrue left → NoneAbove (passed a, passed b, passed c) → ⊥) × ((NoneAbove (passed a, passed b, passed c) → ⊥) → IsTrue left)) → (IsTrue (not (beq right left)) ↔ Contains t p)
+    ((IsTrue left → NoneAbove (passed a, passed b, passed c) → ⊥) × ((NoneAbove (passed a, passed b, passed c) → ⊥) → IsTrue left)) → (IsTrue (not (beq right left)) ↔ Covers t p)
 around t p a b c right left fa fb fc ea eb ec hr hl =
     let below = all_passed a b c (areas t p).0 (areas t p).1 (areas t p).2 fa fb fc ea eb ec NoneBelow in
     let above = all_passed a b c (areas t p).0 (areas t p).1 (areas t p).2 fa fb fc ea eb ec NoneAbove in

@@ -5,7 +5,7 @@ use Rattle.std.specs.Int.Signed.{◌<ℤ◌}
 use Rattle.std.proofs.lemmas.Int.{ints, by_lt_z}
 use Rattle.compat_check.specs.Faults.{doubled_area}
 use Rattle.compat_check.specs.Points.{Point, IsHalfway}
-use Rattle.locate_point.specs.Containing.{Contains, NoneAbove, NoneBelow}
+use Rattle.locate_point.specs.Covering.{Covers, NoneAbove, NoneBelow}
 use Rattle.locate_point.proofs.Halves.{area-halfway, area-mirrored, area-turned, area-twice}
 
 -- the areas of a triangle with a point, and those of its two halves: `left` and `apart` are new in child 0, `right` and `other` in child 1
@@ -75,19 +75,19 @@ are_halves a b c m p h = record {
   second_is = (λ i. (area-turned b c m ∙ area-turned c m b) i +ℤ (area-turned b c m ∙ area-turned c m b) i) ∙ and_zero (doubled_area m b c) (doubled_area a b c) (doubled_area b b c) (area-halfway a b m b c h) (area-twice b c);
 }
 
-pub split_down : (a b c m p : Point) → IsHalfway a b m → Contains (a, b, c) p → Contains (c, a, m) p ⊎ Contains (b, c, m) p
+pub split_down : (a b c m p : Point) → IsHalfway a b m → Covers (a, b, c) p → Covers (c, a, m) p ⊎ Covers (b, c, m) p
 split_down a b c m p e k =
     let h = are_halves a b c m p e in
-    let first : NoneBelow _ ⊎ NoneAbove _ → Contains (c, a, m) p = λ w. record { thick = thick_first _ _ _ _ _ _ _ _ _ _ h k.thick; within = w } in
-    let second : NoneBelow _ ⊎ NoneAbove _ → Contains (b, c, m) p = λ w. record { thick = thick_second _ _ _ _ _ _ _ _ _ _ h k.thick; within = w } in
+    let first : NoneBelow _ ⊎ NoneAbove _ → Covers (c, a, m) p = λ w. record { thick = thick_first _ _ _ _ _ _ _ _ _ _ h k.thick; within = w } in
+    let second : NoneBelow _ ⊎ NoneAbove _ → Covers (b, c, m) p = λ w. record { thick = thick_second _ _ _ _ _ _ _ _ _ _ h k.thick; within = w } in
     ⊎_elim (λ w. ⊎_elim (λ x. inl (first (inl x))) (λ x. inr (second (inl x))) (down_below _ _ _ _ _ _ _ _ _ _ h w))
     (λ w. ⊎_elim (λ x. inl (first (inr x))) (λ x. inr (second (inr x))) (down_above _ _ _ _ _ _ _ _ _ _ h w))
     k.within
 
-pub split_up : (a b c m p : Point) → IsHalfway a b m → Contains (c, a, m) p ⊎ Contains (b, c, m) p → Contains (a, b, c) p
+pub split_up : (a b c m p : Point) → IsHalfway a b m → Covers (c, a, m) p ⊎ Covers (b, c, m) p → Covers (a, b, c) p
 split_up a b c m p e k =
     let h = are_halves a b c m p e in
     ⊎_elim
-    (λ (x : Contains (c, a, m) p). record { thick = thick_by_first _ _ _ _ _ _ _ _ _ _ h x.thick; within = ⊎_elim (λ w. inl (up_below _ _ _ _ _ _ _ _ _ _ h w)) (λ w. inr (up_above _ _ _ _ _ _ _ _ _ _ h w)) x.within })
-    (λ (x : Contains (b, c, m) p). record { thick = thick_by_second _ _ _ _ _ _ _ _ _ _ h x.thick; within = ⊎_elim (λ w. inl (over_below _ _ _ _ _ _ _ _ _ _ h w)) (λ w. inr (over_above _ _ _ _ _ _ _ _ _ _ h w)) x.within })
+    (λ (x : Covers (c, a, m) p). record { thick = thick_by_first _ _ _ _ _ _ _ _ _ _ h x.thick; within = ⊎_elim (λ w. inl (up_below _ _ _ _ _ _ _ _ _ _ h w)) (λ w. inr (up_above _ _ _ _ _ _ _ _ _ _ h w)) x.within })
+    (λ (x : Covers (b, c, m) p). record { thick = thick_by_second _ _ _ _ _ _ _ _ _ _ h x.thick; within = ⊎_elim (λ w. inl (over_below _ _ _ _ _ _ _ _ _ _ h w)) (λ w. inr (over_above _ _ _ _ _ _ _ _ _ _ h w)) x.within })
     k

@@ -3,7 +3,7 @@ use Rattle.std.specs.Prelude.{◌↔◌, ◌⊎◌, ◌<◌, true, false, ◌∷
 use Rattle.mesh_names.specs.Names.{Name}
 use Rattle.compat_check.specs.Meshes.{Mesh}
 use Rattle.compat_check.specs.Points.{Point, AreTenths}
-use Rattle.locate_point.specs.Containing.{IsAround}
+use Rattle.locate_point.specs.Covering.{IsAround}
 
 -- the law that with exact midpoints a triangle contains a point exactly where one of its children does
 abbrev pub ContainsByChildren : Type 0

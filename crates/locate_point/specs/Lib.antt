@@ -1,2 +1,3 @@
-pub mod Containing
+pub mod Covering
 pub mod Children
+pub mod Locating

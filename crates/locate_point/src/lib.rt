@@ -1,5 +1,11 @@
 #![tactic(auto)]
 //! Point location: which leaf of a bisected mesh contains a point. All is exact, on whole numbers.
 
+mod exact;
 pub mod laws;
-pub mod triangle;
+mod plain;
+mod triangle;
+
+pub use exact::is_exact;
+pub use plain::find_plain;
+pub use triangle::{Corners, Point, contains};

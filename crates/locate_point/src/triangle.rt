@@ -1,9 +1,14 @@
 //! Triangles and points.
-ghost use Rattle.std.specs.Prelude.{◌≡◌, ◌↔◌, IsTrue, ◌-ℤ◌, ◌*ℤ◌};
+ghost use Rattle.std.specs.Prelude.{◌≡◌, ◌↔◌, IsTrue, ◌-ℤ◌, ◌*ℤ◌, ◌<◌};
 ghost use Rattle.macro_file.specs.Limits.{AtMost};
 ghost use Rattle.compat_check.specs.Faults.{doubled_area};
 ghost use Rattle.compat_check.specs.Within.{IsWithin};
-ghost use Rattle.locate_point.specs.Containing.{AreWithin, Contains, NoneAbove, NoneBelow};
+ghost use Rattle.locate_point.specs.Covering.{AreWithin, Covers, NoneAbove, NoneBelow, corners_of};
+ghost use Rattle.mesh_names.specs.Triangles.{size};
+ghost use Rattle.compat_check.specs.Meshes.{shape_of};
+
+use compat_check::MacroMesh;
+use mesh_names::name::ElemName;
 
 /// x and y in fine units, at most 4,096,000,000,000,000,000 in size.
 pub type Point = (i64, i64);
@@ -59,11 +64,21 @@ fn some_above(a: i128, b: i128, c: i128) -> bool
 pub fn contains(corners: Corners, point: Point) -> bool
     requires corners { AreWithin corners }
     requires point { IsWithin point }
-    ensures { IsTrue result ↔ Contains corners point }
+    ensures { IsTrue result ↔ Covers corners point }
 {
     let (first, second, apex) = corners;
     let a = doubled_area(second, apex, point);
     let b = doubled_area(apex, first, point);
     let c = doubled_area(first, second, point);
     some_below(a, b, c) != some_above(a, b, c)
+}
+
+// Where the corners of a name lie.
+pub(crate) fn corners_of(mesh: &MacroMesh, name: ElemName) -> Corners
+    requires { name.0 < size (shape_of mesh.now) }
+    ensures corners { result ≡ corners_of mesh.now name }
+    ensures within { AreWithin result }
+{
+    let [first, second, apex] = mesh.points(name);
+    (first, second, apex)
 }

@@ -28,7 +28,7 @@ abbrev pub NoneAbove : ℤ × ℤ × ℤ → Type 0
 NoneAbove a = (a.0 ≤ℤ pos 0) × (a.1 ≤ℤ pos 0) × (a.2 ≤ℤ pos 0)
 
 -- the triangle contains the point: it is not flat, and the point lies on no edge's outer side; a point on an edge is contained
-pub record Contains (t : Corners) (p : Point) : Type 0 where
+pub record Covers (t : Corners) (p : Point) : Type 0 where
   pub thick : doubled t ≡ pos 0 → ⊥
   pub within : NoneBelow (areas t p) ⊎ NoneAbove (areas t p)
 
@@ -38,7 +38,7 @@ corners_of mesh n = let t = triangle (shape_of mesh) n in (point mesh.vertices t
 
 -- the triangle of the name contains the point
 abbrev pub IsAround : Mesh → Point → Name → Type 0
-IsAround mesh p n = Contains (corners_of mesh n) p
+IsAround mesh p n = Covers (corners_of mesh n) p
 
 -- no corner lies outside of the range of the coordinates
 abbrev pub AreWithin : Corners → Type 0

@@ -1,0 +1,69 @@
+-- The way down from a macro triangle to the least leaf around a point.
+use Rattle.std.proofs.Common.{◌≡◌, ◌⊎◌, ℕ, zero, suc, ◌+◌, ◌<◌, ◌≤◌, Bool, true, false, List, [], ◌∷◌, ◌++◌, length, reverse, refl, sym, ap, subst, ◌∙◌, arith, inl, inr, ⊎_elim, get_or}
+use Rattle.std.proofs.lemmas.List.{append-nil}
+use Rattle.std.specs.Cmp.{nat_cmp_is}
+use Rattle.std.specs.List.{Contains}
+use Rattle.std.specs.Prelude.{Option, Some, None, ◌↔◌}
+use Rattle.mesh_names.specs.Names.{Name, name_cmp}
+use Rattle.mesh_names.specs.Triangles.{size}
+use Rattle.mesh_names.specs.Forests.{Names, Has, IsLeaf}
+use Rattle.compat_check.specs.Meshes.{Mesh, shape_of}
+use Rattle.compat_check.specs.Points.{Point, AreTenths}
+use Rattle.locate_point.specs.Covering.{IsAround}
+use Rattle.locate_point.specs.Children.{ContainsByChildren}
+use Rattle.locate_point.specs.Locating.{AreLeavesOf, IsAtMost, IsPlace, LiesOutside}
+use Rattle.locate_point.proofs.Words.{first_child_low, second_child_low, top_low}
+use Rattle.locate_point.proofs.Elements.{IsElement, leaf-listed, listed-leaf, leaf-short, unlisted-member, member-short, child-element, top-element}
+
+-- a triangle around a point lies below triangles around it
+pub around_above : ContainsByChildren → (mesh : Mesh) → AreTenths mesh.vertices → (p : Point) (r : ℕ) (w v : List Bool) → length (w ++ v) ≤ 24 → IsAround mesh p (r, w ++ v) → IsAround mesh p (r, v)
+around_above law mesh tenths p r [] v short h = h
+around_above law mesh tenths p r (false ∷ w) v short h = around_above law mesh tenths p r w v (omega (arith, short)) ((law mesh tenths (r, w ++ v) (omega (arith, short)) p).1 (inl h))
+around_above law mesh tenths p r (true ∷ w) v short h = around_above law mesh tenths p r w v (omega (arith, short)) ((law mesh tenths (r, w ++ v) (omega (arith, short)) p).1 (inr h))
+
+-- the name is on the way to the least leaf around the point
+pub record IsOnWay (mesh : Mesh) (list : List Name) (p : Point) (n : Name) : Type 0 where
+  pub around : IsAround mesh p n
+  pub element : (members : Names) → AreLeavesOf mesh members list → IsElement mesh members n
+  pub least : (m : Name) → Contains list m → IsAround mesh p m → IsAtMost n m
+
+module _ (law : ContainsByChildren) (mesh : Mesh) (tenths : AreTenths mesh.vertices) (members : Names) (list : List Name) (are : AreLeavesOf mesh members list) (p : Point) where
+  -- to the child that is chosen
+  pub step : (n : Name) (side : Bool) → IsOnWay mesh list p n → (Contains list n → ⊥) → (side ≡ false → IsAround mesh p (n.0, false ∷ n.1)) → (side ≡ true → IsAround mesh p (n.0, false ∷ n.1) → ⊥) → IsOnWay mesh list p (n.0, side ∷ n.1)
+  step n false way unlisted at first = record {
+    around = at refl;
+    element = λ ms its. child-element mesh ms list its n false (unlisted-member mesh ms list its n (way.element ms its) unlisted);
+    least = λ m there h. first_child_low n m (way.least m there h) (λ e. unlisted (subst (Contains list) (sym e) there));
+  }
+  step n true way unlisted at other =
+      let member = unlisted-member mesh members list are n (way.element members are) unlisted in
+      let child : IsAround mesh p (n.0, false ∷ n.1) ⊎ IsAround mesh p (n.0, true ∷ n.1) = (law mesh tenths n (member-short mesh members list are n member) p).0 way.around in
+      record {
+        around = ⊎_elim (λ h. absurd (other refl h)) (λ h. h) child;
+        element = λ ms its. child-element mesh ms list its n true (unlisted-member mesh ms list its n (way.element ms its) unlisted);
+        least = λ m there h. ⊎_elim (λ low. low)
+            (λ (below : (w : List Bool) × (m ≡ (n.0, w ++ false ∷ n.1))).
+            let short : length m.1 ≤ 24 = leaf-short mesh members list are m (listed-leaf mesh members list are m there) in
+            absurd (other refl (around_above law mesh tenths p n.0 below.0 (false ∷ n.1) (subst (λ (k : Name). length k.1 ≤ 24) below.1 short) (subst (IsAround mesh p) below.1 h))))
+            (second_child_low n m (way.least m there h) (λ e. unlisted (subst (Contains list) (sym e) there)));
+      }
+
+  -- the macro triangle above a leaf around the point
+  pub top_around : (m : Name) → Contains list m → IsAround mesh p m → IsAround mesh p (m.0, [])
+  top_around m there h = around_above law mesh tenths p m.0 m.1 [] (subst (λ (w : List Bool). length w ≤ 24) (sym (append-nil m.1)) (leaf-short mesh members list are m (listed-leaf mesh members list are m there))) (subst (λ (w : List Bool). IsAround mesh p (m.0, w)) (sym (append-nil m.1)) h)
+
+  -- the first macro triangle around the point
+  pub start : (r : ℕ) → r < size (shape_of mesh) → IsAround mesh p (r, []) → ((q : ℕ) → q < r → IsAround mesh p (q, []) → ⊥) → IsOnWay mesh list p (r, [])
+  start r inside h first = record {
+    around = h;
+    element = λ ms its. top-element mesh ms list its r inside;
+    least = λ m there k. top_low r m (λ less. first m.0 less (top_around m there k));
+  }
+
+  -- a leaf on the way is the place
+  pub arrived : (n : Name) → IsOnWay mesh list p n → Contains list n → IsPlace mesh list p (Some n)
+  arrived n way there = (there, way.around, way.least)
+
+  -- where no macro triangle is around the point, no leaf is
+  pub nowhere : LiesOutside mesh p → IsPlace mesh list p None
+  nowhere out m there h = out m.0 (listed-leaf mesh members list are m there).rooted (top_around m there h)
