@@ -9,23 +9,22 @@ use Rattle.mesh_names.specs.Triangles.{size}
 use Rattle.mesh_names.specs.Forests.{Names, Has, IsLeaf}
 use Rattle.compat_check.specs.Meshes.{Mesh, shape_of}
 use Rattle.compat_check.specs.Points.{Point, AreTenths}
-use Rattle.locate_point.specs.Covering.{IsAround}
+use Rattle.std.specs.Bool.{OnFalse, OnTrue}
+use Rattle.mesh_names.specs.Triangles.{triangle}
+use Rattle.compat_check.specs.Points.{point}
+use Rattle.locate_point.specs.Covering.{Corners, Covers, IsAround, corners_of}
+use Rattle.locate_point.proofs.Placing.{middle_lies}
 use Rattle.locate_point.specs.Children.{ContainsByChildren}
 use Rattle.locate_point.specs.Locating.{AreLeavesOf, IsAtMost, IsPlace, LiesOutside}
+use Rattle.locate_point.specs.Ways.{IsElement, IsOnWay, child_corners}
 use Rattle.locate_point.proofs.Words.{first_child_low, second_child_low, top_low}
-use Rattle.locate_point.proofs.Elements.{IsElement, leaf-listed, listed-leaf, leaf-short, unlisted-member, member-short, child-element, top-element}
+use Rattle.locate_point.proofs.Elements.{leaf-listed, listed-leaf, leaf-short, unlisted-member, member-short, child-element, top-element}
 
 -- a triangle around a point lies below triangles around it
 pub around_above : ContainsByChildren → (mesh : Mesh) → AreTenths mesh.vertices → (p : Point) (r : ℕ) (w v : List Bool) → length (w ++ v) ≤ 24 → IsAround mesh p (r, w ++ v) → IsAround mesh p (r, v)
 around_above law mesh tenths p r [] v short h = h
 around_above law mesh tenths p r (false ∷ w) v short h = around_above law mesh tenths p r w v (omega (arith, short)) ((law mesh tenths (r, w ++ v) (omega (arith, short)) p).1 (inl h))
 around_above law mesh tenths p r (true ∷ w) v short h = around_above law mesh tenths p r w v (omega (arith, short)) ((law mesh tenths (r, w ++ v) (omega (arith, short)) p).1 (inr h))
-
--- the name is on the way to the least leaf around the point
-pub record IsOnWay (mesh : Mesh) (list : List Name) (p : Point) (n : Name) : Type 0 where
-  pub around : IsAround mesh p n
-  pub element : (members : Names) → AreLeavesOf mesh members list → IsElement mesh members n
-  pub least : (m : Name) → Contains list m → IsAround mesh p m → IsAtMost n m
 
 module _ (law : ContainsByChildren) (mesh : Mesh) (tenths : AreTenths mesh.vertices) (members : Names) (list : List Name) (are : AreLeavesOf mesh members list) (p : Point) where
   -- to the child that is chosen
@@ -67,3 +66,21 @@ module _ (law : ContainsByChildren) (mesh : Mesh) (tenths : AreTenths mesh.verti
   -- where no macro triangle is around the point, no leaf is
   pub nowhere : LiesOutside mesh p → IsPlace mesh list p None
   nowhere out m there h = out m.0 (listed-leaf mesh members list are m there).rooted (top_around m there h)
+
+-- the corners of a child
+pub corners_of_child : (mesh : Mesh) (n : Name) (side : Bool) → child_corners (corners_of mesh n) side ≡ corners_of mesh (n.0, side ∷ n.1)
+corners_of_child mesh n false = let t = triangle (shape_of mesh) n in λ i. (point mesh.vertices t.2, point mesh.vertices t.0, sym (middle_lies mesh t.0 t.1) i)
+corners_of_child mesh n true = let t = triangle (shape_of mesh) n in λ i. (point mesh.vertices t.1, point mesh.vertices t.2, sym (middle_lies mesh t.0 t.1) i)
+
+-- one step of the walk, by the corners that it keeps
+pub stepped : (law : ContainsByChildren) (mesh : Mesh) → AreTenths mesh.vertices → (members : Names) (list : List Name) → AreLeavesOf mesh members list → (p : Point) (n : Name) (t : Corners) (side : Bool) → t ≡ corners_of mesh n → IsOnWay mesh list p n → (Contains list n → ⊥) →
+    OnFalse side (Covers (child_corners t false) p) → OnTrue side (Covers (child_corners t false) p → ⊥) → IsOnWay mesh list p (n.0, side ∷ n.1)
+stepped law mesh tenths members list are p n t side at way unlisted first other =
+    let same : child_corners t false ≡ corners_of mesh (n.0, false ∷ n.1) = ap (λ u. child_corners u false) at ∙ corners_of_child mesh n false in
+    step law mesh tenths members list are p n side way unlisted
+    (λ e. subst (λ u. Covers u p) same (subst (λ b. OnFalse b (Covers (child_corners t false) p)) e first))
+    (λ e h. (subst (λ b. OnTrue b (Covers (child_corners t false) p → ⊥)) e other) (subst (λ u. Covers u p) (sym same) h))
+
+-- an element on the way that is no leaf has fewer than 24 letters
+pub unlisted-short : (mesh : Mesh) (members : Names) (list : List Name) → AreLeavesOf mesh members list → (p : Point) (n : Name) → IsOnWay mesh list p n → (Contains list n → ⊥) → length n.1 < 24
+unlisted-short mesh members list are p n way unlisted = member-short mesh members list are n (unlisted-member mesh members list are n (way.element members are) unlisted)

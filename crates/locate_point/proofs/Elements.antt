@@ -10,10 +10,7 @@ use Rattle.mesh_names.proofs.Leaving.{leaves_are}
 use Rattle.mesh_names.proofs.Sets.{In, has-in, in-has, item-in, is_or_not}
 use Rattle.compat_check.specs.Meshes.{Mesh, shape_of}
 use Rattle.locate_point.specs.Locating.{AreLeavesOf}
-
--- an element: a member or a leaf
-abbrev pub IsElement : Mesh → Names → Name → Type 0
-IsElement mesh members n = Has members n ⊎ IsLeaf (shape_of mesh) members n
+use Rattle.locate_point.specs.Ways.{IsElement}
 
 in-contains : (q : Name) (ks : List Name) → In q ks → Contains ks q
 in-contains q [] h = absurd h

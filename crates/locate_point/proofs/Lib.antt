@@ -9,3 +9,4 @@ pub mod Elements
 pub mod Descent
 pub mod Tenths
 pub mod Places
+pub mod Searching

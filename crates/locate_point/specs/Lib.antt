@@ -1,3 +1,4 @@
 pub mod Covering
 pub mod Children
 pub mod Locating
+pub mod Ways

@@ -2,6 +2,7 @@
 ghost use Rattle.std.specs.Prelude.{◌≡◌, ◌↔◌, IsTrue, ◌-ℤ◌, ◌*ℤ◌, ◌<◌};
 ghost use Rattle.macro_file.specs.Limits.{AtMost};
 ghost use Rattle.compat_check.specs.Faults.{doubled_area};
+ghost use Rattle.compat_check.specs.Points.{between};
 ghost use Rattle.compat_check.specs.Within.{IsWithin};
 ghost use Rattle.locate_point.specs.Covering.{AreWithin, Covers, NoneAbove, NoneBelow, corners_of};
 ghost use Rattle.mesh_names.specs.Triangles.{size};
@@ -81,4 +82,14 @@ pub(crate) fn corners_of(mesh: &MacroMesh, name: ElemName) -> Corners
 {
     let [first, second, apex] = mesh.points(name);
     (first, second, apex)
+}
+
+// The point halfway between two, each coordinate rounded down.
+pub(crate) fn middle(first: Point, second: Point) -> Point
+    requires first { IsWithin first }
+    requires second { IsWithin second }
+    ensures between { result ≡ between first second }
+    ensures within { IsWithin result }
+{
+    ((first.0 + second.0) >> 1, (first.1 + second.1) >> 1)
 }
