@@ -1,12 +1,11 @@
 -- The way down from a macro triangle to the least leaf around a point.
-use Rattle.std.proofs.Common.{◌≡◌, ◌⊎◌, ℕ, zero, suc, ◌+◌, ◌<◌, ◌≤◌, Bool, true, false, List, [], ◌∷◌, ◌++◌, length, reverse, refl, sym, ap, subst, ◌∙◌, arith, inl, inr, ⊎_elim, get_or}
+use Rattle.std.proofs.Common.{◌≡◌, ◌⊎◌, ℕ, ◌<◌, ◌≤◌, Bool, true, false, List, [], ◌∷◌, ◌++◌, length, refl, sym, ap, subst, ◌∙◌, arith, inl, inr, ⊎_elim}
 use Rattle.std.proofs.lemmas.List.{append-nil}
-use Rattle.std.specs.Cmp.{nat_cmp_is}
 use Rattle.std.specs.List.{Contains}
-use Rattle.std.specs.Prelude.{Option, Some, None, ◌↔◌}
-use Rattle.mesh_names.specs.Names.{Name, name_cmp}
+use Rattle.std.specs.Prelude.{Some, None}
+use Rattle.mesh_names.specs.Names.{Name}
 use Rattle.mesh_names.specs.Triangles.{size}
-use Rattle.mesh_names.specs.Forests.{Names, Has, IsLeaf}
+use Rattle.mesh_names.specs.Forests.{Names}
 use Rattle.compat_check.specs.Meshes.{Mesh, shape_of}
 use Rattle.compat_check.specs.Points.{Point, AreTenths}
 use Rattle.std.specs.Bool.{OnFalse, OnTrue}
@@ -15,10 +14,10 @@ use Rattle.compat_check.specs.Points.{point}
 use Rattle.locate_point.specs.Covering.{Corners, Covers, IsAround, corners_of}
 use Rattle.locate_point.proofs.Placing.{middle_lies}
 use Rattle.locate_point.specs.Children.{ContainsByChildren}
-use Rattle.locate_point.specs.Locating.{AreLeavesOf, IsAtMost, IsPlace, LiesOutside}
-use Rattle.locate_point.specs.Ways.{IsElement, IsOnWay, child_corners}
-use Rattle.locate_point.proofs.Words.{first_child_low, second_child_low, top_low}
-use Rattle.locate_point.proofs.Elements.{leaf-listed, listed-leaf, leaf-short, unlisted-member, member-short, child-element, top-element}
+use Rattle.locate_point.specs.Locating.{AreLeavesOf, IsPlace, LiesOutside}
+use Rattle.locate_point.specs.Ways.{IsOnWay, child_corners}
+use Rattle.locate_point.proofs.NearNames.{first_child_low, second_child_low, top_low}
+use Rattle.locate_point.proofs.Elements.{listed-leaf, leaf-short, unlisted-member, member-short, child-element, top-element}
 
 -- a triangle around a point lies below triangles around it
 pub around_above : ContainsByChildren → (mesh : Mesh) → AreTenths mesh.vertices → (p : Point) (r : ℕ) (w v : List Bool) → length (w ++ v) ≤ 24 → IsAround mesh p (r, w ++ v) → IsAround mesh p (r, v)

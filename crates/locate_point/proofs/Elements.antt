@@ -1,10 +1,10 @@
 -- The elements of a forest: its members and its leaves, and the list of the leaves.
-use Rattle.std.proofs.Common.{◌≡◌, ◌⊎◌, ℕ, zero, suc, ◌<◌, ◌≤◌, Bool, true, false, List, [], ◌∷◌, length, refl, sym, ap, subst, ◌∙◌, arith, inl, inr, ⊎_elim, get_or}
+use Rattle.std.proofs.Common.{◌≡◌, ℕ, zero, suc, ◌<◌, ◌≤◌, Bool, List, [], ◌∷◌, length, refl, sym, subst, arith, inl, inr, ⊎_elim}
 use Rattle.std.specs.List.{Contains}
-use Rattle.std.specs.FinSet.{contains, from_list}
-use Rattle.mesh_names.specs.Names.{Name, name_cmp}
-use Rattle.mesh_names.specs.Triangles.{size, level}
-use Rattle.mesh_names.specs.Forests.{Names, Has, IsForest, IsLeaf, IsListOf}
+use Rattle.std.specs.FinSet.{contains}
+use Rattle.mesh_names.specs.Names.{Name}
+use Rattle.mesh_names.specs.Triangles.{size}
+use Rattle.mesh_names.specs.Forests.{Names, Has, IsLeaf}
 use Rattle.mesh_names.specs.Leaves.{leaves}
 use Rattle.mesh_names.proofs.Leaving.{leaves_are}
 use Rattle.mesh_names.proofs.Sets.{In, has-in, in-has, item-in, is_or_not}

@@ -1,6 +1,6 @@
 -- The areas of the two halves of a triangle that is cut at the exact middle of its refinement edge.
-use Rattle.std.proofs.Common.{◌≡◌, refl, sym, ap, ◌∙◌, arith}
-use Rattle.std.specs.Prelude.{ℤ, pos, ◌+ℤ◌, ◌-ℤ◌}
+use Rattle.std.proofs.Common.{◌≡◌, sym, ap, ◌∙◌, arith}
+use Rattle.std.specs.Prelude.{ℤ, pos, ◌+ℤ◌}
 use Rattle.std.proofs.lemmas.Int.{ints}
 use Rattle.compat_check.specs.Faults.{doubled_area}
 use Rattle.compat_check.specs.Points.{Point, IsHalfway}

@@ -4,9 +4,11 @@ pub mod Halves
 pub mod Splitting
 pub mod Placing
 pub mod Signs
-pub mod Words
+pub mod NearNames
 pub mod Elements
 pub mod Descent
 pub mod Tenths
 pub mod Places
 pub mod Searching
+pub mod Fronts
+pub mod Adding

@@ -1,13 +1,13 @@
 -- Where the corners of names lie.
-use Rattle.std.proofs.Common.{◌≡◌, List, ◌<◌, Bool, true, false, cond, ◌∷◌, length, refl, sym, ap, ◌∙◌, arith, zero-le, subst, inl, inr, ⊎_elim}
-use Rattle.std.specs.Prelude.{ℤ, pos, ◌+ℤ◌, Option, Some, None, slice_get}
+use Rattle.std.proofs.Common.{◌≡◌, List, Bool, true, false, cond, refl, sym, arith, zero-le, subst}
+use Rattle.std.specs.Prelude.{ℤ, ◌+ℤ◌, Option, Some, None, slice_get}
 use Rattle.std.proofs.lemmas.Int.{ints}
 use Rattle.macro_file.specs.declared.text.MacroVertex.{MacroVertex}
 use Rattle.mesh_names.specs.Names.{Name}
 use Rattle.mesh_names.specs.Triangles.{Vertex, Corner, Mid, before, middle, triangle}
 use Rattle.compat_check.specs.Faults.{point_of}
 use Rattle.compat_check.specs.Meshes.{Mesh, shape_of}
-use Rattle.compat_check.specs.Points.{Point, half, between, point, points, AreTenths, MidpointsExact}
+use Rattle.compat_check.specs.Points.{Point, half, between, point, points, MidpointsExact}
 use Rattle.compat_check.specs.Within.{IsWithin, corner}
 use Rattle.compat_check.proofs.Halving.{between_within}
 use Rattle.locate_point.specs.Covering.{AreWithin, corners_of}
@@ -44,8 +44,7 @@ corners_within mesh n = let t = triangle (shape_of mesh) n in (point_within mesh
 pub by_children : MidpointsExact → ContainsByChildren
 by_children exact mesh tenths n short p =
     let t = triangle (shape_of mesh) n in
-    let h = (exact mesh tenths n).midpoint short in
-    (
+    let h = (exact mesh tenths n).midpoint short in (
       split_down (point mesh.vertices t.0) (point mesh.vertices t.1) (point mesh.vertices t.2) (point mesh.vertices (middle t.0 t.1)) p h,
       split_up (point mesh.vertices t.0) (point mesh.vertices t.1) (point mesh.vertices t.2) (point mesh.vertices (middle t.0 t.1)) p h,
     )

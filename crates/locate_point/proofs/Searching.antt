@@ -1,6 +1,6 @@
 -- A search in a list of names in order.
-use Rattle.std.proofs.Common.{◌≡◌, ◌⊎◌, ℕ, ◌<◌, ◌≤◌, Bool, true, false, List, length, refl, sym, ap, subst, ◌∙◌, arith, ⊎_elim, get_or}
-use Rattle.std.specs.Prelude.{Result, Ok, Err, MatchResult, IsTrue, ◌↔◌, is_ok}
+use Rattle.std.proofs.Common.{◌≡◌, ℕ, ◌<◌, ◌≤◌, List, length, refl, sym, ap, subst, ◌∙◌, arith, ⊎_elim, get_or}
+use Rattle.std.specs.Prelude.{Result, Ok, Err, IsTrue, ◌↔◌, is_ok}
 use Rattle.std.specs.List.{Contains}
 use Rattle.std.specs.List.Sorted.{IsStrictlySortedBy, IsSearchInRange, IsBinarySearchResult, IsNonDecreasingBy}
 use Rattle.std.specs.Ordering.{ordering_index}
@@ -39,9 +39,9 @@ module _ (list : List Name) (sorted : IsStrictlySortedBy name_cmp list) (n : Nam
   listed_answer (Err i) inside parted = (
     λ e. absurd (false≢true e),
     λ h. absurd (⊎_elim
-    (λ (early : h.0 < i). let here : name_cmp (get_or list h.0 n) n ≡ Less = (parted rises).0 h.0 n (omega arith) early in tie (sym (subst (λ (m : Name). name_cmp m n ≡ Less) h.2 here) ∙ tied_itself name_cmp_total n))
-    (λ (late : i ≤ h.0). let here : name_cmp (get_or list h.0 n) n ≡ Greater = (parted rises).1 h.0 n late h.1 in tie_other (sym (subst (λ (m : Name). name_cmp m n ≡ Greater) h.2 here) ∙ tied_itself name_cmp_total n))
-    (cases_lt h.0 i)),
+        (λ (early : h.0 < i). let here : name_cmp (get_or list h.0 n) n ≡ Less = (parted rises).0 h.0 n (omega arith) early in tie (sym (subst (λ (m : Name). name_cmp m n ≡ Less) h.2 here) ∙ tied_itself name_cmp_total n))
+        (λ (late : i ≤ h.0). let here : name_cmp (get_or list h.0 n) n ≡ Greater = (parted rises).1 h.0 n late h.1 in tie_other (sym (subst (λ (m : Name). name_cmp m n ≡ Greater) h.2 here) ∙ tied_itself name_cmp_total n))
+        (cases_lt h.0 i)),
   )
     where
       tie : Less ≡ Equal → ⊥

@@ -1,6 +1,6 @@
 -- Coordinates with at most ten decimals.
 use Rattle.std.proofs.Common.{◌≡◌, ℕ, ◌+◌, ◌*◌, ◌/◌, ◌%◌, ◌<◌, ◌≤◌, nat_eq, refl, sym, ap, subst, ◌∙◌, arith, ⊎_elim, eq-eqb, eqb-true, length, below_more}
-use Rattle.std.specs.Prelude.{ℤ, pos, nat_abs, IsTrue, ◌↔◌, Option, Some, None, List, slice_get}
+use Rattle.std.specs.Prelude.{ℤ, nat_abs, IsTrue, ◌↔◌, Some, List, slice_get}
 use Rattle.std.proofs.lemmas.Bool.{cases_lt}
 use Rattle.std.proofs.lemmas.Option.{slice_get_past}
 use Rattle.std.specs.Int.{w64}

@@ -1,5 +1,5 @@
 -- The way down from a macro triangle to the least leaf around a point.
-use Rattle.std.specs.Prelude.{◌≡◌, ◌⊎◌, Bool, true, false, List}
+use Rattle.std.specs.Prelude.{◌⊎◌, Bool, true, false, List}
 use Rattle.std.specs.List.{Contains}
 use Rattle.mesh_names.specs.Names.{Name}
 use Rattle.mesh_names.specs.Forests.{Names, Has, IsLeaf}

@@ -1,4 +1,4 @@
-use Rattle.std.proofs.Common.{subst, sym, ◌≡◌, true, ◌↔◌, IsTrue}
+use Rattle.std.proofs.Common.{subst, sym, ◌↔◌, IsTrue}
 use Rattle.std.specs.List.{Contains}
 use Rattle.locate_point.proofs.Searching.{listed_answer}
 use Rattle.locate_point.proofs.downward.is_listed.Goals as goal

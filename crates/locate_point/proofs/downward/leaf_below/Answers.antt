@@ -1,4 +1,4 @@
-use Rattle.std.proofs.Common.{◌≡◌, sym, ap, subst, ◌∙◌, false}
+use Rattle.std.proofs.Common.{sym, ap, subst, ◌∙◌}
 use Rattle.std.proofs.lemmas.Bool.{true≢false}
 use Rattle.std.specs.List.{Contains}
 use Rattle.locate_point.specs.Covering.{AreWithin, corners_of}
@@ -16,9 +16,8 @@ child_at-name-requires c = unlisted-short c.args.mesh.now c.requires.leaves.0 c.
 pub loop-point-preserved : goal.loop-point-preserved
 loop-point-preserved c =
     let unlisted : Contains c.args.leaves.now c.loop-point.name → ⊥ = λ there. true≢false (sym (c.is_listed.ensures.1 there) ∙ c.loop-point-test.true) in
-    let side = c.child_around-side.result.0 in
-    (
+    let side = c.child_around-side.result.0 in (
       c.child_around-side.ensures.corners ∙ ap (λ t. child_corners t side) c.loop-point.invariant.0 ∙ corners_of_child c.args.mesh.now c.loop-point.name side ∙ ap (corners_of c.args.mesh.now) (sym c.child_at-name.ensures),
       subst (IsOnWay c.args.mesh.now c.args.leaves.now c.args.point) (sym c.child_at-name.ensures)
-      (stepped c.contains_by_children.ensures c.args.mesh.now c.requires.exact c.requires.leaves.0 c.args.leaves.now c.requires.leaves.1 c.args.point c.loop-point.name c.loop-point.corners side c.loop-point.invariant.0 c.loop-point.invariant.1 unlisted c.child_around-side.ensures.first c.child_around-side.ensures.second),
+          (stepped c.contains_by_children.ensures c.args.mesh.now c.requires.exact c.requires.leaves.0 c.args.leaves.now c.requires.leaves.1 c.args.point c.loop-point.name c.loop-point.corners side c.loop-point.invariant.0 c.loop-point.invariant.1 unlisted c.child_around-side.ensures.first c.child_around-side.ensures.second),
     )

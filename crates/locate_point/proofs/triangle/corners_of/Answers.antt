@@ -1,5 +1,3 @@
-use Rattle.std.proofs.Common.{sym, subst}
-use Rattle.locate_point.specs.Covering.{AreWithin, corners_of}
 use Rattle.locate_point.proofs.Placing.{points_within}
 use Rattle.locate_point.proofs.triangle.corners_of.Goals as goal
 

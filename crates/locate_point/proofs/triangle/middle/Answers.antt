@@ -1,4 +1,4 @@
-use Rattle.compat_check.proofs.Halving.{between_within, half_is}
+use Rattle.compat_check.proofs.Halving.{half_is}
 use Rattle.locate_point.proofs.triangle.middle.Goals as goal
 
 pub returns-clause-between : goal.returns-clause-between
