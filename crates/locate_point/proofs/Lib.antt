@@ -12,3 +12,4 @@ pub mod Places
 pub mod Searching
 pub mod Fronts
 pub mod Adding
+pub mod Boxing

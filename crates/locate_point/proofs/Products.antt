@@ -1,6 +1,6 @@
 -- Products of whole numbers: they distribute over sums and differences.
 use Rattle.std.proofs.Common.{◌≡◌, ℕ, zero, suc, ◌*◌, ◌≤◌, sym, ap, subst, ◌∙◌, arith}
-use Rattle.std.specs.Prelude.{ℤ, pos, negsuc, ◌+ℤ◌, ◌-ℤ◌, ◌*ℤ◌, nat_abs}
+use Rattle.std.specs.Prelude.{ℤ, pos, negsuc, ◌+ℤ◌, ◌-ℤ◌, ◌*ℤ◌, ◌≤ℤ◌, nat_abs}
 use Rattle.std.proofs.Math.IntN.{suc_ℤ, pred_ℤ, suc_ℤ-*ℤ, pred_ℤ-*ℤ, suc_ℤ-+ℤ, pred_ℤ-+ℤ, *ℤ_comm, zero-*ℤ, neg_ℤ, pos-*ℤ-pos, pos-*ℤ-negsuc, negsuc-*ℤ-pos, negsuc-*ℤ-negsuc}
 use Rattle.macro_file.specs.Limits.{AtMost}
 use Rattle.mesh_io.proofs.Powers.{mul_le}
@@ -65,3 +65,41 @@ size-times (negsuc m) (negsuc n) = ap nat_abs (negsuc-*ℤ-negsuc m n)
 
 pub product_small : (a b : ℤ) (m n : ℕ) → AtMost m a → AtMost n b → AtMost (m * n) (a *ℤ b)
 product_small a b m n ha hb = subst (λ (k : ℕ). k ≤ m * n) (sym (size-times a b)) (mul_le (nat_abs a) m (nat_abs b) n ha hb)
+
+associated : (a b c : ℤ) → (a *ℤ b) *ℤ c ≡ a *ℤ (b *ℤ c) → (suc_ℤ a *ℤ b) *ℤ c ≡ suc_ℤ a *ℤ (b *ℤ c)
+associated a b c known = ap (λ z. z *ℤ c) (suc_ℤ-*ℤ a b) ∙ sum-times (a *ℤ b) b c ∙ ap (λ z. z +ℤ (b *ℤ c)) known ∙ sym (suc_ℤ-*ℤ a (b *ℤ c))
+
+dissociated : (a b c : ℤ) → (a *ℤ b) *ℤ c ≡ a *ℤ (b *ℤ c) → (pred_ℤ a *ℤ b) *ℤ c ≡ pred_ℤ a *ℤ (b *ℤ c)
+dissociated a b c known = ap (λ z. z *ℤ c) (pred_ℤ-*ℤ a b) ∙ difference-times (a *ℤ b) b c ∙ ap (λ z. z -ℤ (b *ℤ c)) known ∙ sym (pred_ℤ-*ℤ a (b *ℤ c))
+
+none-times : (b c : ℤ) → (pos 0 *ℤ b) *ℤ c ≡ pos 0 *ℤ (b *ℤ c)
+none-times b c = ap (λ z. z *ℤ c) (zero-*ℤ b) ∙ zero-*ℤ c ∙ sym (zero-*ℤ (b *ℤ c))
+
+pub times-times : (a b c : ℤ) → (a *ℤ b) *ℤ c ≡ a *ℤ (b *ℤ c)
+times-times (pos zero) b c = none-times b c
+times-times (pos (suc n)) b c = associated (pos n) b c (times-times (pos n) b c)
+times-times (negsuc zero) b c = dissociated (pos zero) b c (none-times b c)
+times-times (negsuc (suc n)) b c = dissociated (negsuc n) b c (times-times (negsuc n) b c)
+
+-- the order of three factors
+pub last_two : (a b c : ℤ) → (a *ℤ b) *ℤ c ≡ (a *ℤ c) *ℤ b
+last_two a b c = times-times a b c ∙ ap (λ z. a *ℤ z) (*ℤ_comm b c) ∙ sym (times-times a c b)
+
+pub first_last : (a b c : ℤ) → (a *ℤ b) *ℤ c ≡ (c *ℤ b) *ℤ a
+first_last a b c = ap (λ z. z *ℤ c) (*ℤ_comm a b) ∙ last_two b a c ∙ ap (λ z. z *ℤ a) (*ℤ_comm b c)
+
+-- a product with a number from 1 on is no nearer to 0
+pub grows_above : (u v : ℤ) → pos 0 ≤ℤ u → pos 1 ≤ℤ v → u ≤ℤ (u *ℤ v)
+grows_above (pos m) (pos (suc n)) h k = let e = pos-*ℤ-pos m (suc n) in subst (λ z. pos m ≤ℤ z) (sym e) (let less : m ≤ m * suc n = omega arith in omega (arith, ints, less))
+grows_above (pos m) (pos zero) h k = absurd (omega (arith, ints, k))
+grows_above (pos m) (negsuc n) h k = absurd (omega (arith, ints, k))
+grows_above (negsuc m) v h k = absurd (omega (arith, ints, h))
+
+pub grows_below : (u v : ℤ) → u ≤ℤ pos 0 → pos 1 ≤ℤ v → (u *ℤ v) ≤ℤ u
+grows_below u v h k =
+    let up = grows_above (pos 0 -ℤ u) v (omega (arith, ints, h)) k in
+    let e = difference-times (pos 0) u v ∙ ap (λ z. z -ℤ (u *ℤ v)) (zero-*ℤ v) in
+    turned u (u *ℤ v) (subst (λ z. (pos 0 -ℤ u) ≤ℤ z) e up)
+  where
+    turned : (x y : ℤ) → (pos 0 -ℤ x) ≤ℤ (pos 0 -ℤ y) → y ≤ℤ x
+    turned x y h = omega (arith, ints, h)
