@@ -1,0 +1,5 @@
+pub mod Kept
+pub mod Merges
+pub mod Trees
+pub mod Files
+pub mod Refusals

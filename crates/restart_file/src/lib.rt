@@ -1,0 +1,9 @@
+#![tactic(auto)]
+//! Restart files: a macro file and a forest of bisections over it, kept so that a run goes on from
+//! it later; and the overlay of two such forests, their least common refinement.
+
+mod joining;
+mod refusal;
+
+pub use joining::overlay;
+pub use refusal::RestartRefusal;
