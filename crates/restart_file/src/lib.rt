@@ -4,6 +4,9 @@
 
 mod joining;
 mod refusal;
+mod walk;
+mod writing;
 
 pub use joining::overlay;
 pub use refusal::RestartRefusal;
+pub use writing::put_restart;
