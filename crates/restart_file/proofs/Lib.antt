@@ -4,3 +4,4 @@ pub mod Orders
 pub mod TreeMembers
 pub mod Walking
 pub mod Elements
+pub mod Parsing

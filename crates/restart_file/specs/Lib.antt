@@ -4,3 +4,4 @@ pub mod Trees
 pub mod Walks
 pub mod Files
 pub mod Refusals
+pub mod Lines

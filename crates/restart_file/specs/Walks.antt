@@ -25,10 +25,18 @@ bisected_all [] ts = []
 bisected_all (n ∷ ns) [] = []
 bisected_all (n ∷ ns) (t ∷ ts) = bisected n t ++ bisected_all ns ts
 
--- as many trees as names are to come, whose words, a newline and the rest are these bytes
-pub record AreWords (names : List Name) (bytes : List ℕ) (trees : List Tree) (rest : List ℕ) : Type 0 where
-  pub each : length trees ≡ length names
+-- the words of so many trees, a newline and the rest are these bytes
+pub record AreWords (count : ℕ) (bytes : List ℕ) (trees : List Tree) (rest : List ℕ) : Type 0 where
+  pub each : length trees ≡ count
   pub bytes_are : bytes ≡ words trees ++ 10 ∷ rest
+
+-- so many words and a newline come next
+abbrev pub HasWords : ℕ → List ℕ → Type 0
+HasWords count bytes = (trees : List Tree) × (rest : List ℕ) × AreWords count bytes trees rest
+
+-- this byte comes next
+abbrev pub HasByte : ℕ → List ℕ → Type 0
+HasByte byte bytes = (rest : List ℕ) × (bytes ≡ byte ∷ rest)
 
 -- the line of the tree was written, and the later names are left
 pub record IsLineDone (t : Tree) (later : List Name) (old new : List ℕ) (left : List Name) : Type 0 where

@@ -3,6 +3,7 @@
 //! it later; and the overlay of two such forests, their least common refinement.
 
 mod joining;
+mod lines;
 mod refusal;
 mod walk;
 mod writing;
