@@ -1,10 +1,10 @@
 -- A walk over the macro elements and their trees.
-use Rattle.std.proofs.Common.{◌≡◌, ◌⊎◌, ℕ, suc, ◌+◌, ◌<◌, ◌≤◌, refl, sym, ap, ◌∙◌, subst, List, [], ◌∷◌, ◌++◌, length, drop, get_or, drop-cons, arith, append_assoc}
+use Rattle.std.proofs.Common.{◌≡◌, ℕ, suc, ◌+◌, ◌<◌, ◌≤◌, refl, sym, ap, ◌∙◌, List, [], ◌∷◌, ◌++◌, length, drop, get_or, drop-cons, arith, append_assoc}
 use Rattle.std.proofs.lemmas.List.{drop_all}
 use Rattle.mesh_names.specs.Names.{Name, depth}
-use Rattle.mesh_names.specs.Triangles.{Shape, size, level, grade_of}
-use Rattle.mesh_names.proofs.Sets.{In, item-in, in-has, has-in}
-use Rattle.restart_file.specs.Kept.{ArePast, IsKept, set_of}
+use Rattle.mesh_names.specs.Triangles.{Shape}
+use Rattle.mesh_names.proofs.Sets.{item-in, in-has, has-in}
+use Rattle.restart_file.specs.Kept.{ArePast, IsKept}
 use Rattle.restart_file.specs.Trees.{Tree, Leaf, word, bisected, lines, members_from}
 use Rattle.restart_file.specs.Walks.{IsLineDone}
 use Rattle.restart_file.proofs.TreeMembers.{members_root}

@@ -5,3 +5,7 @@ pub mod TreeMembers
 pub mod Walking
 pub mod Elements
 pub mod Parsing
+pub mod Heading
+pub mod Searching
+pub mod Files
+pub mod Accepting

@@ -3,10 +3,8 @@ use Rattle.std.proofs.Common.{◌≡◌, ◌⊎◌, ℕ, zero, suc, ◌+◌, ◌
 use Rattle.std.specs.Prelude.{Option, Some, None, MatchBool}
 use Rattle.mesh_names.specs.Names.{Name}
 use Rattle.mesh_names.specs.Triangles.{level}
-use Rattle.mesh_names.specs.Forests.{Has}
 use Rattle.mesh_names.proofs.Sets.{In, in-append, in-second, has-in, in-has}
 use Rattle.compat_check.specs.Meshes.{Mesh, shape_of}
-use Rattle.restart_file.specs.Kept.{set_of}
 use Rattle.restart_file.specs.Trees.{Tree, Leaf, Bisected, word, bisected}
 use Rattle.restart_file.specs.Walks.{after, coming, words, bisected_all, AreWords, HasWords, HasByte}
 use Rattle.restart_file.specs.Refusals.{AreLow, HasLine, HasNoLine, HasDeepLine}

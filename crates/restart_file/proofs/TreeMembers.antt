@@ -5,10 +5,9 @@ use Rattle.std.specs.FinSet.{contains}
 use Rattle.std.specs.List.Sorted.{IsStrictlySortedBy}
 use Rattle.std.specs.declared.cmp.Ordering.TheVariants.{Less}
 use Rattle.mesh_names.specs.Names.{Name, name_cmp}
-use Rattle.mesh_names.specs.Order.{name_cmp_total}
-use Rattle.mesh_names.specs.Triangles.{Shape, size, level, grade_of}
-use Rattle.mesh_names.specs.Forests.{Names, Has, IsForest, IsListOf}
-use Rattle.mesh_names.proofs.Sets.{In, in-append, in-first, in-second, has-in, in-has, is_or_not, both_sides, within-both}
+use Rattle.mesh_names.specs.Triangles.{Shape, size, level}
+use Rattle.mesh_names.specs.Forests.{Names, Has, IsForest}
+use Rattle.mesh_names.proofs.Sets.{In, in-append, in-first, in-second, has-in, in-has, is_or_not, within-both}
 use Rattle.mesh_names.proofs.Lists.{lists_are_one}
 use Rattle.restart_file.specs.Kept.{IsKept, set_of}
 use Rattle.restart_file.specs.Trees.{Tree, Leaf, Bisected, bisected, members_from}

@@ -1,17 +1,16 @@
 -- The union of two conforming forests is the least conforming forest that holds both.
-use Rattle.std.proofs.Common.{◌≡◌, ◌⊎◌, ℕ, ◌+◌, ◌≤◌, Bool, refl, List, ◌∷◌, length, inl, inr, ⊎_elim}
-use Rattle.std.specs.Prelude.{Some}
+use Rattle.std.proofs.Common.{◌⊎◌, List, ◌∷◌, inl, inr, ⊎_elim}
 use Rattle.mesh_names.specs.Names.{Name}
 use Rattle.mesh_names.specs.Triangles.{Shape}
-use Rattle.mesh_names.specs.Forests.{Names, Has, IsForest, Conforms, Within}
-use Rattle.mesh_names.specs.Partners.{Across, Tells, partner}
+use Rattle.mesh_names.specs.Forests.{Has, IsForest, Conforms, Within}
+use Rattle.mesh_names.specs.Partners.{Across, Tells}
 use Rattle.mesh_names.specs.Conformity.{HoldsPartners}
 use Rattle.mesh_names.specs.LeastForest.{IsLeast}
 use Rattle.mesh_names.proofs.Conforming.{conforms_by_partners}
-use Rattle.mesh_names.proofs.Sets.{In, has-in, in-has}
+use Rattle.mesh_names.proofs.Sets.{has-in, in-has}
 use Rattle.restart_file.specs.Kept.{IsKept, set_of}
 use Rattle.restart_file.specs.Merges.{IsMerge}
-use Rattle.restart_file.proofs.Merging.{from_either, from_first, from_second, merge_sorted, merge_short}
+use Rattle.restart_file.proofs.Merging.{from_either, from_first, from_second, merge_sorted}
 
 module _ (mesh : Shape) (x : Across) (tells : Tells mesh x) (first second both : List Name) (kept : IsKept mesh first) (other : IsKept mesh second) (merge : IsMerge both first second) where
   either : (n : Name) → Has (set_of both) n → Has (set_of first) n ⊎ Has (set_of second) n

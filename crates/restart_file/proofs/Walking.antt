@@ -1,10 +1,10 @@
 -- A walk over a forest in preorder: its steps.
-use Rattle.std.proofs.Common.{◌≡◌, ◌⊎◌, ℕ, suc, ◌+◌, ◌<◌, ◌≤◌, Bool, true, false, refl, sym, ap, ◌∙◌, subst, List, [], ◌∷◌, ◌++◌, length, drop, get_or, drop-cons, true≢false, arith, inl, inr, ⊎_elim, append_assoc}
+use Rattle.std.proofs.Common.{◌≡◌, ℕ, suc, ◌+◌, ◌<◌, Bool, true, false, refl, sym, ap, ◌∙◌, subst, List, [], ◌∷◌, ◌++◌, length, drop, get_or, drop-cons, true≢false, arith, inl, ⊎_elim, append_assoc}
 use Rattle.std.specs.Prelude.{Option, Some, None, MatchBool, IfSome}
 use Rattle.std.specs.declared.cmp.Ordering.TheVariants.{Less}
 use Rattle.mesh_names.specs.Names.{Name, name_cmp, name_eq}
 use Rattle.mesh_names.proofs.Sets.{In, in-append, in-has, tied-same, same-tied}
-use Rattle.restart_file.specs.Kept.{ArePast, set_of}
+use Rattle.restart_file.specs.Kept.{ArePast}
 use Rattle.restart_file.specs.Trees.{Tree, Leaf, Bisected, word, bisected}
 use Rattle.restart_file.specs.Walks.{after, coming, words, bisected_all, IsLineDone}
 use Rattle.restart_file.proofs.Orders.{down, down-last, sides_in_order, not_before}

@@ -1,5 +1,5 @@
 use mir.Val.{bool_byte}
-use Rattle.std.proofs.Common.{◌≡◌, ◌+◌, ◌-◌, ◌≤◌, ◌<◌, ap, sym, refl, List, subst, inl, inr, length, cond, Bool, ◌∙◌}
+use Rattle.std.proofs.Common.{◌≡◌, ◌+◌, ap, sym, List, subst, inl, inr, length, cond, Bool, ◌∙◌}
 use Rattle.std.specs.Ordering.{is_gt}
 use Rattle.mesh_names.specs.Names.{Name}
 use Rattle.restart_file.specs.Merges.{IsMerge}

@@ -1,6 +1,4 @@
-use Rattle.std.proofs.Common.{length, ◌-◌, ◌+◌, ◌++◌, drop, ◌≤◌, List, ℕ}
-use Rattle.mesh_names.specs.Names.{Name}
-use Rattle.restart_file.specs.Merges.{IsMerge}
+use Rattle.std.proofs.Common.{length, ◌-◌, ◌+◌, ◌≤◌}
 use Rattle.restart_file.proofs.Merging.{IsUnder}
 use Rattle.restart_file.proofs.joining.merge.Given as goal
 

@@ -1,5 +1,4 @@
-use Rattle.std.proofs.Common.{◌≤◌, ◌+◌, ◌-◌, arith, refl, drop}
-use Rattle.restart_file.specs.Walks.{HasWords}
+use Rattle.std.proofs.Common.{◌+◌, arith, refl, drop}
 use Rattle.restart_file.proofs.Parsing.{step_more, step_fewer, step_none, last_words}
 use Rattle.restart_file.proofs.lines.has_words.Goals as goal
 

@@ -1,10 +1,9 @@
-use Rattle.std.proofs.Common.{ℕ, ◌≡◌, ◌<◌, ◌≤◌, ◌+◌, ◌++◌, refl, sym, ap, ◌∙◌, subst, arith, length, drop}
-use Rattle.std.specs.Prelude.{Option, IfSome, Some, None}
+use Rattle.std.proofs.Common.{◌<◌, ◌≤◌, ◌+◌, refl, ap, arith, drop}
 use Rattle.mesh_names.specs.Names.{Name}
 use Rattle.mesh_names.specs.Triangles.{level}
 use Rattle.compat_check.specs.Meshes.{shape_of}
 use Rattle.restart_file.proofs.Walking.{some_root, next_root, after_root}
-use Rattle.restart_file.proofs.Parsing.{reads, read_open, read_close, read_none, read_end, read_no_newline, deep_or_bad}
+use Rattle.restart_file.proofs.Parsing.{reads, read_open, read_close, read_none, read_end, deep_or_bad}
 use Rattle.restart_file.proofs.lines.read_line.Goals as goal
 
 pub loop-at-init : goal.loop-at-init

@@ -1,8 +1,7 @@
-use Rattle.std.proofs.Common.{ℕ, ◌≡◌, ◌<◌, ◌≤◌, ◌+◌, ◌++◌, refl, ap, subst, arith, length, drop}
-use Rattle.std.specs.Prelude.{Option, IfSome, Some}
+use Rattle.std.proofs.Common.{◌<◌, ◌+◌, ◌++◌, refl, ap, subst, arith, length, drop}
 use Rattle.mesh_names.specs.Names.{Name, depth}
 use Rattle.restart_file.specs.Trees.{word}
-use Rattle.restart_file.proofs.Walking.{begun, opened, closed, done, item_is, some_root, next_root, after_root}
+use Rattle.restart_file.proofs.Walking.{begun, opened, closed, item_is, some_root, next_root, after_root}
 use Rattle.restart_file.proofs.writing.put_line.Goals as goal
 
 pub loop-at-init : goal.loop-at-init

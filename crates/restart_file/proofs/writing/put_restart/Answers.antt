@@ -1,7 +1,7 @@
-use Rattle.std.proofs.Common.{ℕ, ◌≡◌, ◌<◌, ◌≤◌, ◌+◌, ◌++◌, refl, sym, ap, ◌∙◌, subst, arith, List, length, drop}
+use Rattle.std.proofs.Common.{◌≡◌, ◌<◌, ◌≤◌, arith, List, length}
 use Rattle.mesh_names.specs.Triangles.{size}
 use Rattle.compat_check.specs.Meshes.{shape_of}
-use Rattle.restart_file.specs.Trees.{Tree, lines, members_from}
+use Rattle.restart_file.specs.Trees.{Tree}
 use Rattle.restart_file.specs.Files.{file_of}
 use Rattle.restart_file.proofs.TreeMembers.{has_trees}
 use Rattle.restart_file.proofs.Elements.{left_more, written_more, whole, few_letters}
