@@ -7,3 +7,4 @@ pub mod Heads
 pub mod Refusals
 pub mod Lines
 pub mod Parts
+pub mod OneFile

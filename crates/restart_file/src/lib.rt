@@ -4,6 +4,7 @@
 
 mod head;
 mod joining;
+pub mod laws;
 mod lines;
 mod reading;
 mod refusal;
