@@ -20,12 +20,13 @@ use Rattle.macro_file.specs.declared.text.MacroText.{MacroText}
 use Rattle.compat_check.specs.Meshes.{Mesh, edge_of, shape_of, label_of}
 use Rattle.compat_check.specs.Checks.{IsMeshOf, triples_of, made_label}
 use Rattle.restart_file.specs.Files.{IsPart, IsRestart, with_part, part_limit}
+use Rattle.restart_file.specs.Kept.{IsKept}
 use Rattle.restart_file.specs.Trees.{Tree, Leaf, Bisected, word, lines, members_from}
 use Rattle.restart_file.specs.Heads.{is_newline}
 use Rattle.restart_file.specs.Refusals.{HasHead, HasPart}
 use Rattle.restart_file.proofs.Heading.{line_is, newline_at}
 use Rattle.restart_file.proofs.Parsing.{heads, tails}
-use Rattle.restart_file.specs.OneFile.{IsSameMesh, PartsAreOne, RestartsAreOne}
+use Rattle.restart_file.specs.OneFile.{IsSameMesh, PartsAreOne, RestartsAreOne, KeptOverPart}
 
 -- ---- one mesh
 ok_is : (r : Result Macro MacroRefusal) (a b : Macro) → r ≡ Ok a → r ≡ Ok b → a ≡ b
@@ -94,9 +95,10 @@ heads_same bytes a b x y h k =
 -- ---- one macro part
 pub parts_same : (bytes p q x y : List ℕ) → HasPart bytes p x → HasPart bytes q y → (p ≡ q) × (x ≡ y)
 parts_same bytes p q x y h k =
-    let r = heads_same bytes (length p) (length q) (p ++ x) (q ++ y) (record { few = h.few; bytes_are = h.bytes_are }) (record { few = k.few; bytes_are = k.bytes_are }) in
-    (sym (take-append_seam p x) ∙ (λ i. take (r.0 i) (r.1 i)) ∙ take-append_seam q y,
-    sym (drop-append_seam p x) ∙ (λ i. drop (r.0 i) (r.1 i)) ∙ drop-append_seam q y)
+    let r = heads_same bytes (length p) (length q) (p ++ x) (q ++ y) (record { few = h.few; bytes_are = h.bytes_are }) (record { few = k.few; bytes_are = k.bytes_are }) in (
+      sym (take-append_seam p x) ∙ (λ i. take (r.0 i) (r.1 i)) ∙ take-append_seam q y,
+      sym (drop-append_seam p x) ∙ (λ i. drop (r.0 i) (r.1 i)) ∙ drop-append_seam q y,
+    )
 
 -- ---- one tree for each line
 pub words_same : (t u : Tree) (x y : List ℕ) → word t ++ x ≡ word u ++ y → (t ≡ u) × (x ≡ y)
@@ -134,3 +136,6 @@ restarts_are_one bytes part other m n members names a b =
     nil : (l : List ℕ) → l ++ [] ≡ l
     nil [] = refl
     nil (x ∷ l) = ap (λ (k : List ℕ). x ∷ k) (nil l)
+
+pub kept_over_part : KeptOverPart
+kept_over_part part m n members a b kept = subst (λ (s : Shape). IsKept s members) (parts_are_one part m n a b).shape kept

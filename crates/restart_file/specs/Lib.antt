@@ -8,3 +8,4 @@ pub mod Refusals
 pub mod Lines
 pub mod Parts
 pub mod OneFile
+pub mod Joined

@@ -23,3 +23,7 @@ PartsAreOne = (part : List ℕ) (m n : Mesh) → IsPart part m → IsPart part n
 -- the law that a restart file keeps one macro file, one mesh and one forest: so what was written is read as the same
 abbrev pub RestartsAreOne : Type 0
 RestartsAreOne = (bytes part other : List ℕ) (m n : Mesh) (members names : List Name) → IsRestart bytes part m members → IsRestart bytes other n names → (part ≡ other) × IsSameMesh m n × (members ≡ names)
+
+-- the law that members which are kept over the mesh of a macro file are kept over it, however the file was read
+abbrev pub KeptOverPart : Type 0
+KeptOverPart = (part : List ℕ) (m n : Mesh) (members : List Name) → IsPart part m → IsPart part n → IsKept (shape_of m) members → IsKept (shape_of n) members

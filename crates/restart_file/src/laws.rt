@@ -1,6 +1,6 @@
 //! Laws over the definitions alone. Each function takes nothing and answers nothing: its contract
 //! is the law.
-ghost use Rattle.restart_file.specs.OneFile.{PartsAreOne, RestartsAreOne};
+ghost use Rattle.restart_file.specs.OneFile.{KeptOverPart, PartsAreOne, RestartsAreOne};
 
 /// The bytes of a macro file are those of one mesh.
 pub fn parts_are_one()
@@ -11,4 +11,9 @@ pub fn parts_are_one()
 /// as the same.
 pub fn restarts_are_one()
     ensures { RestartsAreOne }
+{}
+
+/// Members that are kept over the mesh of a macro file are kept over it however the file was read.
+pub fn kept_over_part()
+    ensures { KeptOverPart }
 {}

@@ -11,7 +11,7 @@ mod refusal;
 mod walk;
 mod writing;
 
-pub use joining::overlay;
+pub use joining::{join, overlay};
 pub use reading::{Restart, read_restart};
 pub use refusal::RestartRefusal;
 pub use writing::put_restart;
