@@ -12,7 +12,7 @@ use Rattle.mesh_rounds.specs.State.{IsFirst, IsState, State}
 use Rattle.adapt_words.specs.Restarts.{SaveWords}
 use Rattle.adapt_cli.specs.FaultTexts.{Fault}
 use Rattle.adapt_cli.specs.InputFiles.{AcceptsMacro}
-use Rattle.adapt_cli.specs.Restarts.{AcceptsRestart, JoinsTo, Kept, KeepsForest, SavesTo}
+use Rattle.adapt_cli.specs.Restarts.{AcceptsRestart, JoinsTo, Kept, IsForestKept, SavesTo}
 use Rattle.adapt_cli.specs.Rounds.{LeadTo}
 use Rattle.adapt_cli.specs.Stops.{IsRun, StopsBy}
 use Rattle.adapt_cli.specs.declared.fault.Stop.{Stop}
@@ -24,8 +24,8 @@ pub as_part : (bytes : List ℕ) (mesh : Mesh) → AcceptsMacro bytes mesh → I
 as_part bytes mesh h = record { short = h.1.short; text = h.0; read = h.1.read; faultless = h.2.faultless; checked = h.2.is_mesh }
 
 -- a restart file keeps a forest over its mesh
-pub kept_forest : (bytes : List ℕ) (kept : Kept) → AcceptsRestart bytes kept → KeepsForest kept
-kept_forest bytes kept h = record { is_part = h.1.is_part; members = h.1.kept }
+pub kept_forest : (bytes : List ℕ) (kept : Kept) → AcceptsRestart bytes kept → IsForestKept kept
+kept_forest bytes kept h = record { is_part = h.1.is_part; kept = h.1.kept }
 
 -- the members in a state, as a list, can be kept
 pub kept_state : (mesh : Mesh) → IsChecked mesh → (state : State) → IsState mesh state → (list : List Name) → IsListOf state.members list → IsKept (shape_of mesh) list

@@ -3,14 +3,13 @@ use Rattle.std.specs.Prelude.{◌≡◌, ◌≢◌, ℕ, ◌≤◌, ◌⊎◌, L
 use Rattle.std.specs.Fmt.{decimal}
 use Rattle.mesh_io.specs.Shelves.{Files}
 use Rattle.mesh_names.specs.Forests.{IsListOf}
-use Rattle.mesh_names.specs.LeastForest.{IsLeast}
 use Rattle.mesh_names.specs.Names.{Name}
 use Rattle.mesh_names.specs.Spelling.{spelling}
-use Rattle.compat_check.specs.Meshes.{Mesh, shape_of}
+use Rattle.compat_check.specs.Meshes.{Mesh}
 use Rattle.mark_file.specs.Meaning.{Round}
 use Rattle.mesh_rounds.specs.State.{IsFirst, State}
-use Rattle.restart_file.specs.Files.{IsPart, IsRestart}
-use Rattle.restart_file.specs.Kept.{IsKept, set_of}
+use Rattle.restart_file.specs.Files.{IsRestart}
+use Rattle.restart_file.specs.Joined.{IsJoined, KeepsForest}
 use Rattle.restart_file.specs.Refusals.{IsRestartRefusal}
 use Rattle.restart_file.specs.declared.reading.Restart.{Restart}
 use Rattle.restart_file.specs.declared.refusal.RestartRefusal.{RestartRefusal}
@@ -54,9 +53,8 @@ abbrev pub kept_of : Restart → Kept
 kept_of r = record { part = r.macro_bytes.items; mesh = r.mesh; members = r.members.items }
 
 -- the bytes are those of the mesh's macro file, and the members those of a conforming forest over it, in order
-pub record KeepsForest (kept : Kept) : Type 0 where
-  pub is_part : IsPart kept.part kept.mesh
-  pub members : IsKept (shape_of kept.mesh) kept.members
+abbrev pub IsForestKept : Kept → Type 0
+IsForestKept kept = KeepsForest kept.part kept.mesh kept.members
 
 -- the bytes are a restart file that keeps this
 abbrev pub AcceptsRestart : List ℕ → Kept → Type 0
@@ -93,11 +91,14 @@ SaveAsks save = Asks save.macro_file AcceptsPart (AsksOnce save.marks_file)
 abbrev pub parts_differ : Fault
 parts_differ = (3, codes "adapt: restart: macro parts differ\n")
 
+-- the end of two such files
+abbrev pub ArePartsApart : End → Type 0
+ArePartsApart end = end ≡ Err parts_differ
+
 -- two restart files lead to that of the least conforming forest that holds both, with the macro file of the first
 abbrev pub JoinsTo : Kept → Kept → End → Type 0
 JoinsTo first second (Ok text) =
-    (first.part ≡ second.part) × (members : List Name) × IsLeast (shape_of first.mesh) (set_of first.members) (set_of second.members) (set_of members)
-    × IsRestart text first.part first.mesh members
+    (first.part ≡ second.part) × IsJoined text first.part first.mesh first.members second.members
 JoinsTo first second (Err fault) = (first.part ≢ second.part) × (fault ≡ parts_differ)
 
 -- what joining and its files lead to

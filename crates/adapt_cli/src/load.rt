@@ -3,7 +3,7 @@ ghost use Rattle.std.specs.Prelude.{◌≡◌, ◌≤◌, All, IfErr, IfOk, Some
 ghost use Rattle.mesh_names.specs.Marks.{IsWellFormed};
 ghost use Rattle.mark_file.specs.Meaning.{rounds_read};
 ghost use Rattle.adapt_cli.specs.InputFiles.{AcceptsMacro, AcceptsMarks, AcceptsText, IsChecked, IsTooLong, RefusesMacro, RefusesMarks, RefusesText, TellsCheck, macro_limit, marks_limit};
-ghost use Rattle.adapt_cli.specs.Restarts.{AcceptsPart, AcceptsRestart, KeepsForest, RefusesRestart, kept_of, restart_limit};
+ghost use Rattle.adapt_cli.specs.Restarts.{AcceptsPart, AcceptsRestart, IsForestKept, RefusesRestart, kept_of, restart_limit};
 ghost use Rattle.adapt_cli.specs.Stops.{Gives, GivesBytes, IsLoadStop, RefusesBy};
 
 use crate::fault::{FileStop, Stop, marks_line, refused};
@@ -212,7 +212,7 @@ pub fn load_restart<'a, S: Shelf>(
     name: &'a str,
 ) -> Result<Restart, FileStop<'a>>
     ensures ok { IfOk result (λ restart. Gives (λ bytes. AcceptsRestart bytes (kept_of restart)) name.now (S.files shelf.old) (S.faults shelf.old) (S.faults shelf.new)) }
-    ensures keeps { IfOk result (λ restart. KeepsForest (kept_of restart)) }
+    ensures keeps { IfOk result (λ restart. IsForestKept (kept_of restart)) }
     ensures stopped { IfErr result (IsLoadStop RefusesRestart 3 name.now (S.files shelf.old) (S.steady shelf.old) (S.faults shelf.old) (S.faults shelf.new)) }
     ensures same { S.files shelf.new ≡ S.files shelf.old }
     ensures stays { S.steady shelf.old ≡ true → S.steady shelf.new ≡ true }
