@@ -57,8 +57,6 @@ pub fn adapt<R: Threads + Sync, S: Shelf, O: Sink, E: Sink, G: Gate + Sync>(
         Ok(Command::Mend(mend)) => finish(mend_text(alloc, &mend, shelf), out, err),
         Ok(Command::Save(save)) => finish(save_text(alloc, &save, shelf), out, err),
         Ok(Command::Join(join)) => finish(join_text(alloc, &join, shelf), out, err),
-        Ok(Command::Resume(_)) => write_line(err, USAGE, 2),
-        Ok(Command::Find(_)) => write_line(err, USAGE, 2),
         Err(WordsRefusal::Outside) => write_line(err, USAGE, 2),
         Err(WordsRefusal::Memory) => write_line(err, MEMORY, 1),
     }
