@@ -134,6 +134,7 @@ fn a_draw_beyond_the_free_blocks_is_refused(rt: HostRuntime) -> Result<(), Fail>
 }
 
 // What two threads tell each other.
+#[derive(Drop)]
 struct Hold {
     claimed: AtomicU64,
     answered: AtomicU64,
@@ -181,6 +182,14 @@ fn call_meanwhile(
     Some(answer)
 }
 
+// Whether the patch of this owner was claimed, and its LINK word was 1.
+fn is_deferred(answer: &Result<Done, ClaimRefusal>, by: ElemName) -> bool {
+    match answer {
+        Err(ClaimRefusal::Deferred { owner, old_word }) => *owner == by && *old_word == 1,
+        _ => false,
+    }
+}
+
 // Two passes refine a name each, the second while the first is held.
 fn call_both<R: Threads + Sync>(
     rt: &R,
@@ -210,7 +219,9 @@ fn call_both<R: Threads + Sync>(
 fn a_claim_of_another_pass_defers(rt: HostRuntime) -> Result<(), Fail> {
     let alloc = rt.alloc();
     let mesh = square(alloc)?;
-    let needs = [ElemName::top(0), ElemName::top(1)];
+    let zero = ElemName::top(0);
+    let beside = ElemName::top(1);
+    let needs = [zero, beside];
     let (table, mut owner) = begun(alloc, &mesh, 4, &needs)?;
     let mut one = owner.split(&table, 1);
     let mut two = owner.split(&table, 2);
@@ -219,15 +230,14 @@ fn a_claim_of_another_pass_defers(rt: HostRuntime) -> Result<(), Fail> {
         answered: AtomicU64::new(0),
         late: AtomicU64::new(0),
     };
-    let (first, second) = call_both(&rt, &table, &mut one, &mut two, needs[0], needs[1], &hold);
+    let (first, second) = call_both(&rt, &table, &mut one, &mut two, zero, beside, &hold);
     let published = matches!(first, Ok(Done::Published(1)));
     assert!(rt; published);
-    let Some(Err(ClaimRefusal::Deferred { owner, old_word })) = second else {
-        assert!(rt; false);
-        return Ok(());
+    let deferred = match &second {
+        Some(answer) => is_deferred(answer, zero),
+        None => false,
     };
-    assert_eq!(rt; owner, needs[0]);
-    assert_eq!(rt; old_word, 1);
+    assert!(rt; deferred);
     assert_eq!(rt; hold.late.load(Ordering::SeqCst), 0);
     Ok(())
 }
