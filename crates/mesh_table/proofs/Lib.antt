@@ -12,6 +12,7 @@ pub mod Standing
 pub mod Retiring
 pub mod Telling
 pub mod Seats
+pub mod Aiming
 pub mod Reading
 pub mod Owning
 pub mod Phasing

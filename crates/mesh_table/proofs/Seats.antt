@@ -1,13 +1,14 @@
 -- A round begins, and passes are made and joined.
-use Rattle.std.proofs.Common.{◌≡◌, ◌≢◌, ℕ, zero, suc, ◌+◌, ◌-◌, ◌<◌, ◌≤◌, List, [], ◌∷◌, ◌++◌, length, get_or, set, refl, sym, ap, ◌∙◌, subst, arith, inl, inr, ◌⊎◌, Bool, cond, ltb, lt-ltb, le-ltb, length-set, length-append, false}
+use Rattle.std.proofs.Common.{◌≡◌, ◌≢◌, ℕ, zero, suc, ◌+◌, ◌-◌, ◌<◌, ◌≤◌, List, [], ◌∷◌, ◌++◌, length, get_or, set, refl, sym, ap, ◌∙◌, subst, arith, inl, inr, ◌⊎◌, Bool, cond, ltb, lt-ltb, le-ltb, length-set, length-append, false, true}
 use mathlib.Core.Logic.{dite}
 use mathlib.Core.Path.{fun_ext}
 use native.Mathlib.Decide.{ℕ_discrete, dec_lt}
 use lib.Seq.{set-get_or}
 use Rattle.atomic_table.specs.Table.{Allows, Splits, Joins}
-use Rattle.table_words.specs.Claims.{Claim}
+use Rattle.table_words.specs.Claims.{Claim, Progress, Living, claim}
+use Rattle.table_words.specs.Entries.{HasEntry}
 use Rattle.table_words.specs.Functions.{update}
-use Rattle.table_words.specs.Views.{FirstHalf, Owner, Worker, Reader, owns_nothing, unread, Plan, Views, Work, Owned, Read, Vacant, is_reader, Kind}
+use Rattle.table_words.specs.Views.{FirstHalf, SecondHalf, Owner, Worker, Reader, owns_nothing, unread, Plan, Views, Work, Owned, Read, Ruling, Vacant, is_reader, Kind}
 use Rattle.table_words.specs.Words.{Words, words_at}
 use Rattle.table_words.proofs.Functions.{update_same, update_at, update_other, part_set, part_kept}
 use Rattle.table_state.specs.Fresh.{idle}
@@ -19,15 +20,17 @@ use Rattle.table_words.proofs.Sums.{summand, one_if}
 use Rattle.table_state.proofs.Across.{some_worker}
 use Rattle.table_state.proofs.Known.{early_one}
 use Rattle.table_state.specs.Owner.{is_early}
+use Rattle.table_steps.specs.OwnerSteps.{NumbersPass}
 use Rattle.table_steps.specs.States.{state}
 use Rattle.table_steps.specs.Steps.{ByBeginStep, BySplitStep, ByJoinWorker, ByJoinReader}
 use Rattle.table_steps.proofs.StepsKeep.{steps_keep}
 use Rattle.mesh_table.specs.declared.rule.Site.{Site}
 use Rattle.mesh_table.specs.Sights.{Sight, nobody, seat_at, views_of, setup_at}
 use Rattle.mesh_table.specs.Holds.{Holds, Sat}
-use Rattle.mesh_table.specs.Passes.{MayBegin, begun, left_by_split, made_worker, joined, left_by_reader, made_reader, joined_reader}
+use Rattle.mesh_table.specs.Passes.{MayBegin, begun, made_worker, joined, left_by_reader, made_reader, joined_reader}
+use Rattle.mesh_table.specs.Crews.{left_lone}
 use Rattle.mesh_table.specs.Told.{moved}
-use Rattle.mesh_table.proofs.Bridge.{St, stepped, allows, seat_of, set_seat}
+use Rattle.mesh_table.proofs.Bridge.{St, after, stepped, allows, seat_of, set_seat}
 use Rattle.table_words.proofs.SeatKinds.{reader_is}
 use Rattle.mesh_names.specs.Names.{digit}
 
@@ -80,13 +83,30 @@ some_early s w n v g r j k = elim (dec_lt (v.read j).made v.ruling.finished) [
   | no o ↦ let le : v.ruling.finished ≤ (v.read j).made = omega arith in inr (le, sym (ap (λ (b : Bool). cond {A = ℕ} b (v.ruling.early - 1) v.ruling.early) (le-ltb (v.read j).made v.ruling.finished le)))
 ]
 
+-- a worker's pass of this number may be made, and whether a pass of worker 0 of the first half may be out then
+pub data MayMake (u : Ruling) (claims : List Claim) (number : ℕ) (lone : Bool) : Type 0 where
+  InSecond : u.phase ≡ SecondHalf → lone ≡ u.lone → MayMake u claims number lone
+  AsLast : u.phase ≡ FirstHalf → number ≡ 0 → u.workers ≡ 0 → ((x m : ℕ) (p : Progress) → HasEntry claims (claim x m p) → (b : ℕ) × (p ≡ Living b)) → lone ≡ true → MayMake u claims number lone
+  AsOther : u.phase ≡ FirstHalf → 0 < number → u.lone ≡ false → lone ≡ false → MayMake u claims number lone
+
+in_half : (u : Ruling) (claims : List Claim) (number : ℕ) (lone : Bool) → MayMake u claims number lone → (u.phase ≡ FirstHalf) ⊎ (u.phase ≡ SecondHalf)
+in_half u claims number lone (InSecond h e) = inr h
+in_half u claims number lone (AsLast h z o l e) = inl h
+in_half u claims number lone (AsOther h s o e) = inl h
+
+numbered : (v : Views) (number : ℕ) (lone : Bool) → MayMake v.ruling (v.claims 0) number lone → NumbersPass v Worker number lone
+numbered v number lone (InSecond h e) = inl (inr h, e)
+numbered v number lone (AsLast h z o l e) = inr (inl (z, o, l, e))
+numbered v number lone (AsOther h s o e) = inr (inr (s, o, e))
+
 module _ (k : Site) (id : ℕ) where
   -- the owner's seat is the first
   pub first_seat : (s : St k) (h : Holds k s) (v : Sight) → seat_at s.views id ≡ v → v.kind ≡ Owner → id ≡ 0
   first_seat s h v same rules = h.lawful.1.rules.one id (ap (λ (x : Sight). x.kind) same ∙ rules)
 
-  pub begins : (i : ℕ) (me : Sat) (p : Plan) → MayBegin (setup_at k) me.0 p → (slots : ℕ) → Allows (Holds k) slots id me i (λ n. n) (moved (λ n v. begun v p) me)
-  begins i me p may slots = allows k slots id i (λ n. n) me (moved (λ n v. begun v p) me) (λ s h l same _.
+  -- a round begins in one state
+  pub begins_state : (i : ℕ) (me : Sat) (p : Plan) → MayBegin (setup_at k) me.0 p → (s : St k) → Holds k s → id < length s.views → seat_at s.views id ≡ me.0 → (u : Sight) × Holds k (after k s i (get_or s.words i 0) id u) × (u ≡ begun me.0 p)
+  begins_state i me p may s h l same =
       let f = seat_at s.views in
       let zero_ = first_seat s h me.0 same may.rules in
       let same0 : f 0 ≡ me.0 = ap f (sym zero_) ∙ same in
@@ -96,11 +116,15 @@ module _ (k : Site) (id : ℕ) where
         stepped k s h i (get_or s.words i 0) id u (words_at k.layout s.words) _ l (ap (words_at k.layout) (set-get_or s.words i 0))
             (ap (λ (j : ℕ). views_of (update f j u)) zero_ ∙ in_owner f u refl refl refl refl)
             (ByBeginStep (p, can.names, can.last, can.target, can.room, can.rests, can.cursor, refl)),
-        (refl, ap (λ (x : Sight). begun x p) same0),
-      ))
+        ap (λ (x : Sight). begun x p) same0,
+      )
 
-  pub splits_worker : (v : Sight) (number : ℕ) → v.kind ≡ Owner → v.ruling.phase ≡ FirstHalf → v.ruling.lone ≡ false → 0 < number → Splits (Holds k) id v (left_by_split v) (made_worker v number)
-  splits_worker v number rules half alone some_ s h at =
+  pub begins : (i : ℕ) (me : Sat) (p : Plan) → MayBegin (setup_at k) me.0 p → (slots : ℕ) → Allows (Holds k) slots id me i (λ n. n) (moved (λ n v. begun v p) me)
+  begins i me p may slots = allows k slots id i (λ n. n) me (moved (λ n v. begun v p) me) (λ s h l same _.
+      let b = begins_state i me p may s h l same in (b.0, b.1, (refl, b.2)))
+
+  pub splits_as : (v : Sight) (number : ℕ) (lone : Bool) → v.kind ≡ Owner → MayMake v.ruling v.claims number lone → Splits (Holds k) id v (left_lone v lone) (made_worker v number)
+  splits_as v number lone rules may s h at =
       let t = seat_of s.views id v at in
       let f = seat_at s.views in
       let n = length s.views in
@@ -108,7 +132,8 @@ module _ (k : Site) (id : ℕ) where
       let zero_ = first_seat s h v t.0 rules in
       let same : f 0 ≡ v = ap f (sym zero_) ∙ t.0 in
       let many = t.1 in
-      let left = left_by_split (f 0) in
+      let can : MayMake (f 0).ruling (f 0).claims number lone = subst (λ (x : Sight). MayMake x.ruling x.claims number lone) (sym same) may in
+      let left = left_lone (f 0) lone in
       let made = made_worker (f 0) number in
       let apart : 0 ≢ n = (λ (e : 0 ≡ n). omega arith) in
       let seats : seat_at (set s.views 0 left ++ made ∷ []) ≡ update (update f 0 left) n made =
@@ -135,13 +160,13 @@ module _ (k : Site) (id : ℕ) where
         owned = update (update (views_of f).owned 0 owns_nothing) n owns_nothing;
         read = update (views_of f).read n made.read;
         ruling = left.ruling;
-      }) (BySplitStep (Worker, (f 0).ruling.workers + 1, (f 0).ruling.readers, inl (refl, inl (ap (λ (x : Sight). x.ruling.phase) same ∙ half), refl, refl), number, false, inr (inr (some_, ap (λ (x : Sight). x.ruling.lone) same ∙ alone, refl)), [], (λ a e. absurd e), refl)) h.lawful in
+      }) (BySplitStep (Worker, (f 0).ruling.workers + 1, (f 0).ruling.readers, inl (refl, in_half (f 0).ruling (f 0).claims number lone can, refl, refl), number, lone, numbered (views_of f) number lone can, [], (λ a e. absurd e), refl)) h.lawful in
       let long : n + 1 ≡ length (set s.views 0 left ++ made ∷ []) = let a = length-append (set s.views 0 left) (made ∷ []) in let b = length-set s.views 0 left in omega arith in
       let held : Holds k record { words = s.words; homes = s.homes; views = set s.views 0 left ++ made ∷ [] } = record {
         size_is = h.size_is;
         lawful = subst (λ (x : ℕ × Views). Lawful (setup_at k) w x.0 x.1) (λ i. (long i, (sym views ∙ sym (ap views_of seats)) i)) lawful;
       } in
-      subst (λ (x : ℕ × Sight). Holds k record { words = s.words; homes = s.homes; views = set s.views x.0 (left_by_split x.1) ++ made_worker x.1 number ∷ [] }) (λ i. (sym zero_ i, same i)) held
+      subst (λ (x : ℕ × Sight). Holds k record { words = s.words; homes = s.homes; views = set s.views x.0 (left_lone x.1 lone) ++ made_worker x.1 number ∷ [] }) (λ i. (sym zero_ i, same i)) held
 
   pub joins_worker : (v : Sight) (other : ℕ) (u : Sight) → v.kind ≡ Owner → u.kind ≡ Worker → Joins (Holds k) id v other u (joined v u) nobody
   joins_worker v other u rules works s h at differ there =

@@ -6,3 +6,4 @@ pub mod Told
 pub mod SecondHalf
 pub mod Passes
 pub mod Rounds
+pub mod Crews

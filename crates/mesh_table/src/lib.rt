@@ -2,6 +2,7 @@
 //! The shared table of a mesh: real words under the rule.
 
 pub mod claims;
+pub mod crew;
 pub mod fills;
 pub mod links;
 pub mod looks_owner;

@@ -1,0 +1,5 @@
+pub mod Running
+pub mod Crews
+pub mod Zips
+pub mod Sharing
+pub mod Making

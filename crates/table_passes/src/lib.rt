@@ -1,0 +1,11 @@
+#![tactic(auto)]
+//! The passes of the shared table: the owner's seat, workers' passes with their rounds and numbers, and passes at work in threads.
+
+pub mod dealing;
+pub mod owner;
+pub mod pass;
+pub mod shares;
+pub mod tasks;
+#[cfg(test)]
+mod tests;
+pub mod work;
