@@ -10,14 +10,14 @@ use Rattle.forest_plain.specs.Rounds.{IsRoundRefusal}
 use Rattle.forest_plain.specs.declared.refusal.RoundRefusal.{RoundRefusal}
 use Rattle.mesh_rounds.specs.State.{IsFirst, IsMeshRound, State}
 use Rattle.soak.specs.Rows.{Drawing, IsDrawn, rows_for}
-use Rattle.adapt_words.specs.Words.{SoakWords}
+use Rattle.adapt_words.specs.Rounds.{SoakWords}
 use Rattle.adapt_cli.specs.FaultTexts.{Fault}
 use Rattle.adapt_cli.specs.Reports.{AreLeaves}
 use Rattle.adapt_cli.specs.Rounds.{whole}
 use Rattle.adapt_cli.specs.Soaks.{DrawnTo, DrawsTo, IsGridMesh, IsSoakOutcome, Overfills, TellsOf}
 use Rattle.adapt_cli.specs.Stops.{IsRoundStop, StopsBy}
 use Rattle.adapt_cli.specs.declared.fault.Stop.{Stop}
-use Rattle.adapt_cli.specs.declared.fault.Stop.TheVariants.{Refused, Memory, ReadFault}
+use Rattle.adapt_cli.specs.declared.fault.Stop.TheVariants.{Refused, Memory}
 use Rattle.adapt_cli.proofs.FullPools.{all-fine, overfills}
 
 -- a drawn round is refused
@@ -34,7 +34,6 @@ draw-stops mesh pool number drawing old list rows refusal (Refused fault) forest
   ),
 )
 draw-stops mesh pool number drawing old list rows refusal Memory forest listed drawn are cause told = tt
-draw-stops mesh pool number drawing old list rows refusal (ReadFault file) forest listed drawn are cause told = absurd told
 
 module _ (mesh : Mesh) (pool rounds : ℕ) (begin : Drawing) (first : State) where
   -- what the rounds that are left lead to from here, all of them lead to from the start
@@ -58,7 +57,6 @@ module _ (mesh : Mesh) (pool rounds : ℕ) (begin : Drawing) (first : State) whe
 
   pub stops-drawing : (made : ℕ) (drawing : Drawing) (now : State) (stop : Stop) → DrawnSoFar made drawing now → made < rounds → StopsBy (DrawsTo mesh pool 1 (made + 1) drawing now) stop → StopsBy (DrawsTo mesh pool rounds 1 begin first) stop
   stops-drawing made drawing now Memory so_far low stops = tt
-  stops-drawing made drawing now (ReadFault file) so_far low stops = absurd stops
   stops-drawing made drawing now (Refused fault) so_far low stops = so_far.leads (Err (fault.status, string_bytes fault.line)) (subst (λ (n : ℕ). DrawsTo mesh pool n (made + 1) drawing now (Err (fault.status, string_bytes fault.line))) (next-left made low) (
     stops.0,
     stops.1,
@@ -85,7 +83,6 @@ soaks soak mesh first last pool line grid is_first same drawn tells = (mesh, gri
 pub soak-stops : (soak : SoakWords) (mesh : Mesh) (first : State) (pool : ℕ) (stop : Stop) → IsGridMesh soak.grid mesh → IsFirst mesh first → pool ≡ soak.pool → StopsBy (DrawsTo mesh pool soak.rounds 1 (record { state = soak.start; row = 1 }) first) stop → StopsBy (IsSoakOutcome soak) stop
 soak-stops soak mesh first pool (Refused fault) grid is_first same stops = (mesh, grid, first, is_first, subst (λ (p : ℕ). DrawsTo mesh p soak.rounds 1 (record { state = soak.start; row = 1 }) first (Err (fault.status, string_bytes fault.line))) same stops)
 soak-stops soak mesh first pool Memory grid is_first same stops = tt
-soak-stops soak mesh first pool (ReadFault file) grid is_first same stops = absurd stops
 
 pub soak-wants : (soak : SoakWords) (stop : Stop) → stop ≡ Memory → StopsBy (IsSoakOutcome soak) stop
 soak-wants soak stop is = subst (StopsBy (IsSoakOutcome soak)) (sym is) tt

@@ -1,18 +1,16 @@
 -- How a call ends.
 use Rattle.std.proofs.Common.{◌≡◌, ℕ, Bool, refl, sym, List, inl, inr, ⊎_elim, subst}
-use Rattle.std.specs.Prelude.{Option, Some, None, IfSome, Ok, Err, string_bytes}
+use Rattle.std.specs.Prelude.{Option, Some, None, IfErr, IfOk, IfSome, Result, Ok, Err, Vec, string_bytes}
+use Rattle.std.specs.declared.alloc.Global.{Global}
 use Rattle.mesh_io.specs.Shelves.{Files}
-use Rattle.compat_check.specs.Meshes.{Mesh}
-use Rattle.mark_file.specs.Meaning.{Round}
+use Rattle.adapt_words.specs.Numbers.{Word}
 use Rattle.adapt_words.specs.Words.{CommandWords}
-use Rattle.adapt_cli.specs.FaultTexts.{memory_line, read_fault_line, usage}
-use Rattle.adapt_cli.specs.Ending.{Call, Ends, IsNext, IsOutcomeOf, IsText, IsUntouched, LineEnds, Source, StopEnds, Tells, TextEnds, Written, inputs_of}
-use Rattle.adapt_cli.specs.Outcome.{End, FilesLeadTo, Inputs}
-use Rattle.adapt_cli.specs.Stops.{IsStop, IsTextOf, IsTurn, name_of}
-use Rattle.adapt_cli.specs.declared.fault.InputFile.{InputFile}
-use Rattle.adapt_cli.specs.declared.fault.InputFile.TheVariants.{Macro, Marks}
-use Rattle.adapt_cli.specs.declared.fault.Stop.{Stop}
-use Rattle.adapt_cli.specs.declared.fault.Stop.TheVariants.{Refused, Memory, ReadFault}
+use Rattle.adapt_cli.specs.FaultTexts.{End, memory_line, read_fault_line, usage}
+use Rattle.adapt_cli.specs.Ending.{AsksFor, Call, Ends, Finishes, IsOutcomeOf, IsText, IsUntouched, LineEnds, Source, Tells, TextEnds, Written}
+use Rattle.adapt_cli.specs.Stops.{IsStop, IsTextOf}
+use Rattle.adapt_cli.specs.declared.fault.FileStop.{FileStop}
+use Rattle.adapt_cli.specs.declared.fault.FileStop.TheVariants.{Stopped, Unread}
+use Rattle.adapt_cli.specs.declared.fault.Stop.TheVariants.{Refused, Memory}
 
 abbrev pub call : Source → Written → Written → ℕ → Call
 call source out err status = record { source = source; out = out; err = err; status = status }
@@ -43,30 +41,25 @@ written_out source out err text result is_text ends = ⊎_elim
     (λ h. inr (inr (inl (record { status_is = h.0; text = text; is_text = is_text; out_failed = h.1; err_told = h.2 }))))
     ends
 
--- a command with files: what the files lead to is its outcome
-module _ (ends : Mesh → List Round → End → Type 0) (command : CommandWords) (inputs : Inputs) (is : inputs_of command ≡ Some inputs) (files : Option Files)
-    (leads : (end : End) → IfSome files (λ told. FilesLeadTo ends inputs told end) → IsOutcomeOf files command end) (steady : Bool) (before now : ℕ) where
+-- a command with files: what they lead to is its outcome
+module _ (leads : Files → End → Type 0) (asks : Option Files → Word → Type 0) (command : CommandWords) (files : Option Files) (steady : Bool) (before now : ℕ)
+    (is_outcome : (end : End) → IfSome files (λ told. leads told end) → IsOutcomeOf files command end) (is_asked : (name : Word) → asks files name → AsksFor command files name) where
   abbrev pub source_of : Source
   source_of = record { command = Some command; files = files; steady = steady; before = before; now = now }
 
-  pub text_of : (text : List ℕ) → IsTextOf ends inputs files before now text → IsText source_of text
-  text_of text h = record { calm = h.0; outcome = record { command = command; is_command = refl; outcome = leads (Ok text) h.1 } }
-
-  is_next : (file : InputFile) → IsTurn files inputs file → IsNext source_of (name_of inputs file)
-  is_next Macro turn = (command, refl, inputs, is, inl refl)
-  is_next Marks turn = (command, refl, inputs, is, inr (refl, turn))
-
-  pub ends_at_stop : (out err : Written) → IsUntouched out → (stop : Stop) → IsStop ends inputs files steady before now stop → (result : ℕ) → StopEnds inputs stop err result → Ends (call source_of out err result)
-  ends_at_stop out err kept (Refused fault) h result at = told source_of out err kept (string_bytes fault.line) fault.status result (inr (inr (inl (record { low = h.0; high = h.1; calm = h.2; outcome = record { command = command; is_command = refl; outcome = leads (Err (fault.status, string_bytes fault.line)) h.3 } })))) at
-  ends_at_stop out err kept Memory h result at = told source_of out err kept memory_line 1 result (inl (record { status_is = refl; line_is = refl; calm = h })) at
-  ends_at_stop out err kept (ReadFault file) h result at = told source_of out err kept (read_fault_line (name_of inputs file)) 6 result (inr (inr (inr (record {
+  pub finished : (ended : Result (Vec ℕ Global) FileStop) (out err : Written) (result : ℕ) → IfOk ended (λ text. IsTextOf leads files before now text.items) → IfErr ended (IsStop leads asks files steady before now) →
+      Finishes ended out err result → Ends (call source_of out err result)
+  finished (Ok text) out err result h stops at = written_out source_of out err text.items result (record { calm = h.0; outcome = record { command = command; is_command = refl; outcome = is_outcome (Ok text.items) h.1 } }) at
+  finished (Err (Stopped (Refused fault))) out err result h stops at = told source_of out err at.0 (string_bytes fault.line) fault.status result (inr (inr (inl (record { low = stops.0; high = stops.1; calm = stops.2; outcome = record { command = command; is_command = refl; outcome = is_outcome (Err (fault.status, string_bytes fault.line)) stops.3 } })))) at.1
+  finished (Err (Stopped Memory)) out err result h stops at = told source_of out err at.0 memory_line 1 result (inl (record { status_is = refl; line_is = refl; calm = stops })) at.1
+  finished (Err (Unread name)) out err result h stops at = told source_of out err at.0 (read_fault_line name.now) 6 result (inr (inr (inr (record {
     status_is = refl;
-    name = name_of inputs file;
-    is_next = is_next file h.1;
+    name = name.now;
+    is_next = (command, refl, is_asked name.now stops.1);
     line_is = refl;
-    rose = h.0;
-    missing = h.2;
-  })))) at
+    rose = stops.0;
+    missing = stops.2;
+  })))) at.1
 
 -- the words are outside the form
 pub ends_outside : (source : Source) (out err : Written) → IsUntouched out → source.command ≡ None → source.now ≡ source.before → (result : ℕ) → LineEnds err usage 2 result → Ends (call source out err result)

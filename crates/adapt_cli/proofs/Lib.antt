@@ -8,3 +8,5 @@ pub mod FullPools
 pub mod Drawing
 pub mod SoakEnds
 pub mod MarkOutcomes
+pub mod FilesInTurn
+pub mod SoakStops

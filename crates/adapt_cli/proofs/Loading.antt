@@ -1,38 +1,53 @@
 -- What the loads of the files lead to.
-use Rattle.std.proofs.Common.{◌≡◌, ℕ, zero, suc, ◌≤◌, subst, List, [], ◌∷◌, map, length, inr, arith}
-use Rattle.std.specs.Prelude.{All, Result, Ok, IfOk, Some, String, string_bytes}
+use Rattle.std.proofs.Common.{◌≡◌, ℕ, zero, suc, ◌≤◌, refl, subst, sym, Bool, List, [], ◌∷◌, map, length, arith}
+use Rattle.std.specs.Prelude.{All, Result, Ok, IfOk, Option, Some, None, IfSome, String, string_bytes}
+use Rattle.std.specs.FinMap.{get}
 use Rattle.std.specs.declared.alloc.Global.{Global}
 use Rattle.std.specs.declared.alloc.AllocError.{AllocError}
+use Rattle.mesh_io.specs.Shelves.{Files}
 use Rattle.mesh_names.specs.Marks.{IsWellFormed}
 use Rattle.mesh_names.specs.declared.rows.RoundMarks.{RoundMarks}
-use Rattle.macro_file.specs.Meaning.{meaning}
-use Rattle.macro_file.specs.Text.{macro_of}
-use Rattle.macro_file.specs.declared.text.MacroText.{MacroText}
-use Rattle.compat_check.specs.Checks.{IsCheckRefusal}
-use Rattle.compat_check.specs.declared.refusal.CheckRefusal.{CheckRefusal}
 use Rattle.mark_file.specs.Meaning.{AreMarks, Round, round_read, rounds_read}
-use Rattle.adapt_cli.specs.FaultTexts.{check_line}
-use Rattle.adapt_cli.specs.Outcome.{RefusesMacro, macro_limit}
-use Rattle.adapt_cli.specs.Stops.{IsRefusedWith, RefusesBy}
+use Rattle.adapt_words.specs.Numbers.{Word}
+use Rattle.adapt_cli.specs.Stops.{Gives, IsLoadStop, IsRefusedWith, RefusesBy}
+use Rattle.adapt_cli.specs.declared.fault.FileStop.{FileStop}
+use Rattle.adapt_cli.specs.declared.fault.FileStop.TheVariants.{Stopped, Unread}
 use Rattle.adapt_cli.specs.declared.fault.Stop.{Stop}
-use Rattle.adapt_cli.specs.declared.fault.Stop.TheVariants.{Refused, Memory, ReadFault}
+use Rattle.adapt_cli.specs.declared.fault.Stop.TheVariants.{Refused, Memory}
 
--- a text that the check refuses
-pub unchecked : (bytes : List ℕ) → length bytes ≤ macro_limit → (text : MacroText) → meaning bytes ≡ Ok (macro_of text) → (refusal : CheckRefusal) → IsCheckRefusal text refusal →
-    (line : Result (String Global) AllocError) → IfOk line (λ t. check_line refusal ≡ Some (string_bytes t)) → (stop : Stop) → IsRefusedWith 3 line stop → RefusesBy 3 (RefusesMacro bytes) stop
-unchecked bytes short text read refusal cause line told (Refused fault) h = (
-  h.0,
-  inr (inr (record {
-    short = short;
-    text = text;
-    read = read;
-    refusal = refusal;
-    cause = cause;
-    told = subst (λ (r : Result (String Global) AllocError). IfOk r (λ t. check_line refusal ≡ Some (string_bytes t))) h.1 told;
-  })),
-)
-unchecked bytes short text read refusal cause line told Memory h = tt
-unchecked bytes short text read refusal cause line told (ReadFault file) h = absurd h
+-- a line that is refused with this status
+pub refused-line : (status : ℕ) (refuses : List ℕ → Type 0) (line : Result (String Global) AllocError) → IfOk line (λ t. refuses (string_bytes t)) → (stop : Stop) → IsRefusedWith status line stop → RefusesBy status refuses stop
+refused-line status refuses line told (Refused fault) h = (h.0, subst (λ (r : Result (String Global) AllocError). IfOk r (λ t. refuses (string_bytes t))) h.1 told)
+refused-line status refuses line told Memory h = tt
+
+-- more is known of the bytes that a shelf gave
+pub gives-more : (less more : List ℕ → Type 0) → ((bytes : List ℕ) → less bytes → more bytes) → (name : Word) (files : Option Files) (before now : ℕ) → Gives less name files before now → Gives more name files before now
+gives-more less more wider name files before now h = (h.0, by files h.1)
+  where
+    by : (o : Option Files) → IfSome o (λ told. (bytes : List ℕ) × (get told name ≡ Some bytes) × less bytes) → IfSome o (λ told. (bytes : List ℕ) × (get told name ≡ Some bytes) × more bytes)
+    by None x = tt
+    by (Some told) x = (x.0, x.1, wider x.0 x.2)
+
+module _ (name : Word) (status : ℕ) (files : Option Files) (steady : Bool) (before now : ℕ) where
+  -- what is refused for a reason is refused for one of several
+  pub load-refused : (less more : List ℕ → List ℕ → Type 0) → ((bytes line : List ℕ) → less bytes line → more bytes line) → (stop : FileStop) → IsLoadStop less status name files steady before now stop → IsLoadStop more status name files steady before now stop
+  load-refused less more wider (Stopped (Refused fault)) h = (h.0, h.1, by files h.2)
+    where
+      by : (o : Option Files) → IfSome o (λ told. (bytes : List ℕ) × (get told name ≡ Some bytes) × less bytes (string_bytes fault.line)) → IfSome o (λ told. (bytes : List ℕ) × (get told name ≡ Some bytes) × more bytes (string_bytes fault.line))
+      by None x = tt
+      by (Some told) x = (x.0, x.1, wider x.0 (string_bytes fault.line) x.2)
+  load-refused less more wider (Stopped Memory) h = h
+  load-refused less more wider (Unread asked) h = h
+
+  -- bytes that were given are refused
+  pub given-refused : (holds tells : List ℕ → Type 0) (refuses : List ℕ → List ℕ → Type 0) → ((bytes line : List ℕ) → holds bytes → tells line → refuses bytes line) →
+      Gives holds name files before now → (stop : Stop) → RefusesBy status tells stop → IsLoadStop refuses status name files steady before now (Stopped stop)
+  given-refused holds tells refuses joins gives (Refused fault) h = (h.0, gives.0, by files gives.1)
+    where
+      by : (o : Option Files) → IfSome o (λ told. (bytes : List ℕ) × (get told name ≡ Some bytes) × holds bytes) → IfSome o (λ told. (bytes : List ℕ) × (get told name ≡ Some bytes) × refuses bytes (string_bytes fault.line))
+      by None x = tt
+      by (Some told) x = (x.0, x.1, joins x.0 (string_bytes fault.line) x.2 h.1)
+  given-refused holds tells refuses joins gives Memory h = gives.0
 
 -- rows that a marks file gives
 pub marks_formed : (rounds : List RoundMarks) → AreMarks (rounds_read rounds) → All (λ r. All IsWellFormed r.rows.items) rounds

@@ -9,13 +9,13 @@ use Rattle.mark_file.specs.Meaning.{Round}
 use Rattle.mark_strategy.specs.Leaves.{Leaf, names_of}
 use Rattle.dof_transfer.specs.Held.{Held, worth_of}
 use Rattle.mesh_rounds.specs.State.{IsFirst, State}
-use Rattle.adapt_words.specs.Words.{MarkWords}
+use Rattle.adapt_words.specs.Rounds.{MarkWords}
 use Rattle.adapt_cli.specs.FaultTexts.{Fault, no_round_left}
 use Rattle.adapt_cli.specs.Marks.{IsMarksText, IsNoRoundLeft, MarksTo}
 use Rattle.adapt_cli.specs.Rounds.{LeadTo}
 use Rattle.adapt_cli.specs.Stops.{IsRun, StopsBy}
 use Rattle.adapt_cli.specs.declared.fault.Stop.{Stop}
-use Rattle.adapt_cli.specs.declared.fault.Stop.TheVariants.{Refused, Memory, ReadFault}
+use Rattle.adapt_cli.specs.declared.fault.Stop.TheVariants.{Refused, Memory}
 use Rattle.adapt_cli.proofs.Outcomes.{lead_status}
 
 -- a call for marks that is refused has status 4 or 5
@@ -32,13 +32,11 @@ none_left mesh mark rounds (Refused fault) full h = inl (full, inner h)
     inner : {A B : Type 0} {a b : B} → ◌≡◌ {A = Result A B} (Err a) (Err b) → a ≡ b
     inner q = cc
 none_left mesh mark rounds Memory full h = tt
-none_left mesh mark rounds (ReadFault file) full h = absurd h
 
 -- the rounds on a new forest are refused
 pub marks_refused : (mesh : Mesh) (mark : MarkWords) (rounds : List Round) (first : State) (stop : Stop) → length rounds < 65535 → IsFirst mesh first → StopsBy (LeadTo mesh mark.pool rounds first) stop → StopsBy (MarksTo mesh mark rounds) stop
 marks_refused mesh mark rounds first (Refused fault) left is_first stops = inr (left, first, is_first, stops)
 marks_refused mesh mark rounds first Memory left is_first stops = tt
-marks_refused mesh mark rounds first (ReadFault file) left is_first stops = absurd stops
 
 -- they end in marks of the last state
 pub marks_made : (mesh : Mesh) (mark : MarkWords) (rounds : List Round) (first last : State) (text : List ℕ) → length rounds < 65535 → IsFirst mesh first → IsRun mesh mark.pool rounds first last → IsMarksText mesh mark.rule (length rounds + 1) last text → MarksTo mesh mark rounds (Ok text)

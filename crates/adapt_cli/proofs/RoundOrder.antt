@@ -18,7 +18,7 @@ use Rattle.adapt_cli.specs.Reports.{IsReport, IsRoundText}
 use Rattle.adapt_cli.specs.Rounds.{LeadTo, last_state, preceded, whole}
 use Rattle.adapt_cli.specs.Stops.{IsReportedRun, IsRoundStop, IsRun, StopsBy}
 use Rattle.adapt_cli.specs.declared.fault.Stop.{Stop}
-use Rattle.adapt_cli.specs.declared.fault.Stop.TheVariants.{Refused, Memory, ReadFault}
+use Rattle.adapt_cli.specs.declared.fault.Stop.TheVariants.{Refused, Memory}
 
 -- these states before all others, where there is no fault
 abbrev after : List State → Result (List State) Fault → Result (List State) Fault
@@ -87,7 +87,6 @@ module _ (mesh : Mesh) (pool : ℕ) (rounds : List RoundMarks) (old : State) (i 
   pub stop_here : (round d : RoundMarks) (refusal : RoundRefusal) → i < length rounds → round ≡ slice_index_or rounds i d → IsRoundRefusal (shape_of mesh) (across_in mesh) (whole pool) now.members round.rows.items refusal → (stop : Stop) → IsRoundStop round.number refusal stop →
       StopsBy (LeadTo mesh pool (rounds_read rounds) old) stop
   stop_here round d refusal low at cause Memory told = tt
-  stop_here round d refusal low at cause (ReadFault file) told = absurd told
   stop_here round d refusal low at cause (Refused fault) told = so_far.leads (Err (fault.status, string_bytes fault.line)) (subst (λ (xs : List RoundMarks). LeadTo mesh pool (rounds_read xs) now (Err (fault.status, string_bytes fault.line))) (sym (next-drop rounds i round d low at)) (inr (
     (fault.status, string_bytes fault.line),
     record { refusal = refusal; cause = cause; told = told },

@@ -5,9 +5,10 @@ use Rattle.mesh_names.specs.Triangles.{level}
 use Rattle.compat_check.specs.Meshes.{Mesh, shape_of}
 use Rattle.mesh_rounds.specs.State.{IsMeshRound, State}
 use Rattle.soak.specs.Rows.{Drawing, after, rows_for}
-use Rattle.adapt_words.specs.Words.{CommandWords, SoakWords, soak}
-use Rattle.adapt_cli.specs.Ending.{Call, IsOutcomeOf, IsOutside, IsRefused, IsUnread, LosesLine, LosesText, WantsMemory, WritesLine, WritesText, inputs_of}
-use Rattle.adapt_cli.specs.Outcome.{Inputs}
+use Rattle.adapt_words.specs.Numbers.{Word}
+use Rattle.adapt_words.specs.Rounds.{SoakWords}
+use Rattle.adapt_words.specs.Words.{CommandWords, soak}
+use Rattle.adapt_cli.specs.Ending.{AsksFor, Call, IsOutcomeOf, IsOutside, IsRefused, IsUnread, LosesLine, LosesText, WantsMemory, WritesLine, WritesText}
 use Rattle.adapt_cli.specs.FaultTexts.{Fault}
 use Rattle.adapt_cli.specs.Rounds.{whole}
 use Rattle.adapt_cli.specs.SoakEnds.{FaultsAreFullPools, IsFullPool, IsSoakEnd, SoaksEnd}
@@ -60,11 +61,8 @@ module _ (call : Call) (s : SoakWords) (is : call.source.command ≡ Some (soak 
       apart : Some (soak s) ≡ None → ⊥
       apart q = cc
 
-  no-file : (command : CommandWords) → call.source.command ≡ Some command → (inputs : Inputs) → inputs_of command ≡ Some inputs → ⊥
-  no-file command e inputs f = apart (sym (ap inputs_of (ap inside (sym e ∙ is))) ∙ f)
-    where
-      apart : None ≡ Some inputs → ⊥
-      apart q = cc
+  no-file : (command : CommandWords) → call.source.command ≡ Some command → (name : Word) → AsksFor command call.source.files name → ⊥
+  no-file command e name asks = subst (λ (c : CommandWords). AsksFor c call.source.files name) (ap inside (sym e ∙ is)) asks
 
   refused : (line : List ℕ) → IsRefused call.source call.status line → IsSoakOutcome s (Err (call.status, line))
   refused line h = subst (λ (c : CommandWords). IsOutcomeOf call.source.files c (Err (call.status, line))) (ap inside (sym h.outcome.is_command ∙ is)) h.outcome.outcome
@@ -79,7 +77,7 @@ module _ (call : Call) (s : SoakWords) (is : call.source.command ≡ Some (soak 
         full = faults_are_full_pools s (call.status, w.line) (refused w.line h);
         err_took = w.err_took;
       }))))
-      (λ (h : IsUnread call.source call.status w.line). absurd (no-file h.is_next.0 h.is_next.1 h.is_next.2 h.is_next.3))))
+      (λ (h : IsUnread call.source call.status w.line). absurd (no-file h.is_next.0 h.is_next.1 h.name h.is_next.2))))
       w.tells
 
 pub soaks_end : SoaksEnd

@@ -1,17 +1,20 @@
 -- How a call of the program ends: with what status, and with what on out and err.
-use Rattle.std.specs.Prelude.{◌≡◌, ℕ, ◌≤◌, ◌⊎◌, Bool, true, List, ◌++◌, take, Option, Some, None, IfSome, Ok, Err, string_bytes}
+use Rattle.std.specs.Prelude.{◌≡◌, ℕ, ◌≤◌, ◌⊎◌, Bool, true, List, ◌++◌, take, Option, Some, None, IfSome, Result, Ok, Err, Vec, string_bytes}
+use Rattle.std.specs.declared.alloc.Global.{Global}
 use Rattle.std.specs.FinMap.{get}
 use Rattle.mesh_io.specs.Faults.{Rose}
 use Rattle.mesh_io.specs.Shelves.{Files}
 use Rattle.adapt_words.specs.Numbers.{Word}
-use Rattle.adapt_words.specs.Words.{CommandWords, mark, run, soak}
-use Rattle.adapt_cli.specs.FaultTexts.{memory_line, read_fault_line, usage, write_fault_line}
-use Rattle.adapt_cli.specs.Marks.{IsMarkOutcome, mark_inputs}
-use Rattle.adapt_cli.specs.Outcome.{End, Inputs, IsRunOutcome, run_inputs}
+use Rattle.adapt_words.specs.Words.{CommandWords, mark, mend, run, soak}
+use Rattle.adapt_cli.specs.FaultTexts.{End, memory_line, read_fault_line, usage, write_fault_line}
+use Rattle.adapt_cli.specs.Marks.{MarkAsks, MarkLeads}
+use Rattle.adapt_cli.specs.Mending.{MendAsks, MendLeads}
+use Rattle.adapt_cli.specs.Outcome.{RunAsks, RunLeads}
 use Rattle.adapt_cli.specs.Soaks.{IsSoakOutcome}
-use Rattle.adapt_cli.specs.Stops.{MacroIsAccepted, name_of}
+use Rattle.adapt_cli.specs.declared.fault.FileStop.{FileStop}
+use Rattle.adapt_cli.specs.declared.fault.FileStop.TheVariants.{Stopped, Unread}
 use Rattle.adapt_cli.specs.declared.fault.Stop.{Stop}
-use Rattle.adapt_cli.specs.declared.fault.Stop.TheVariants.{Refused, Memory, ReadFault}
+use Rattle.adapt_cli.specs.declared.fault.Stop.TheVariants.{Refused, Memory}
 
 -- a sink before and after the call: what it tells, and its count of faults
 pub record Written : Type 0 where
@@ -52,15 +55,17 @@ pub record Call : Type 0 where
 
 -- what a command leads to; the files tell it where the shelf tells its files, and a soak needs none
 abbrev pub IsOutcomeOf : Option Files → CommandWords → End → Type 0
-IsOutcomeOf files (run r) end = IfSome files (λ told. IsRunOutcome r told end)
+IsOutcomeOf files (run r) end = IfSome files (λ told. RunLeads r told end)
 IsOutcomeOf files (soak s) end = IsSoakOutcome s end
-IsOutcomeOf files (mark m) end = IfSome files (λ told. IsMarkOutcome m told end)
+IsOutcomeOf files (mark m) end = IfSome files (λ told. MarkLeads m told end)
+IsOutcomeOf files (mend m) end = IfSome files (λ told. MendLeads m told end)
 
--- the files of a command; a soak has none
-abbrev pub inputs_of : CommandWords → Option Inputs
-inputs_of (run r) = Some (run_inputs r)
-inputs_of (soak s) = None
-inputs_of (mark m) = Some (mark_inputs m)
+-- the command asks for a file of this name; a soak asks for none
+abbrev pub AsksFor : CommandWords → Option Files → Word → Type 0
+AsksFor (run r) files name = RunAsks r files name
+AsksFor (soak s) files name = ⊥
+AsksFor (mark m) files name = MarkAsks m files name
+AsksFor (mend m) files name = MendAsks m files name
 
 -- the outcome of the command
 pub record IsOutcome (source : Source) (end : End) : Type 0 where
@@ -68,11 +73,9 @@ pub record IsOutcome (source : Source) (end : End) : Type 0 where
   pub is_command : source.command ≡ Some command
   pub outcome : IsOutcomeOf source.files command end
 
--- the name is that of the macro file; or that of the marks file, once the macro file is accepted
+-- the command asks for a file of this name
 abbrev pub IsNext : Source → Word → Type 0
-IsNext source name =
-    (command : CommandWords) × (source.command ≡ Some command) × (inputs : Inputs) × (inputs_of command ≡ Some inputs)
-    × ((name ≡ inputs.macro_file) ⊎ ((name ≡ inputs.marks_file) × MacroIsAccepted source.files inputs.macro_file))
+IsNext source name = (command : CommandWords) × (source.command ≡ Some command) × AsksFor command source.files name
 
 -- there was no memory
 pub record WantsMemory (source : Source) (status : ℕ) (line : List ℕ) : Type 0 where
@@ -159,7 +162,12 @@ TextEnds out err text result =
     ⊎ ((result ≡ 7) × Failed out text × (Took err write_fault_line ⊎ Failed err write_fault_line))
 
 -- how a command ends at a stop
-abbrev pub StopEnds : Inputs → Stop → Written → ℕ → Type 0
-StopEnds inputs (Refused fault) err result = LineEnds err (string_bytes fault.line) fault.status result
-StopEnds inputs Memory err result = LineEnds err memory_line 1 result
-StopEnds inputs (ReadFault file) err result = LineEnds err (read_fault_line (name_of inputs file)) 6 result
+abbrev pub StopEnds : Stop → Written → ℕ → Type 0
+StopEnds (Refused fault) err result = LineEnds err (string_bytes fault.line) fault.status result
+StopEnds Memory err result = LineEnds err memory_line 1 result
+
+-- how a command with files ends, by the text that it led to or by what stopped it
+abbrev pub Finishes : Result (Vec ℕ Global) FileStop → Written → Written → ℕ → Type 0
+Finishes (Ok text) out err result = TextEnds out err text.items result
+Finishes (Err (Stopped stop)) out err result = IsUntouched out × StopEnds stop err result
+Finishes (Err (Unread name)) out err result = IsUntouched out × LineEnds err (read_fault_line name.now) 6 result

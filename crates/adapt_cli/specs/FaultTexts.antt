@@ -1,5 +1,5 @@
 -- The line on err for each refusal; want of memory has a line of its own.
-use Rattle.std.specs.Prelude.{ℕ, List, [], ◌∷◌, ◌++◌, codes, Option, Some, None}
+use Rattle.std.specs.Prelude.{ℕ, List, [], ◌∷◌, ◌++◌, codes, Option, Some, None, Result}
 use Rattle.std.specs.Fmt.{decimal}
 use Rattle.macro_file.specs.declared.refusal.Key.{Key}
 use Rattle.macro_file.specs.declared.refusal.Key.TheVariants.{VertexCount, ElementCount, Coordinates, Triples}
@@ -80,6 +80,10 @@ marks_line no_memory = None
 abbrev pub Fault : Type 0
 Fault = ℕ × List ℕ
 
+-- a text, or a fault
+abbrev pub End : Type 0
+End = Result (List ℕ) Fault
+
 -- the fault of a round that needs more patches than the pool has
 abbrev pub full_pool : ℕ → ℕ → ℕ → Fault
 full_pool round needed pool = (5, joined (codes "adapt: round " ∷ decimal round ∷ codes ": " ∷ decimal needed ∷ codes " patches needed, pool " ∷ decimal pool ∷ codes "\n" ∷ []))
@@ -98,7 +102,10 @@ no_round_left = (4, codes "adapt: marks: no round left\n")
 
 -- the lines for words that are outside the form
 abbrev pub usage : List ℕ
-usage = codes "usage: adapt run MACRO MARKS [--workers N] [--pool P] [--report]\n       adapt soak START GRID ROUNDS [--workers N] [--pool P]\n       adapt mark MACRO MARKS RULE [--workers N] [--pool P]\n"
+usage =
+    codes "usage: adapt run MACRO MARKS [--workers N] [--pool P] [--report]\n       adapt soak START GRID ROUNDS [--workers N] [--pool P]\n       adapt mark MACRO MARKS RULE [--workers N] [--pool P]\n"
+    ++ codes "       adapt save MACRO MARKS [--workers N] [--pool P]\n       adapt join FIRST SECOND\n       adapt resume RESTART MARKS [--workers N] [--pool P]\n"
+    ++ codes "       adapt find MACRO MARKS POINTS [--workers N] [--pool P]\n       adapt mend MACRO\n"
 
 -- the line for want of memory
 abbrev pub memory_line : List ℕ

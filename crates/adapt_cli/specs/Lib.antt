@@ -1,9 +1,12 @@
+pub mod Ending
 pub mod FaultTexts
-pub mod Rounds
-pub mod Reports
-pub mod Outcome
+pub mod InputFiles
+pub mod Loads
 pub mod Marks
+pub mod Outcome
+pub mod Reports
+pub mod Rounds
+pub mod SoakEnds
 pub mod Soaks
 pub mod Stops
-pub mod Ending
-pub mod SoakEnds
+pub mod Mending

@@ -1,5 +1,5 @@
 -- What a call for marks leads to: the rows of the next round, which mark the leaves that a strategy chooses by their values.
-use Rattle.std.specs.Prelude.{◌≡◌, ℕ, ◌+◌, ◌<◌, ◌≤◌, ◌⊎◌, pos, List, ◌++◌, codes, length, map, Ok, Err}
+use Rattle.std.specs.Prelude.{◌≡◌, ℕ, ◌+◌, ◌<◌, ◌≤◌, ◌⊎◌, pos, List, ◌++◌, codes, length, map, Option, Ok, Err}
 use Rattle.std.specs.List.{concat}
 use Rattle.mesh_io.specs.Shelves.{Files}
 use Rattle.mesh_names.specs.Names.{Name}
@@ -13,11 +13,12 @@ use Rattle.mark_strategy.specs.Leaves.{Leaf}
 use Rattle.mark_strategy.specs.Strategies.{IsBulk, equal_names, max_names}
 use Rattle.dof_transfer.specs.Held.{worth_of}
 use Rattle.mesh_rounds.specs.State.{IsFirst, State}
-use Rattle.adapt_words.specs.Words.{MarkWords}
+use Rattle.adapt_words.specs.Numbers.{Word}
+use Rattle.adapt_words.specs.Rounds.{MarkWords}
 use Rattle.adapt_words.specs.declared.rules.Rule.{Rule}
 use Rattle.adapt_words.specs.declared.rules.Rule.TheVariants.{Max, Bulk, Equal}
-use Rattle.adapt_cli.specs.FaultTexts.{Fault, no_round_left}
-use Rattle.adapt_cli.specs.Outcome.{End, FilesLeadTo, Inputs}
+use Rattle.adapt_cli.specs.FaultTexts.{End, no_round_left}
+use Rattle.adapt_cli.specs.Outcome.{AsksBoth, LoadsBoth}
 use Rattle.adapt_cli.specs.Reports.{AreLeaves}
 use Rattle.adapt_cli.specs.Rounds.{LeadTo, last_state}
 
@@ -56,10 +57,10 @@ MarksTo mesh mark rounds (Err fault) =
 abbrev pub IsNoRoundLeft : End → Type 0
 IsNoRoundLeft end = end ≡ Err no_round_left
 
--- the files of a call for marks
-abbrev pub mark_inputs : MarkWords → Inputs
-mark_inputs mark = record { macro_file = mark.macro_file; marks_file = mark.marks_file }
-
 -- what a call for marks and its files lead to
-abbrev pub IsMarkOutcome : MarkWords → Files → End → Type 0
-IsMarkOutcome mark = FilesLeadTo (λ mesh. MarksTo mesh mark) (mark_inputs mark)
+abbrev pub MarkLeads : MarkWords → Files → End → Type 0
+MarkLeads mark = LoadsBoth mark.macro_file mark.marks_file (λ mesh rounds files. MarksTo mesh mark rounds)
+
+-- the files that it asks for
+abbrev pub MarkAsks : MarkWords → Option Files → Word → Type 0
+MarkAsks mark = AsksBoth mark.macro_file mark.marks_file

@@ -1,6 +1,7 @@
 -- How a soak ends: no row is refused, and no file is read.
 use Rattle.std.specs.Prelude.{◌≡◌, ℕ, ◌+◌, ◌<◌, ◌≤◌, ◌⊎◌, List, Some, Err}
-use Rattle.adapt_words.specs.Words.{SoakWords, soak}
+use Rattle.adapt_words.specs.Rounds.{SoakWords}
+use Rattle.adapt_words.specs.Words.{soak}
 use Rattle.adapt_cli.specs.Ending.{Call, Ends, Took}
 use Rattle.adapt_cli.specs.FaultTexts.{Fault, full_pool}
 use Rattle.adapt_cli.specs.Soaks.{IsSoakOutcome}

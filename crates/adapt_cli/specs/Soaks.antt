@@ -14,9 +14,8 @@ use Rattle.forest_plain.specs.Rounds.{NeedsPatches}
 use Rattle.mesh_rounds.specs.State.{IsFirst, IsMeshRound, State}
 use Rattle.soak.specs.Grid.{grid}
 use Rattle.soak.specs.Rows.{Drawing, after, rows_for}
-use Rattle.adapt_words.specs.Words.{SoakWords}
-use Rattle.adapt_cli.specs.FaultTexts.{Fault, full_pool, joined}
-use Rattle.adapt_cli.specs.Outcome.{End}
+use Rattle.adapt_words.specs.Rounds.{SoakWords}
+use Rattle.adapt_cli.specs.FaultTexts.{End, Fault, full_pool, joined}
 use Rattle.adapt_cli.specs.Reports.{AreLeaves, IsTextOfState, vertex_count}
 use Rattle.adapt_cli.specs.Rounds.{whole}
 

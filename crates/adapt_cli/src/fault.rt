@@ -1,6 +1,6 @@
 //! Faults: a status, and the line on err that goes with it.
 ghost use Rattle.std.specs.Prelude.{◌≡◌, [], ◌∷◌, IfOk, Some, codes, string_bytes};
-ghost use Rattle.adapt_cli.specs.Stops.{IsRoundStop};
+ghost use Rattle.adapt_cli.specs.Stops.{IsRefusedWith, IsRoundStop};
 ghost use Rattle.std.specs.Fmt.{decimal};
 ghost use Rattle.adapt_cli.specs.FaultTexts.{at_row, joined, marks_line, round_fault};
 
@@ -15,13 +15,6 @@ pub struct Fault {
     pub line: String,
 }
 
-/// A file of a run.
-#[derive(Clone, Copy, Debug, PartialEq, Eq)]
-pub enum InputFile {
-    Macro,
-    Marks,
-}
-
 /// Why there is no text to write.
 #[derive(Debug, Drop)]
 pub enum Stop {
@@ -29,8 +22,15 @@ pub enum Stop {
     Refused(Fault),
     /// Want of memory.
     Memory,
-    /// The load of a file failed.
-    ReadFault(InputFile),
+}
+
+/// Why a command with files has no text to write.
+#[derive(Debug, Drop)]
+pub enum FileStop<'a> {
+    /// A file or a round is refused, or there is no memory.
+    Stopped(Stop),
+    /// The file of this name could not be loaded.
+    Unread(&'a str),
 }
 
 impl From<AllocError> for Stop {
@@ -41,6 +41,16 @@ impl From<AllocError> for Stop {
 
     fn from(_error: AllocError) -> Stop {
         Stop::Memory
+    }
+}
+
+/// The stop with this status and line; want of memory where there is no line.
+pub(crate) fn refused(status: u8, line: Result<String, AllocError>) -> Stop
+    ensures { IsRefusedWith status line result }
+{
+    match line {
+        Ok(line) => Stop::Refused(Fault { status, line }),
+        Err(_) => Stop::Memory,
     }
 }
 

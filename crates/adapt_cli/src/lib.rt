@@ -7,6 +7,7 @@ pub mod laws;
 pub mod load;
 pub mod macro_lines;
 pub mod marking;
+pub mod mending;
 pub mod outcome;
 pub mod program;
 pub mod reports;

@@ -1,59 +1,68 @@
 //! The files that the words name.
-ghost use Rattle.std.specs.Prelude.{◌≡◌, ◌≤◌, All, IfErr, IfOk, codes, length, string_bytes, true};
+ghost use Rattle.std.specs.Prelude.{◌≡◌, ◌≤◌, All, IfErr, IfOk, Some, codes, length, string_bytes, true};
 ghost use Rattle.mesh_names.specs.Marks.{IsWellFormed};
 ghost use Rattle.mark_file.specs.Meaning.{rounds_read};
-ghost use Rattle.adapt_cli.specs.Outcome.{AcceptsMacro, AcceptsMarks, RefusesMacro, RefusesMarks, macro_limit, marks_limit};
-ghost use Rattle.adapt_cli.specs.Stops.{Gives, IsLoadStop, IsRefusedWith, RefusesBy};
+ghost use Rattle.adapt_cli.specs.InputFiles.{AcceptsMacro, AcceptsMarks, AcceptsText, IsChecked, IsTooLong, RefusesMacro, RefusesMarks, RefusesText, TellsCheck, macro_limit, marks_limit};
+ghost use Rattle.adapt_cli.specs.Stops.{Gives, GivesBytes, IsLoadStop, RefusesBy};
 
-use crate::fault::{Fault, InputFile, Stop, marks_line};
+use crate::fault::{FileStop, Stop, marks_line, refused};
 use crate::macro_lines::{check_line, macro_line};
 use compat_check::check;
 use compat_check::mesh::MacroMesh;
-use macro_file::read_macro;
+use macro_file::{MacroText, read_macro};
 use mark_file::read::read_marks;
 use mesh_io::{LoadRefusal, Shelf};
 use mesh_names::rows::RoundMarks;
-use std::alloc::{AllocError, Global};
+use std::alloc::Global;
 
 // The greatest lengths of the files, in bytes.
 const MACRO_LIMIT: u64 = 16_777_216;
 
 const MARKS_LIMIT: u64 = 67_108_864;
 
-// The stop with this status and line; want of memory where there is no line.
-fn refused(status: u8, line: Result<String, AllocError>) -> Stop
-    ensures { IsRefusedWith status line result }
+/// A file's bytes, of which at most `limit` may be there; of a longer file `too_long` is told.
+pub fn load_bytes<'a, S: Shelf>(
+    alloc: Global,
+    shelf: &mut S,
+    name: &'a str,
+    limit: u64,
+    status: u8,
+    too_long: &str,
+) -> Result<Vec<u8>, FileStop<'a>>
+    ensures ok { IfOk result (λ bytes. Gives (GivesBytes bytes.items limit) name.now (S.files shelf.old) (S.faults shelf.old) (S.faults shelf.new)) }
+    ensures short { IfOk result (λ bytes. length bytes.items ≤ limit) }
+    ensures stopped { IfErr result (IsLoadStop (IsTooLong limit too_long.now) status name.now (S.files shelf.old) (S.steady shelf.old) (S.faults shelf.old) (S.faults shelf.new)) }
+    ensures same { S.files shelf.new ≡ S.files shelf.old }
+    ensures stays { S.steady shelf.old ≡ true → S.steady shelf.new ≡ true }
 {
-    match line {
-        Ok(line) => Stop::Refused(Fault { status, line }),
-        Err(_) => Stop::Memory,
+    match shelf.load(alloc, name, limit) {
+        Ok(bytes) => Ok(bytes),
+        Err(LoadRefusal::Failed) => Err(FileStop::Unread(name)),
+        Err(LoadRefusal::TooLong { read: _ }) => Err(FileStop::Stopped(refused(
+            status,
+            format!(in alloc; "{too_long}"),
+        ))),
+        Err(LoadRefusal::Memory) => Err(FileStop::Stopped(Stop::Memory)),
     }
 }
 
-// The line of a macro file that is too long.
-fn macro_too_long(alloc: Global) -> Result<String, AllocError>
-    ensures { IfOk result (λ t. string_bytes t ≡ codes "adapt: macro: longer than 16777216 bytes\n") }
-{
-    format!(in alloc; "adapt: macro: longer than 16777216 bytes\n")
-}
-
-// The line of a marks file that is too long.
-fn marks_too_long(alloc: Global) -> Result<String, AllocError>
-    ensures { IfOk result (λ t. string_bytes t ≡ codes "adapt: marks: longer than 67108864 bytes\n") }
-{
-    format!(in alloc; "adapt: marks: longer than 67108864 bytes\n")
-}
-
-// The checked mesh of these bytes.
-fn macro_mesh(alloc: Global, bytes: &[u8]) -> Result<MacroMesh, Stop>
+// The macro text of these bytes.
+fn macro_text(alloc: Global, bytes: &[u8]) -> Result<MacroText, Stop>
     requires { length bytes.now ≤ macro_limit }
-    ensures ok { IfOk result (AcceptsMacro bytes.now) }
-    ensures stopped { IfErr result (RefusesBy 3 (RefusesMacro bytes.now)) }
+    ensures ok { IfOk result (λ text. AcceptsText bytes.now text) }
+    ensures stopped { IfErr result (RefusesBy 3 (RefusesText bytes.now)) }
 {
-    let text = match read_macro(alloc, bytes) {
-        Ok(text) => text,
-        Err(refusal) => return Err(refused(3, macro_line(alloc, refusal))),
-    };
+    match read_macro(alloc, bytes) {
+        Ok(text) => Ok(text),
+        Err(refusal) => Err(refused(3, macro_line(alloc, refusal))),
+    }
+}
+
+// The checked mesh of this text.
+fn macro_mesh(alloc: Global, text: MacroText) -> Result<MacroMesh, Stop>
+    ensures ok { IfOk result (λ mesh. IsChecked text.entry mesh) }
+    ensures stopped { IfErr result (RefusesBy 3 (TellsCheck text.entry)) }
+{
     match check(alloc, text) {
         Ok(mesh) => Ok(mesh),
         Err(refusal) => Err(refused(3, check_line(alloc, refusal))),
@@ -73,35 +82,80 @@ fn marked_rounds(alloc: Global, bytes: &[u8]) -> Result<Vec<RoundMarks>, Stop>
     }
 }
 
-/// The checked mesh of a macro file.
-pub fn load_macro<S: Shelf>(alloc: Global, shelf: &mut S, name: &str) -> Result<MacroMesh, Stop>
-    ensures ok { IfOk result (λ mesh. Gives (λ bytes. AcceptsMacro bytes mesh) name.now (S.files shelf.old) (S.faults shelf.old) (S.faults shelf.new)) }
-    ensures stopped { IfErr result (IsLoadStop RefusesMacro 3 InputFile.Macro name.now (S.files shelf.old) (S.steady shelf.old) (S.faults shelf.old) (S.faults shelf.new)) }
+/// The text of a macro file.
+pub fn load_text<'a, S: Shelf>(
+    alloc: Global,
+    shelf: &mut S,
+    name: &'a str,
+) -> Result<MacroText, FileStop<'a>>
+    ensures ok { IfOk result (λ text. Gives (λ bytes. AcceptsText bytes text) name.now (S.files shelf.old) (S.faults shelf.old) (S.faults shelf.new)) }
+    ensures stopped { IfErr result (IsLoadStop RefusesText 3 name.now (S.files shelf.old) (S.steady shelf.old) (S.faults shelf.old) (S.faults shelf.new)) }
     ensures same { S.files shelf.new ≡ S.files shelf.old }
     ensures stays { S.steady shelf.old ≡ true → S.steady shelf.new ≡ true }
 {
-    match shelf.load(alloc, name, MACRO_LIMIT) {
-        Ok(bytes) => macro_mesh(alloc, &bytes),
-        Err(LoadRefusal::Failed) => Err(Stop::ReadFault(InputFile::Macro)),
-        Err(LoadRefusal::TooLong { read: _ }) => Err(refused(3, macro_too_long(alloc))),
-        Err(LoadRefusal::Memory) => Err(Stop::Memory),
+    let bytes = match load_bytes(
+        alloc,
+        shelf,
+        name,
+        MACRO_LIMIT,
+        3,
+        "adapt: macro: longer than 16777216 bytes\n",
+    ) {
+        Ok(bytes) => bytes,
+        Err(stop) => return Err(stop),
+    };
+    match macro_text(alloc, &bytes) {
+        Ok(text) => Ok(text),
+        Err(stop) => Err(FileStop::Stopped(stop)),
+    }
+}
+
+/// The checked mesh of a macro file.
+pub fn load_macro<'a, S: Shelf>(
+    alloc: Global,
+    shelf: &mut S,
+    name: &'a str,
+) -> Result<MacroMesh, FileStop<'a>>
+    ensures ok { IfOk result (λ mesh. Gives (λ bytes. AcceptsMacro bytes mesh) name.now (S.files shelf.old) (S.faults shelf.old) (S.faults shelf.new)) }
+    ensures stopped { IfErr result (IsLoadStop RefusesMacro 3 name.now (S.files shelf.old) (S.steady shelf.old) (S.faults shelf.old) (S.faults shelf.new)) }
+    ensures same { S.files shelf.new ≡ S.files shelf.old }
+    ensures stays { S.steady shelf.old ≡ true → S.steady shelf.new ≡ true }
+{
+    let text = match load_text(alloc, shelf, name) {
+        Ok(text) => text,
+        Err(stop) => return Err(stop),
+    };
+    match macro_mesh(alloc, text) {
+        Ok(mesh) => Ok(mesh),
+        Err(stop) => Err(FileStop::Stopped(stop)),
     }
 }
 
 /// The rounds of a marks file.
-pub fn load_marks<S: Shelf>(
+pub fn load_marks<'a, S: Shelf>(
     alloc: Global,
     shelf: &mut S,
-    name: &str,
-) -> Result<Vec<RoundMarks>, Stop>
+    name: &'a str,
+) -> Result<Vec<RoundMarks>, FileStop<'a>>
     ensures ok { IfOk result (λ rounds. Gives (λ bytes. AcceptsMarks bytes (rounds_read rounds.items)) name.now (S.files shelf.old) (S.faults shelf.old) (S.faults shelf.new)) }
     ensures formed { IfOk result (λ rounds. All (λ r. All IsWellFormed r.rows.items) rounds.items) }
-    ensures stopped { IfErr result (IsLoadStop RefusesMarks 4 InputFile.Marks name.now (S.files shelf.old) (S.steady shelf.old) (S.faults shelf.old) (S.faults shelf.new)) }
+    ensures stopped { IfErr result (IsLoadStop RefusesMarks 4 name.now (S.files shelf.old) (S.steady shelf.old) (S.faults shelf.old) (S.faults shelf.new)) }
+    ensures same { S.files shelf.new ≡ S.files shelf.old }
+    ensures stays { S.steady shelf.old ≡ true → S.steady shelf.new ≡ true }
 {
-    match shelf.load(alloc, name, MARKS_LIMIT) {
-        Ok(bytes) => marked_rounds(alloc, &bytes),
-        Err(LoadRefusal::Failed) => Err(Stop::ReadFault(InputFile::Marks)),
-        Err(LoadRefusal::TooLong { read: _ }) => Err(refused(4, marks_too_long(alloc))),
-        Err(LoadRefusal::Memory) => Err(Stop::Memory),
+    let bytes = match load_bytes(
+        alloc,
+        shelf,
+        name,
+        MARKS_LIMIT,
+        4,
+        "adapt: marks: longer than 67108864 bytes\n",
+    ) {
+        Ok(bytes) => bytes,
+        Err(stop) => return Err(stop),
+    };
+    match marked_rounds(alloc, &bytes) {
+        Ok(rounds) => Ok(rounds),
+        Err(stop) => Err(FileStop::Stopped(stop)),
     }
 }

@@ -10,11 +10,11 @@ ghost use Rattle.mark_file.specs.Written.{row_line};
 ghost use Rattle.mark_strategy.specs.Leaves.{AreLeaves};
 ghost use Rattle.forest_plain.specs.Forests.{members_of, mesh_of, pool_of, sides_of};
 ghost use Rattle.mesh_rounds.specs.State.{IsState, with_values};
-ghost use Rattle.adapt_words.specs.Words.{IsMarkInRange, mark_said};
-ghost use Rattle.adapt_cli.specs.Marks.{Chooses, IsMarksText, IsNoRoundLeft, MarksTo, mark_inputs, marking, marks_text};
+ghost use Rattle.adapt_words.specs.Rounds.{IsMarkInRange, mark_said};
+ghost use Rattle.adapt_cli.specs.Marks.{Chooses, IsMarksText, IsNoRoundLeft, MarkAsks, MarkLeads, MarksTo, marking, marks_text};
 ghost use Rattle.adapt_cli.specs.Stops.{IsStop, IsTextOf, StopsBy};
 
-use crate::fault::{Fault, Stop};
+use crate::fault::{FileStop, Stop, refused};
 use crate::load::{load_macro, load_marks};
 use crate::rounds::run_rounds;
 use adapt_words::{Mark, Rule};
@@ -35,10 +35,14 @@ use std::alloc::{AllocError, Global};
 const ROUNDS: usize = 65_535;
 
 /// The marks file that a call for marks writes, or why there is none.
-pub fn mark_text<S: Shelf>(alloc: Global, mark: &Mark<'_>, shelf: &mut S) -> Result<Vec<u8>, Stop>
+pub fn mark_text<'a, S: Shelf>(
+    alloc: Global,
+    mark: &Mark<'a>,
+    shelf: &mut S,
+) -> Result<Vec<u8>, FileStop<'a>>
     requires { IsMarkInRange mark.now }
-    ensures ok { IfOk result (λ text. IsTextOf (λ mesh. MarksTo mesh (mark_said mark.now)) (mark_inputs (mark_said mark.now)) (S.files shelf.old) (S.faults shelf.old) (S.faults shelf.new) text.items) }
-    ensures stopped { IfErr result (IsStop (λ mesh. MarksTo mesh (mark_said mark.now)) (mark_inputs (mark_said mark.now)) (S.files shelf.old) (S.steady shelf.old) (S.faults shelf.old) (S.faults shelf.new)) }
+    ensures ok { IfOk result (λ text. IsTextOf (MarkLeads (mark_said mark.now)) (S.files shelf.old) (S.faults shelf.old) (S.faults shelf.new) text.items) }
+    ensures stopped { IfErr result (IsStop (MarkLeads (mark_said mark.now)) (MarkAsks (mark_said mark.now)) (S.files shelf.old) (S.steady shelf.old) (S.faults shelf.old) (S.faults shelf.new)) }
 {
     let mesh = match load_macro(alloc, shelf, mark.macro_file) {
         Ok(mesh) => mesh,
@@ -48,20 +52,35 @@ pub fn mark_text<S: Shelf>(alloc: Global, mark: &Mark<'_>, shelf: &mut S) -> Res
         Ok(rounds) => rounds,
         Err(stop) => return Err(stop),
     };
+    match next_marks(alloc, &mesh, mark, &rounds) {
+        Ok(text) => Ok(text),
+        Err(stop) => Err(FileStop::Stopped(stop)),
+    }
+}
+
+// The marks after these rounds on a mesh, where one more can follow them.
+fn next_marks(
+    alloc: Global,
+    mesh: &MacroMesh,
+    mark: &Mark<'_>,
+    rounds: &[RoundMarks],
+) -> Result<Vec<u8>, Stop>
+    requires ranges { IsMarkInRange mark.now }
+    requires formed { All (λ r. All IsWellFormed r.rows.items) rounds.now }
+    ensures ok { IfOk result (λ text. MarksTo mesh.now (mark_said mark.now) (rounds_read rounds.now) (Ok text.items)) }
+    ensures stopped { IfErr result (StopsBy (MarksTo mesh.now (mark_said mark.now) (rounds_read rounds.now))) }
+{
     if rounds.len() >= ROUNDS {
         return Err(no_round_left(alloc));
     }
-    mark_leaves(alloc, &mesh, mark, &rounds)
+    mark_leaves(alloc, mesh, mark, rounds)
 }
 
 // The stop where all rounds are there already; want of memory where there is none for its line.
 fn no_round_left(alloc: Global) -> Stop
     ensures { StopsBy IsNoRoundLeft result }
 {
-    match format!(in alloc; "adapt: marks: no round left\n") {
-        Ok(line) => Stop::Refused(Fault { status: 4, line }),
-        Err(_) => Stop::Memory,
-    }
+    refused(4, format!(in alloc; "adapt: marks: no round left\n"))
 }
 
 // The marks after these rounds on a mesh.

@@ -2,11 +2,11 @@
 ghost use Rattle.std.specs.Prelude.{◌≡◌, ◌≤◌, All, IfErr, IfOk, Ok};
 ghost use Rattle.mesh_names.specs.Marks.{IsWellFormed};
 ghost use Rattle.mark_file.specs.Meaning.{rounds_read};
-ghost use Rattle.adapt_words.specs.Words.{IsRunInRange, run_said};
-ghost use Rattle.adapt_cli.specs.Outcome.{RunsTo, run_inputs};
+ghost use Rattle.adapt_words.specs.Rounds.{IsRunInRange, run_said};
+ghost use Rattle.adapt_cli.specs.Outcome.{RunAsks, RunLeads, RunsTo};
 ghost use Rattle.adapt_cli.specs.Stops.{IsStop, IsTextOf, StopsBy};
 
-use crate::fault::Stop;
+use crate::fault::{FileStop, Stop};
 use crate::load::{load_macro, load_marks};
 use crate::reports::report_rounds;
 use crate::rounds::{run_rounds, state_text};
@@ -20,15 +20,15 @@ use std::alloc::Global;
 use std::thread::Threads;
 
 /// The text that a run writes, or why there is none.
-pub fn run_text<R: Threads + Sync, S: Shelf>(
+pub fn run_text<'a, R: Threads + Sync, S: Shelf>(
     rt: &R,
     alloc: Global,
-    run: &Run<'_>,
+    run: &Run<'a>,
     shelf: &mut S,
-) -> Result<Vec<u8>, Stop>
+) -> Result<Vec<u8>, FileStop<'a>>
     requires { IsRunInRange run.now }
-    ensures ok { IfOk result (λ text. IsTextOf (λ mesh. RunsTo mesh (run_said run.now)) (run_inputs (run_said run.now)) (S.files shelf.old) (S.faults shelf.old) (S.faults shelf.new) text.items) }
-    ensures stopped { IfErr result (IsStop (λ mesh. RunsTo mesh (run_said run.now)) (run_inputs (run_said run.now)) (S.files shelf.old) (S.steady shelf.old) (S.faults shelf.old) (S.faults shelf.new)) }
+    ensures ok { IfOk result (λ text. IsTextOf (RunLeads (run_said run.now)) (S.files shelf.old) (S.faults shelf.old) (S.faults shelf.new) text.items) }
+    ensures stopped { IfErr result (IsStop (RunLeads (run_said run.now)) (RunAsks (run_said run.now)) (S.files shelf.old) (S.steady shelf.old) (S.faults shelf.old) (S.faults shelf.new)) }
 {
     let mesh = match load_macro(alloc, shelf, run.macro_file) {
         Ok(mesh) => mesh,
@@ -38,7 +38,10 @@ pub fn run_text<R: Threads + Sync, S: Shelf>(
         Ok(rounds) => rounds,
         Err(stop) => return Err(stop),
     };
-    make_rounds(rt, alloc, &mesh, run, &rounds)
+    match make_rounds(rt, alloc, &mesh, run, &rounds) {
+        Ok(text) => Ok(text),
+        Err(stop) => Err(FileStop::Stopped(stop)),
+    }
 }
 
 // The text after these rounds on a mesh.

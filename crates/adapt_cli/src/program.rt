@@ -1,15 +1,17 @@
 //! The top call.
 ghost use Rattle.std.specs.Prelude.{◌≡◌, Some, map, string_bytes};
 ghost use Rattle.adapt_words.specs.Words as spec;
-ghost use Rattle.adapt_words.specs.Words.{IsMarkInRange, IsRunInRange, IsSoakInRange, command_of, mark_said, run_said, soak_said};
-ghost use Rattle.adapt_cli.specs.Ending.{Ends, Source, StopEnds};
+ghost use Rattle.adapt_words.specs.Rounds.{IsSoakInRange, soak_said};
+ghost use Rattle.adapt_words.specs.Words.{command_of};
+ghost use Rattle.adapt_cli.specs.Ending.{Ends, Finishes, Source, StopEnds};
 
 use crate::ending::{MEMORY, write_line, write_read_fault, write_text};
-use crate::fault::{InputFile, Stop};
+use crate::fault::{FileStop, Stop};
 use crate::marking::mark_text;
+use crate::mending::mend_text;
 use crate::outcome::run_text;
 use crate::soaking::soak_text;
-use adapt_words::{Command, Mark, Run, Soak, USAGE, WordsRefusal, read_words};
+use adapt_words::{Command, Soak, USAGE, WordsRefusal, read_words};
 use mesh_io::{Gate, Shelf, Sink};
 use std::alloc::Global;
 use std::thread::Threads;
@@ -47,29 +49,16 @@ pub fn adapt<R: Threads + Sync, S: Shelf, O: Sink, E: Sink, G: Gate + Sync>(
     ensures { Ends (record { source = record { command = command_of (map string_bytes words.now); files = S.files shelf.old; steady = S.steady shelf.old; before = S.faults shelf.old; now = S.faults shelf.new }; out = record { old = O.holds out.old; new = O.holds out.new; before = O.faults out.old; now = O.faults out.new }; err = record { old = E.holds err.old; new = E.holds err.new; before = E.faults err.old; now = E.faults err.new }; status = result }) }
 {
     match read_words(alloc, words) {
-        Ok(Command::Run(run)) => end_run(rt, alloc, &run, shelf, out, err),
+        Ok(Command::Run(run)) => finish(run_text(rt, alloc, &run, shelf), out, err),
         Ok(Command::Soak(soak)) => end_soak(rt, alloc, &soak, out, err),
-        Ok(Command::Mark(mark)) => end_mark(alloc, &mark, shelf, out, err),
+        Ok(Command::Mark(mark)) => finish(mark_text(alloc, &mark, shelf), out, err),
+        Ok(Command::Mend(mend)) => finish(mend_text(alloc, &mend, shelf), out, err),
+        Ok(Command::Save(_)) => write_line(err, USAGE, 2),
+        Ok(Command::Join(_)) => write_line(err, USAGE, 2),
+        Ok(Command::Resume(_)) => write_line(err, USAGE, 2),
+        Ok(Command::Find(_)) => write_line(err, USAGE, 2),
         Err(WordsRefusal::Outside) => write_line(err, USAGE, 2),
         Err(WordsRefusal::Memory) => write_line(err, MEMORY, 1),
-    }
-}
-
-// Makes a run, and writes what it leads to.
-fn end_run<R: Threads + Sync, S: Shelf, O: Sink, E: Sink>(
-    rt: &R,
-    alloc: Global,
-    run: &Run<'_>,
-    shelf: &mut S,
-    out: &mut O,
-    err: &mut E,
-) -> u8
-    requires { IsRunInRange run.now }
-    ensures { Ends (record { source = record { command = Some (spec.run (run_said run.now)); files = S.files shelf.old; steady = S.steady shelf.old; before = S.faults shelf.old; now = S.faults shelf.new }; out = record { old = O.holds out.old; new = O.holds out.new; before = O.faults out.old; now = O.faults out.new }; err = record { old = E.holds err.old; new = E.holds err.new; before = E.faults err.old; now = E.faults err.new }; status = result }) }
-{
-    match run_text(rt, alloc, run, shelf) {
-        Ok(text) => write_text(out, err, &text),
-        Err(stop) => write_stop(run.macro_file, run.marks_file, stop, err),
     }
 }
 
@@ -86,37 +75,31 @@ fn end_soak<R: Threads + Sync, O: Sink, E: Sink>(
 {
     match soak_text(rt, alloc, soak) {
         Ok(text) => write_text(out, err, &text),
-        Err(Stop::Refused(fault)) => write_line(err, &fault.line, fault.status),
-        Err(Stop::Memory) => write_line(err, MEMORY, 1),
-        Err(Stop::ReadFault(_)) => unreachable!(),
+        Err(stop) => write_stop(stop, err),
     }
 }
 
-// Makes a call for marks, and writes what it leads to.
-fn end_mark<S: Shelf, O: Sink, E: Sink>(
-    alloc: Global,
-    mark: &Mark<'_>,
-    shelf: &mut S,
+// Writes the text that a command with files led to, or the line of what stopped it.
+fn finish<O: Sink, E: Sink>(
+    ended: Result<Vec<u8>, FileStop<'_>>,
     out: &mut O,
     err: &mut E,
 ) -> u8
-    requires { IsMarkInRange mark.now }
-    ensures { Ends (record { source = record { command = Some (spec.mark (mark_said mark.now)); files = S.files shelf.old; steady = S.steady shelf.old; before = S.faults shelf.old; now = S.faults shelf.new }; out = record { old = O.holds out.old; new = O.holds out.new; before = O.faults out.old; now = O.faults out.new }; err = record { old = E.holds err.old; new = E.holds err.new; before = E.faults err.old; now = E.faults err.new }; status = result }) }
+    ensures { Finishes ended.entry (record { old = O.holds out.old; new = O.holds out.new; before = O.faults out.old; now = O.faults out.new }) (record { old = E.holds err.old; new = E.holds err.new; before = E.faults err.old; now = E.faults err.new }) result }
 {
-    match mark_text(alloc, mark, shelf) {
+    match ended {
         Ok(text) => write_text(out, err, &text),
-        Err(stop) => write_stop(mark.macro_file, mark.marks_file, stop, err),
+        Err(FileStop::Stopped(stop)) => write_stop(stop, err),
+        Err(FileStop::Unread(name)) => write_read_fault(err, name),
     }
 }
 
-// Writes the line of a stop of a command with these files to err.
-fn write_stop<E: Sink>(macro_file: &str, marks_file: &str, stop: Stop, err: &mut E) -> u8
-    ensures { StopEnds (record { macro_file = macro_file.now; marks_file = marks_file.now }) stop (record { old = E.holds err.old; new = E.holds err.new; before = E.faults err.old; now = E.faults err.new }) result }
+// Writes the line of a stop to err.
+fn write_stop<E: Sink>(stop: Stop, err: &mut E) -> u8
+    ensures { StopEnds stop.entry (record { old = E.holds err.old; new = E.holds err.new; before = E.faults err.old; now = E.faults err.new }) result }
 {
     match stop {
         Stop::Refused(fault) => write_line(err, &fault.line, fault.status),
         Stop::Memory => write_line(err, MEMORY, 1),
-        Stop::ReadFault(InputFile::Macro) => write_read_fault(err, macro_file),
-        Stop::ReadFault(InputFile::Marks) => write_read_fault(err, marks_file),
     }
 }

@@ -1,16 +1,18 @@
 -- From what clap answers to what the words say.
-use Rattle.std.proofs.Common.{◌≡◌, false, cond, List, [], ◌∷◌, Option, Some, None, Err, refl, sym, ap, ◌∙◌}
+use Rattle.std.proofs.Common.{◌≡◌, ℕ, ◌+◌, ◌<◌, ◌≤◌, false, cond, fold, get_or, length, map, take, List, [], ◌∷◌, Option, Some, None, Err, refl, sym, ap, ◌∙◌}
 use Rattle.std.specs.Prelude.{◌≢◌, bytes_eq, codes, option_and_then, option_map, ok_or, slice_get, unwrap_or}
 use Rattle.std.proofs.Math.Dec.{eqb-suc-zero}
+use Rattle.std.proofs.lemmas.List.{map-append, take_all, take_more}
+use Rattle.std.proofs.lemmas.List.Sums.{fold-append}
 use Rattle.std.proofs.lemmas.Bool.{false_from_ne_true}
 use Rattle.std.proofs.lemmas.Slice.Eq.{bytes_eq-Decides}
 use Rattle.clap.specs.Kinds.{IsAmong, Kinds}
 use Rattle.clap.specs.Walk.{is_empty}
-use Rattle.clap.specs.Words.{App, Row, fault_of, matches_of}
+use Rattle.clap.specs.Words.{App, Row, Rule, fault_of, matches_of, with_rule}
 use Rattle.clap.specs.declared.error.kind.ErrorKind.{ErrorKind}
 use Rattle.adapt_words.specs.Commands.{found_in}
 use Rattle.adapt_words.specs.Numbers.{Word}
-use Rattle.adapt_words.specs.Words.{Answers, CommandWords, command_of, mark, mark_of, run_of, soak_of, run, soak}
+use Rattle.adapt_words.specs.Words.{Answers, CommandWords, command_of}
 use Rattle.adapt_words.specs.declared.words.WordsRefusal.{WordsRefusal}
 use Rattle.adapt_words.specs.declared.words.WordsRefusal.TheVariants.{Outside, Memory}
 
@@ -48,13 +50,24 @@ answered shown told next rows (Some x) found same = ap (option_and_then next) fo
 other_word : (word name : Word) → word ≢ name → bytes_eq word name ≡ false
 other_word word name differs = false_from_ne_true (bytes_eq word name) (λ e. differs ((bytes_eq-Decides word name).0 e))
 
+-- a word that is not this command's name leaves it to the others
+passed : (word name : Word) (this others : Option CommandWords) → word ≢ name → others ≡ None → cond (bytes_eq word name) this others ≡ None
+passed word name this others differs rest = ap (λ b. cond b this others) (other_word word name differs) ∙ rest
+
 -- words that begin with the name of no command are outside
-pub command_of-other : (words : List Word) (first : Word) → slice_get words 0 ≡ Some first → first ≢ codes "run" → first ≢ codes "soak" → first ≢ codes "mark" → command_of words ≡ None
-command_of-other [] first e no_run no_soak no_mark = refl
-command_of-other (word ∷ words) first e no_run no_soak no_mark =
+pub command_of-other : (words : List Word) (first : Word) → slice_get words 0 ≡ Some first → first ≢ codes "run" → first ≢ codes "soak" → first ≢ codes "mark" → first ≢ codes "save" → first ≢ codes "join" → first ≢ codes "resume" → first ≢ codes "find" → first ≢ codes "mend" → command_of words ≡ None
+command_of-other [] first e no_run no_soak no_mark no_save no_join no_resume no_find no_mend = refl
+command_of-other (word ∷ words) first e no_run no_soak no_mark no_save no_join no_resume no_find no_mend =
     let same : word ≡ first = ap (λ o. unwrap_or o first) e in
     let all = word ∷ words in
-    let marks : Option CommandWords = cond (bytes_eq word (codes "mark")) (option_map mark (mark_of all)) None in
-    ap (λ b. cond b (option_map run (run_of all)) (cond (bytes_eq word (codes "soak")) (option_map soak (soak_of all)) marks)) (other_word word (codes "run") (λ h. no_run (sym same ∙ h)))
-    ∙ ap (λ b. cond b (option_map soak (soak_of all)) marks) (other_word word (codes "soak") (λ h. no_soak (sym same ∙ h)))
-    ∙ ap (λ b. cond b (option_map mark (mark_of all)) None) (other_word word (codes "mark") (λ h. no_mark (sym same ∙ h)))
+    passed word (codes "run") _ _ (λ h. no_run (sym same ∙ h)) (passed word (codes "soak") _ _ (λ h. no_soak (sym same ∙ h)) (passed word (codes "mark") _ _ (λ h. no_mark (sym same ∙ h)) (passed word (codes "save") _ _ (λ h. no_save (sym same ∙ h)) (passed word (codes "join") _ _ (λ h. no_join (sym same ∙ h)) (passed word (codes "resume") _ _ (λ h. no_resume (sym same ∙ h)) (passed word (codes "find") _ _ (λ h. no_find (sym same ∙ h)) (passed word (codes "mend") _ _ (λ h. no_mend (sym same ∙ h)) refl)))))))
+
+-- one more word that has to stand
+pub rules-more : {X : Type 0} (f : X → Rule) (app : App) (xs : List X) (i : ℕ) (d : X) → i < length xs →
+    with_rule (fold with_rule app (map f (take i xs))) (f (get_or xs i d)) ≡ fold with_rule app (map f (take (i + 1) xs))
+rules-more f app xs i d l =
+    sym (fold-append with_rule app (map f (take i xs)) (f (get_or xs i d) ∷ []))
+    ∙ ap (fold with_rule app) (sym (map-append f (take i xs) (get_or xs i d ∷ [])) ∙ ap (map f) (sym (take_more xs i d l)))
+
+pub rules-all : {X : Type 0} (f : X → Rule) (app : App) (xs : List X) (i : ℕ) → length xs ≤ i → fold with_rule app (map f (take i xs)) ≡ fold with_rule app (map f xs)
+rules-all f app xs i l = ap (λ ys. fold with_rule app (map f ys)) (take_all i xs l)

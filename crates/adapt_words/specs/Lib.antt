@@ -1,4 +1,9 @@
 pub mod Commands
+pub mod Finding
+pub mod Mending
 pub mod Numbers
+pub mod Options
+pub mod Restarts
+pub mod Rounds
 pub mod Rules
 pub mod Words

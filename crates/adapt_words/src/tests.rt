@@ -1,5 +1,7 @@
 //! Words and what they say, by the rules of the form.
-use crate::{Command, Mark, Rule, Run, Soak, USAGE, WordsRefusal, read_words};
+use crate::{
+    Command, Find, Join, Mark, Mend, Resume, Rule, Run, Save, Soak, USAGE, WordsRefusal, read_words,
+};
 use mark_strategy::Share;
 use std::alloc::{AllocError, Global};
 use std::test::Fail;
@@ -269,6 +271,73 @@ fn calls_for_marks(rt: HostRuntime) -> Result<(), Fail> {
     Ok(())
 }
 
+fn is_command(alloc: Global, line: &str, want: Command<'_>) -> Result<bool, AllocError> {
+    let words = words_of(alloc, line)?;
+    Ok(read_words(alloc, words.as_slice()) == Ok(want))
+}
+
+#[test]
+fn other_commands(rt: HostRuntime) -> Result<(), Fail> {
+    let alloc = rt.alloc();
+    let save = Save {
+        macro_file: "q",
+        marks_file: "m",
+        workers: 2,
+        pool: 65_536,
+    };
+    assert!(rt; is_command(alloc, "save q m --workers 2", Command::Save(save))?);
+    let join = Join {
+        first_file: "a",
+        second_file: "b",
+    };
+    assert!(rt; is_command(alloc, "join a b", Command::Join(join))?);
+    let resume = Resume {
+        restart_file: "r",
+        marks_file: "m",
+        workers: 4,
+        pool: 9,
+    };
+    assert!(rt; is_command(alloc, "resume r m --pool=9", Command::Resume(resume))?);
+    let find = Find {
+        macro_file: "q",
+        marks_file: "m",
+        points_file: "p",
+        workers: 4,
+        pool: 65_536,
+    };
+    assert!(rt; is_command(alloc, "find q m p", Command::Find(find))?);
+    let mend = Mend { macro_file: "q" };
+    assert!(rt; is_command(alloc, "mend q", Command::Mend(mend))?);
+    Ok(())
+}
+
+#[test]
+fn other_commands_outside_the_form(rt: HostRuntime) -> Result<(), Fail> {
+    let lines = [
+        "save q",
+        "save q m x",
+        "save q m --report",
+        "join a",
+        "join a b c",
+        "join a b --workers 1",
+        "join a b --pool 1",
+        "resume r",
+        "resume r m --report",
+        "find q m",
+        "find q m p x",
+        "find q m p --pool 0",
+        "mend",
+        "mend q m",
+        "mend q --workers 1",
+        "mend q --pool 9",
+        "mend --help",
+    ];
+    for line in lines {
+        assert!(rt; is_outside(rt.alloc(), line)?, "{line}");
+    }
+    Ok(())
+}
+
 #[test]
 fn no_words(rt: HostRuntime) -> Result<(), Fail> {
     let words: Vec<String> = Vec::new(rt.alloc());
@@ -289,6 +358,15 @@ fn usage(rt: HostRuntime) -> Result<(), Fail> {
     assert!(rt;
         lines.next() == Some("       adapt mark MACRO MARKS RULE [--workers N] [--pool P]")
     );
+    assert!(rt; lines.next() == Some("       adapt save MACRO MARKS [--workers N] [--pool P]"));
+    assert!(rt; lines.next() == Some("       adapt join FIRST SECOND"));
+    assert!(rt;
+        lines.next() == Some("       adapt resume RESTART MARKS [--workers N] [--pool P]")
+    );
+    assert!(rt;
+        lines.next() == Some("       adapt find MACRO MARKS POINTS [--workers N] [--pool P]")
+    );
+    assert!(rt; lines.next() == Some("       adapt mend MACRO"));
     assert!(rt; lines.next() == Some(""));
     assert!(rt; lines.next() == None);
     Ok(())

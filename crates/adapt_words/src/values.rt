@@ -3,7 +3,7 @@ ghost use Rattle.std.specs.Prelude.{◌≡◌, ◌≤◌, codes, option_map, IfS
 ghost use Rattle.clap.specs.Words.{found_of, rows_of};
 ghost use Rattle.adapt_words.specs.Commands.{is_given as is_flag_given, word_of as found_word};
 ghost use Rattle.adapt_words.specs.Numbers.{number_or};
-ghost use Rattle.adapt_words.specs.Words as spec;
+ghost use Rattle.adapt_words.specs.Options as spec;
 
 use crate::numbers::number_in;
 use clap::ArgMatches;

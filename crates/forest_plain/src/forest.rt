@@ -1,11 +1,12 @@
 //! The plain forest.
-ghost use Rattle.std.specs.Prelude.{◌≡◌, ◌≤◌, All, IfErr, IfOk, OnOk};
-ghost use Rattle.std.specs.FinSet.{empty};
+ghost use Rattle.std.specs.Prelude.{◌≡◌, ◌≤◌, [], All, IfErr, IfOk, OnOk};
+ghost use Rattle.std.specs.FinSet.{empty, from_list};
 ghost use Rattle.mesh_names.specs.Forests.{IsListOf};
 ghost use Rattle.mesh_names.specs.Leaves.{leaves};
 ghost use Rattle.mesh_names.specs.Marks.{IsWellFormed};
 ghost use Rattle.compat_check.specs.Meshes.{across_in, shape_of};
 ghost use Rattle.mesh_names.specs.Coarsening.{IsCoarsened, MarkedForest};
+ghost use Rattle.forest_plain.specs.Deltas.{AreBorn};
 ghost use Rattle.forest_plain.specs.LeafMarks.{marked_so};
 ghost use Rattle.forest_plain.specs.Coarsening.{IsReached, IsUnderway};
 ghost use Rattle.forest_plain.specs.Refined.{IsReady};
@@ -56,6 +57,51 @@ impl<'m> PlainForest<'m> {
             pool,
             members: NameSet::new(alloc),
         }
+    }
+
+    /// The forest in which these elements are bisected, with room for `pool` patches.
+    pub fn of_members(
+        alloc: Global,
+        mesh: &'m MacroMesh,
+        pool: u32,
+        members: &[ElemName],
+    ) -> Result<PlainForest<'m>, AllocError>
+        requires { Stands (shape_of mesh.now) (across_in mesh.now) pool (from_list members.now) }
+        ensures members { IfOk result (λ forest. members_of forest ≡ from_list members.now) }
+        ensures pool { IfOk result (λ forest. pool_of forest ≡ pool) }
+        ensures mesh { IfOk result (λ forest. mesh_of forest ≡ shape_of mesh.entry.now) }
+        ensures sides { IfOk result (λ forest. sides_of forest ≡ across_in mesh.entry.now) }
+    {
+        let members = NameSet::of_names(alloc, members)?;
+        Ok(PlainForest {
+            alloc,
+            mesh,
+            pool,
+            members,
+        })
+    }
+
+    /// The bisected elements in the order of names.
+    pub fn members(&self) -> Result<Vec<ElemName>, AllocError>
+        ensures { IfOk result (λ v. IsListOf (members_of self.now) v.items) }
+    {
+        self.members.to_vec(self.alloc)
+    }
+
+    /// The patches that lead to this forest from the one in which nothing is bisected, by level and
+    /// then by owner.
+    pub fn patches_from_nothing(&self) -> Result<RoundDelta, AllocError>
+        ensures born { IfOk result (λ delta. AreBorn (mesh_of self.now) (sides_of self.now) empty (members_of self.now) delta.born.items) }
+        ensures died { IfOk result (λ delta. delta.died.items ≡ []) }
+    {
+        let _checked = self.mesh.element_count();
+        let names = self.members.to_vec(self.alloc)?;
+        let nothing = NameSet::new(self.alloc);
+        let born = born_patches(self.alloc, self.mesh, &nothing, &names)?;
+        Ok(RoundDelta {
+            born,
+            died: Vec::new(self.alloc),
+        })
     }
 
     // The refined forest, where all rows can be done.

@@ -36,6 +36,17 @@ impl NameSet {
         }
     }
 
+    /// The set of these names.
+    pub fn of_names(alloc: Global, names: &[ElemName]) -> Result<NameSet, AllocError>
+        ensures { IfOk result (λ s. s ≡ set.from_list names.now) }
+    {
+        let mut found = NameSet::new(alloc);
+        for name in names {
+            found.insert(*name)?;
+        }
+        Ok(found)
+    }
+
     /// Whether the name is in the set.
     pub fn contains(&self, name: ElemName) -> bool
         ensures { result ≡ set.contains self.now name }

@@ -10,6 +10,11 @@ use std::thread::Threads;
 pub const USAGE: &str = "usage: adapt run MACRO MARKS [--workers N] [--pool P] [--report]
        adapt soak START GRID ROUNDS [--workers N] [--pool P]
        adapt mark MACRO MARKS RULE [--workers N] [--pool P]
+       adapt save MACRO MARKS [--workers N] [--pool P]
+       adapt join FIRST SECOND
+       adapt resume RESTART MARKS [--workers N] [--pool P]
+       adapt find MACRO MARKS POINTS [--workers N] [--pool P]
+       adapt mend MACRO
 ";
 
 /// The line of a soak of one round on the grid of one square.

@@ -101,3 +101,10 @@ number of elements: 6
 vertex coordinates: -1 -1 0 -1 -1 0 0 0 1 0 -1 1 0 1 1 1
 element vertices: 0 3 1 3 0 2 3 5 2 5 3 6 3 7 4 7 3 6
 ";
+
+/// Four triangles round a vertex, whose refinement edges all end at it: no grades fit.
+pub const CYCLE: &str = "number of vertices: 5
+number of elements: 4
+vertex coordinates: 0 0 1 0 1 1 0 1 0.33333333333333331 0.5
+element vertices: 1 4 0 2 4 1 3 4 2 0 4 3
+";

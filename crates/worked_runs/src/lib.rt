@@ -15,6 +15,8 @@ mod kinds;
 #[cfg(test)]
 mod marks;
 #[cfg(test)]
+mod mends;
+#[cfg(test)]
 mod meshes;
 #[cfg(test)]
 mod run;

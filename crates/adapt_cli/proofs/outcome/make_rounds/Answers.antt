@@ -2,7 +2,7 @@ use Rattle.std.proofs.Common.{ℕ, subst}
 use Rattle.std.proofs.lemmas.Result.{IfErr-weaker, IfOk-weaker}
 use Rattle.forest_plain.specs.Forests.{members_of}
 use Rattle.mark_file.specs.Meaning.{rounds_read}
-use Rattle.adapt_words.specs.Words.{run_said}
+use Rattle.adapt_words.specs.Rounds.{run_said}
 use Rattle.mesh_rounds.specs.State.{with_values}
 use Rattle.adapt_cli.specs.Rounds.{LeadTo}
 use Rattle.adapt_cli.specs.Stops.{IsReportedRun, IsRun, StopsBy}

@@ -2,7 +2,7 @@ use Rattle.std.proofs.Common.{◌≡◌, ℕ, List, length, ap, sym, subst, arit
 use Rattle.std.specs.Prelude.{string_bytes}
 use Rattle.mesh_names.specs.Forests.{Names}
 use Rattle.forest_plain.specs.Forests.{members_of}
-use Rattle.adapt_words.specs.Words.{soak_said}
+use Rattle.adapt_words.specs.Rounds.{soak_said}
 use Rattle.mesh_rounds.specs.State.{with_values}
 use Rattle.adapt_cli.specs.Soaks.{IsSoakText}
 use Rattle.adapt_cli.proofs.soaking.tell.Goals as goal

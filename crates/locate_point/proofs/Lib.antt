@@ -1,0 +1,15 @@
+pub mod Products
+pub mod Crosses
+pub mod Halves
+pub mod Splitting
+pub mod Placing
+pub mod Signs
+pub mod NearNames
+pub mod Elements
+pub mod Descent
+pub mod Tenths
+pub mod Places
+pub mod Searching
+pub mod Fronts
+pub mod Adding
+pub mod Boxing

@@ -1,0 +1,11 @@
+//! Laws over the definitions alone.
+ghost use Rattle.locate_point.specs.Children.{ContainsByChildren};
+
+use compat_check::laws::midpoints_exact;
+
+/// With exact midpoints a triangle contains a point exactly where one of its children does.
+pub fn contains_by_children()
+    ensures { ContainsByChildren }
+{
+    midpoints_exact()
+}

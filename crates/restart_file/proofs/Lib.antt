@@ -1,0 +1,11 @@
+pub mod Merging
+pub mod Unions
+pub mod Orders
+pub mod TreeMembers
+pub mod Walking
+pub mod Elements
+pub mod Parsing
+pub mod Heading
+pub mod Searching
+pub mod Files
+pub mod Accepting

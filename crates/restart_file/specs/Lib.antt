@@ -1,0 +1,9 @@
+pub mod Kept
+pub mod Merges
+pub mod Trees
+pub mod Walks
+pub mod Files
+pub mod Heads
+pub mod Refusals
+pub mod Lines
+pub mod Parts
