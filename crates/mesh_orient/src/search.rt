@@ -3,7 +3,7 @@
 //! From an element that is in no pair, paths go over a shared edge and then on to the mate of the element
 //! there, again and again. The elements at which such paths end are outer, those between are inner. Where
 //! two outer elements meet, there is a circle of odd length: it is folded into one, so that its inner
-//! elements are outer too. Each loop is bounded by the number of elements, which it never needs.
+//! elements are outer too. No loop needs more turns than there are elements, and each is bounded by that.
 use crate::neighbours::Row;
 use std::alloc::{AllocError, Global};
 

@@ -136,6 +136,7 @@ fn labels_and_neighbours_go_along_with_their_edges(rt: HostRuntime) -> Result<()
 #[test]
 fn what_is_accepted_stays_as_it_is(rt: HostRuntime) -> Result<(), Fail> {
     let text = oriented(rt.alloc(), GRADED)?;
+    assert_eq!(rt; text.elements.len(), 2);
     assert_eq!(rt; text.elements[0].corners, [2, 0, 1]);
     assert_eq!(rt; text.elements[1].corners, [2, 3, 0]);
     assert_eq!(rt; (text.labels_given, text.neighbours_given), (false, false));
