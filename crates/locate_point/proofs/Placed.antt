@@ -25,8 +25,7 @@ no_points mesh leaves points text e = ([], tt, e)
 pub point_more : (mesh : Mesh) (leaves : List Name) (points : List Point) (i : ℕ) (p : Point) (place : Option Name) (old new : List ℕ) → i < length points → p ≡ get_or points i p → IsPlacesText mesh leaves (take i points) old → IsPlace mesh leaves p place → new ≡ old ++ place_text place →
     IsPlacesText mesh leaves (take (i + 1) points) new
 point_more mesh leaves points i p place old new inside at before here e =
-    let more : take (i + 1) points ≡ take i points ++ p ∷ [] = take_more points i p inside ∙ ap (λ q. take i points ++ q ∷ []) (sym at) in
-    (
+    let more : take (i + 1) points ≡ take i points ++ p ∷ [] = take_more points i p inside ∙ ap (λ q. take i points ++ q ∷ []) (sym at) in (
       before.0 ++ place ∷ [],
       subst (λ (ps : List Point). AllZip (IsPlace mesh leaves) ps (before.0 ++ place ∷ [])) (sym more) (zip_push (IsPlace mesh leaves) (take i points) before.0 p place before.1 here),
       e ∙ ap (λ t. t ++ place_text place) before.2 ∙ sym (text_push before.0 place),
