@@ -1,5 +1,5 @@
 -- A point that a triangle contains lies in a cell of the box around it.
-use Rattle.std.proofs.Common.{◌≡◌, ℕ, ◌+◌, ◌*◌, ◌/◌, ◌<◌, ◌≤◌, refl, sym, ap, ◌∙◌, subst, arith}
+use Rattle.std.proofs.Common.{◌≡◌, ℕ, ◌/◌, ◌<◌, ◌≤◌, sym, subst, arith}
 use Rattle.std.specs.Prelude.{ℤ, pos, negsuc, ◌-ℤ◌, ◌≤ℤ◌, min}
 use Rattle.std.specs.Int.{w64}
 use Rattle.std.proofs.lemmas.Int.{to_z-of_z, ints, fits_signed_from_abs}
@@ -8,7 +8,6 @@ use Rattle.mesh_io.proofs.Powers.{div_low}
 use Rattle.macro_file.specs.Limits.{AtMost}
 use mir.Val.{to_z, of_z, SFits}
 use Rattle.compat_check.specs.Points.{Point}
-use Rattle.compat_check.specs.Within.{IsWithin}
 use Rattle.locate_point.specs.declared.axis.Axis.{Axis}
 use Rattle.locate_point.specs.Covering.{Corners, Covers}
 use Rattle.locate_point.specs.Grids.{IsBox, part, place}

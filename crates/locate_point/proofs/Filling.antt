@@ -1,25 +1,18 @@
 -- Entries that are added name by name.
-use Rattle.std.proofs.Common.{◌≡◌, ◌⊎◌, ℕ, ◌+◌, ◌*◌, ◌-◌, ◌/◌, ◌<◌, ◌≤◌, List, [], ◌∷◌, ◌++◌, length, take, get_or, refl, sym, ap, subst, ◌∙◌, arith, inl, inr, ⊎_elim, true, false, Bool}
-use Rattle.std.specs.Prelude.{Option, Some, None, Result, Ok, Err, OnOk}
+use Rattle.std.proofs.Common.{◌≡◌, ℕ, ◌+◌, ◌<◌, ◌≤◌, List, [], ◌∷◌, ◌++◌, length, take, get_or, sym, ap, subst, ◌∙◌, arith, inl, inr, ⊎_elim}
+use Rattle.std.specs.Prelude.{Result, Ok, Err, OnOk}
 use Rattle.std.specs.List.{Contains}
-use Rattle.std.specs.List.Sorted.{IsPermutation, IsSorted}
-use Rattle.std.specs.Ordering.{nat_cmp, ordering_then, ordering_reverse, is_lt, is_le}
-use Rattle.std.specs.Cmp.{IsTotalOrder, then_total, on_total, nat_cmp_total, nat_cmp_is, tied_itself}
-use Rattle.std.specs.BTreeMap.Comparable.{le_lt_trans}
-use Rattle.std.specs.declared.cmp.Ordering.{Ordering}
-use Rattle.std.specs.declared.cmp.Ordering.TheVariants.{Less, Equal, Greater}
-use Rattle.std.proofs.lemmas.Bool.{cases_lt, true≢false, false≢true}
-use Rattle.std.proofs.lemmas.List.{take_more, take_all, get_or_default}
+use Rattle.std.specs.List.Sorted.{IsPermutation}
+use Rattle.std.proofs.lemmas.Bool.{cases_lt}
+use Rattle.std.proofs.lemmas.List.{take_more}
 use Rattle.std.proofs.lemmas.List.Elements.{Contains-append_left, Contains-push, Contains-push_cases}
 use Rattle.std.proofs.lemmas.List.Sorted.{Contains-permutation}
-use Rattle.mesh_names.specs.Names.{Name, name_cmp}
-use Rattle.mesh_names.specs.Order.{name_cmp_total}
+use Rattle.mesh_names.specs.Names.{Name}
 use Rattle.compat_check.specs.Meshes.{Mesh}
 use Rattle.compat_check.specs.Points.{Point}
 use Rattle.locate_point.specs.declared.axis.Axis.{Axis}
 use Rattle.locate_point.specs.Covering.{IsAround}
-use Rattle.locate_point.specs.Grids.{AddsOnly, AreEntries, AreRooted, Entry, IsGrid, cell, cell_at, entry_cmp, place}
-use Rattle.locate_point.specs.Locating.{IsAtMost, IsPlace}
+use Rattle.locate_point.specs.Grids.{AddsOnly, AreEntries, Entry, cell, cell_at}
 
 pub adds_none : (name : Name) (es : List Entry) → AddsOnly name es es
 adds_none name es = record { kept = λ e h. h; only = λ e h. inl h }

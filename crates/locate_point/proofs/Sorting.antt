@@ -1,6 +1,6 @@
 -- Entries in order: a search for a cell, and the first of its names around a point.
-use Rattle.std.proofs.Common.{◌≡◌, ◌⊎◌, ℕ, zero, suc, ◌+◌, ◌-◌, ◌/◌, ◌<◌, ◌≤◌, List, length, get_or, refl, sym, ap, subst, ◌∙◌, arith, ⊎_elim, true, false, Bool}
-use Rattle.std.specs.Prelude.{Option, Some, None}
+use Rattle.std.proofs.Common.{◌≡◌, ℕ, zero, suc, ◌+◌, ◌-◌, ◌<◌, ◌≤◌, List, length, get_or, refl, sym, ap, subst, ◌∙◌, arith, ⊎_elim, true, false}
+use Rattle.std.specs.Prelude.{Some, None}
 use Rattle.std.specs.List.{Contains}
 use Rattle.std.specs.List.Sorted.{IsSorted}
 use Rattle.std.specs.Ordering.{nat_cmp, ordering_then, ordering_reverse, is_lt, is_le}
@@ -8,7 +8,7 @@ use Rattle.std.specs.Cmp.{IsTotalOrder, then_total, on_total, nat_cmp_total, nat
 use Rattle.std.specs.BTreeMap.Comparable.{le_lt_trans}
 use Rattle.std.specs.declared.cmp.Ordering.{Ordering}
 use Rattle.std.specs.declared.cmp.Ordering.TheVariants.{Less, Equal, Greater}
-use Rattle.std.proofs.lemmas.Bool.{cases_lt, true≢false, false≢true}
+use Rattle.std.proofs.lemmas.Bool.{cases_lt, true≢false}
 use Rattle.std.proofs.lemmas.List.{get_or_default}
 use Rattle.mesh_names.specs.Names.{Name, name_cmp}
 use Rattle.mesh_names.specs.Order.{name_cmp_total}
@@ -16,7 +16,7 @@ use Rattle.compat_check.specs.Meshes.{Mesh}
 use Rattle.compat_check.specs.Points.{Point}
 use Rattle.locate_point.specs.declared.axis.Axis.{Axis}
 use Rattle.locate_point.specs.Covering.{IsAround}
-use Rattle.locate_point.specs.Grids.{AreEntries, Entry, IsGrid, cell, entry_cmp}
+use Rattle.locate_point.specs.Grids.{Entry, IsGrid, cell, entry_cmp}
 use Rattle.locate_point.specs.Locating.{IsAtMost, IsPlace}
 
 entry_total : IsTotalOrder entry_cmp

@@ -1,22 +1,20 @@
 -- The names of the macro elements, and the way down from the first of them around a point.
-use Rattle.std.proofs.Common.{◌≡◌, ℕ, ◌<◌, ◌≤◌, List, [], Bool, true, false, refl, sym, ap, subst, ◌∙◌, arith, ⊎_elim}
-use Rattle.std.specs.Prelude.{Option, Some, None}
+use Rattle.std.proofs.Common.{◌≡◌, ℕ, ◌<◌, List, [], sym, ap, subst, arith}
+use Rattle.std.specs.Prelude.{Some, None}
 use Rattle.std.specs.Cmp.{nat_cmp_is}
 use Rattle.std.specs.List.{Contains}
 use Rattle.std.specs.Ordering.{ordering_then}
-use Rattle.std.specs.declared.cmp.Ordering.TheVariants.{Less, Equal, Greater}
-use Rattle.std.specs.Cmp.Lexicographic.{slice_cmp}
-use Rattle.mesh_names.specs.Names.{Name, name_cmp}
+use Rattle.std.specs.declared.cmp.Ordering.TheVariants.{Equal, Greater}
+use Rattle.mesh_names.specs.Names.{Name}
 use Rattle.mesh_names.specs.Triangles.{size}
 use Rattle.mesh_names.specs.Leaves.{tops}
-use Rattle.mesh_names.specs.Forests.{Names}
 use Rattle.mesh_names.proofs.Leaving.{in-tops, tops-in}
 use Rattle.compat_check.specs.Meshes.{Mesh, shape_of}
 use Rattle.compat_check.specs.Points.{Point, AreTenths}
 use Rattle.locate_point.specs.Covering.{IsAround}
 use Rattle.locate_point.specs.Children.{ContainsByChildren}
 use Rattle.locate_point.specs.Grids.{AreRooted}
-use Rattle.locate_point.specs.Locating.{AreLeaves, AreLeavesOf, IsAtMost, IsPlace, LiesOutside}
+use Rattle.locate_point.specs.Locating.{AreLeaves, IsAtMost, IsPlace}
 use Rattle.locate_point.specs.Ways.{IsOnWay}
 use Rattle.locate_point.proofs.Descent.{nowhere, start}
 use Rattle.locate_point.proofs.Elements.{contains-in, in-contains, listed-rooted}

@@ -1,5 +1,5 @@
 -- A locator: a grid of the names in which points are looked up.
-use Rattle.std.specs.Prelude.{◌≡◌, ℕ, Bool, true, false, List}
+use Rattle.std.specs.Prelude.{◌≡◌, Bool, true, false, List}
 use Rattle.mesh_names.specs.Names.{Name}
 use Rattle.mesh_names.specs.Triangles.{size}
 use Rattle.mesh_names.specs.Leaves.{tops}

@@ -1,8 +1,7 @@
-use Rattle.std.proofs.Common.{◌≡◌, ◌+◌, ◌*◌, ℕ, List, sym, ap, subst, ◌∙◌, get_or, arith}
+use Rattle.std.proofs.Common.{◌≡◌, ◌+◌, ◌*◌, sym, subst, ◌∙◌, arith}
 use Rattle.std.proofs.lemmas.Bool.{true≢false}
-use Rattle.mesh_names.specs.Names.{Name}
 use Rattle.locate_point.specs.Covering.{Covers}
-use Rattle.locate_point.specs.Grids.{Entry, IsGrid, cell}
+use Rattle.locate_point.specs.Grids.{cell}
 use Rattle.locate_point.proofs.Sorting.{first_least, no_place, none_left, none_more, none_past, some_place}
 use Rattle.locate_point.proofs.grid.first_in.Goals as goal
 

@@ -1,4 +1,4 @@
-use Rattle.std.proofs.Common.{ℕ, ◌≡◌, ◌≤◌, arith, sym}
+use Rattle.std.proofs.Common.{arith}
 use Rattle.locate_point.specs.Grids.{place}
 use Rattle.locate_point.proofs.Filling.{adds_more, adds_none, row_more}
 use Rattle.locate_point.proofs.grid.push_box.Goals as goal

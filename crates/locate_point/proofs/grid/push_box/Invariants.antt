@@ -1,4 +1,4 @@
-use Rattle.std.proofs.Common.{ℕ, ◌<◌, ◌≤◌, ◌+◌}
+use Rattle.std.proofs.Common.{ℕ, ◌<◌, ◌≤◌}
 use Rattle.std.specs.List.{Contains}
 use Rattle.locate_point.specs.Grids.{AddsOnly, cell_at, place}
 use Rattle.locate_point.proofs.grid.push_box.Given as goal

@@ -1,5 +1,4 @@
 use Rattle.std.proofs.Common.{Bool, true, List, subst, sym}
-use Rattle.mesh_names.specs.Names.{Name}
 use Rattle.locate_point.specs.Grids.{Entry, IsGrid}
 use Rattle.locate_point.specs.Locators.{names_of}
 use Rattle.locate_point.proofs.Tops.{top_none, top_way}
