@@ -12,6 +12,8 @@ mod making;
 mod plain;
 mod points;
 mod refusal;
+#[cfg(test)]
+mod tests;
 mod triangle;
 mod words;
 mod writing;
