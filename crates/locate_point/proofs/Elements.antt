@@ -12,11 +12,11 @@ use Rattle.compat_check.specs.Meshes.{Mesh, shape_of}
 use Rattle.locate_point.specs.Locating.{AreLeavesOf}
 use Rattle.locate_point.specs.Ways.{IsElement}
 
-in-contains : (q : Name) (ks : List Name) → In q ks → Contains ks q
+pub in-contains : (q : Name) (ks : List Name) → In q ks → Contains ks q
 in-contains q [] h = absurd h
 in-contains q (k ∷ ks) h = ⊎_elim (λ (e : q ≡ k). (zero, omega arith, sym e)) (λ (i : In q ks). let r = in-contains q ks i in (suc r.0, omega (arith, r.1), r.2)) h
 
-contains-in : (q : Name) (ks : List Name) → Contains ks q → In q ks
+pub contains-in : (q : Name) (ks : List Name) → Contains ks q → In q ks
 contains-in q ks h = subst (λ (k : Name). In k ks) h.2 (item-in ks h.0 q h.1)
 
 module _ (mesh : Mesh) (members : Names) (list : List Name) (are : AreLeavesOf mesh members list) where

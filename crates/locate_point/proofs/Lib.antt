@@ -13,3 +13,8 @@ pub mod Searching
 pub mod Fronts
 pub mod Adding
 pub mod Boxing
+pub mod Cells
+pub mod Filling
+pub mod Sorting
+pub mod Tops
+pub mod Placed

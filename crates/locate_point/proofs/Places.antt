@@ -1,18 +1,20 @@
 -- The first place of a list of leaves whose triangle contains a point.
-use Rattle.std.proofs.Common.{◌≡◌, ℕ, ◌+◌, ◌<◌, ◌≤◌, List, length, sym, ap, subst, ◌∙◌, arith, ⊎_elim, get_or}
+use Rattle.std.proofs.Common.{◌≡◌, ℕ, ◌+◌, ◌<◌, ◌≤◌, List, length, refl, sym, ap, subst, ◌∙◌, arith, ⊎_elim, get_or}
 use Rattle.std.specs.Cmp.{tied_itself}
-use Rattle.std.specs.Prelude.{Some}
-use Rattle.std.specs.declared.cmp.Ordering.TheVariants.{Less, Equal}
+use Rattle.std.specs.Prelude.{Option, Some, None}
+use Rattle.std.specs.declared.cmp.Ordering.TheVariants.{Less, Equal, Greater}
 use Rattle.std.proofs.lemmas.Bool.{cases_lt}
 use Rattle.std.proofs.lemmas.Map.Keys.{Less-from_sorted}
 use Rattle.std.proofs.lemmas.List.{get_or_default}
 use Rattle.mesh_names.specs.Names.{Name, name_cmp}
-use Rattle.mesh_names.specs.Order.{name_cmp_total}
+use Rattle.mesh_names.specs.Order.{name_cmp_total, name_cmp-same}
+use Rattle.std.specs.Ordering.{ordering_reverse}
+use Rattle.std.specs.declared.cmp.Ordering.{Ordering}
 use Rattle.mesh_names.specs.Forests.{Names}
 use Rattle.compat_check.specs.Meshes.{Mesh}
 use Rattle.compat_check.specs.Points.{Point}
 use Rattle.locate_point.specs.Covering.{IsAround}
-use Rattle.locate_point.specs.Locating.{AreLeavesOf, IsAtMost, IsPlace}
+use Rattle.locate_point.specs.Locating.{AreLeavesOf, IsAtMost, IsPlace, PlacesAreOne}
 
 not_greater : (n m : Name) → name_cmp n m ≡ Less → IsAtMost n m
 not_greater n m e g = absurd (cc)
@@ -38,3 +40,18 @@ pub more_before : (mesh : Mesh) (list : List Name) (p : Point) (i : ℕ) (n : Na
 more_before mesh list p i n inside at none before k d less = ⊎_elim (λ (early : k < i). before k d early)
     (λ (late : i ≤ k). let same : k ≡ i = omega (arith, less, late) in λ h. none (subst (IsAround mesh p) (ap (λ j. get_or list j d) same ∙ get_or_default list i d n inside ∙ at) h))
     (cases_lt k i)
+
+-- two names of which neither comes after the other
+one_name : (n m : Name) → IsAtMost n m → IsAtMost m n → n ≡ m
+one_name n m h k = either (name_cmp n m) refl
+  where
+    either : (o : Ordering) → name_cmp n m ≡ o → n ≡ m
+    either Less e = absurd (k (name_cmp_total.antisymm m n ∙ ap ordering_reverse e))
+    either Equal e = name_cmp-same n m e
+    either Greater e = absurd (h e)
+
+pub places_are_one : PlacesAreOne
+places_are_one mesh names p None None a b = refl
+places_are_one mesh names p None (Some m) a b = absurd (a m b.0 b.1)
+places_are_one mesh names p (Some n) None a b = absurd (b n a.0 a.1)
+places_are_one mesh names p (Some n) (Some m) a b = ap Some (one_name n m (a.2 m b.0 b.1) (b.2 n a.0 a.1))

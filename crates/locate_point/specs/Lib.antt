@@ -4,3 +4,6 @@ pub mod Locating
 pub mod Ways
 pub mod PointsFile
 pub mod Reading
+pub mod Grids
+pub mod Locators
+pub mod PlaceTexts

@@ -31,3 +31,7 @@ IsPlace mesh names p (Some n) = Contains names n × IsAround mesh p n × ((m : N
 -- the point lies in no triangle of the macro mesh
 abbrev pub LiesOutside : Mesh → Point → Type 0
 LiesOutside mesh p = (r : ℕ) → r < size (shape_of mesh) → IsAround mesh p (r, []) → ⊥
+
+-- the law that a point has one place
+abbrev pub PlacesAreOne : Type 0
+PlacesAreOne = (mesh : Mesh) (names : List Name) (p : Point) (a b : Option Name) → IsPlace mesh names p a → IsPlace mesh names p b → a ≡ b

@@ -60,7 +60,12 @@ fn is_listed(leaves: &[ElemName], name: ElemName) -> bool
 }
 
 // The leaf at which the way from an element down ends.
-fn leaf_below(mesh: &MacroMesh, leaves: &[ElemName], top: ElemName, point: Point) -> ElemName
+pub(crate) fn leaf_below(
+    mesh: &MacroMesh,
+    leaves: &[ElemName],
+    top: ElemName,
+    point: Point,
+) -> ElemName
     requires exact { AreTenths mesh.now.vertices }
     requires leaves { AreLeaves mesh.now leaves.now }
     requires point { IsWithin point }

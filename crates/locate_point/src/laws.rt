@@ -1,5 +1,6 @@
 //! Laws over the definitions alone.
 ghost use Rattle.locate_point.specs.Children.{ContainsByChildren};
+ghost use Rattle.locate_point.specs.Locating.{PlacesAreOne};
 
 use compat_check::laws::midpoints_exact;
 
@@ -9,3 +10,8 @@ pub fn contains_by_children()
 {
     midpoints_exact()
 }
+
+/// A point has one place: so `find`, `find_plain` and a locator answer alike.
+pub fn places_are_one()
+    ensures { PlacesAreOne }
+{}
