@@ -8,6 +8,8 @@ pub mod laws;
 mod lines;
 mod reading;
 mod refusal;
+#[cfg(test)]
+mod tests;
 mod walk;
 mod writing;
 
