@@ -52,8 +52,5 @@ fn joined(alloc: Global, first: &Restart, second: &Restart) -> Result<Vec<u8>, S
 fn parts_differ(alloc: Global) -> Stop
     ensures { StopsBy ArePartsApart result }
 {
-    refused(
-        3,
-        format!(in alloc; "adapt: restart: macro parts differ\n"),
-    )
+    refused(3, format!(in alloc; "adapt: restart: macro parts differ\n"))
 }

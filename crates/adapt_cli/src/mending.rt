@@ -64,7 +64,9 @@ fn mend_line(alloc: Global, refusal: MendRefusal) -> Result<String, AllocError>
 fn too_large(alloc: Global, vertices: u64, elements: u64) -> Result<String, AllocError>
     ensures { IfOk result (λ t. string_bytes t ≡ joined (codes "adapt: mend: " ∷ decimal vertices ∷ codes " vertices and " ∷ decimal elements ∷ codes " elements are more than 65535\n" ∷ [])) }
 {
-    format!(in alloc; "adapt: mend: {vertices} vertices and {elements} elements are more than 65535\n")
+    format!(in alloc;
+        "adapt: mend: {vertices} vertices and {elements} elements are more than 65535\n"
+    )
 }
 
 fn flat_piece(alloc: Global, element: u32, edge: u8) -> Result<String, AllocError>

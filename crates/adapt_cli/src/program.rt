@@ -80,11 +80,7 @@ fn end_soak<R: Threads + Sync, O: Sink, E: Sink>(
 }
 
 // Writes the text that a command with files led to, or the line of what stopped it.
-fn finish<O: Sink, E: Sink>(
-    ended: Result<Vec<u8>, FileStop<'_>>,
-    out: &mut O,
-    err: &mut E,
-) -> u8
+fn finish<O: Sink, E: Sink>(ended: Result<Vec<u8>, FileStop<'_>>, out: &mut O, err: &mut E) -> u8
     ensures { Finishes ended.entry (record { old = O.holds out.old; new = O.holds out.new; before = O.faults out.old; now = O.faults out.new }) (record { old = E.holds err.old; new = E.holds err.new; before = E.faults err.old; now = E.faults err.new }) result }
 {
     match ended {

@@ -16,7 +16,9 @@ pub fn restart_line(alloc: Global, refusal: RestartRefusal) -> Result<String, Al
 {
     match refusal {
         RestartRefusal::BadHead => format!(in alloc; "adapt: restart: bad head\n"),
-        RestartRefusal::MacroShort { .. } => format!(in alloc; "adapt: restart: macro part short\n"),
+        RestartRefusal::MacroShort { .. } => format!(in alloc;
+            "adapt: restart: macro part short\n"
+        ),
         RestartRefusal::Macro { refusal } => macro_line(alloc, refusal),
         RestartRefusal::Check { refusal } => check_line(alloc, refusal),
         RestartRefusal::BadWord { element } => at_word(alloc, element, "bad word"),

@@ -34,11 +34,7 @@ fn flag_arg<'a>(alloc: Global, id: &'a str) -> Arg<'a>
 }
 
 // A command of this name with words that have to stand.
-fn taking<'a>(
-    alloc: Global,
-    name: &'a str,
-    ids: &[&'a str],
-) -> Result<Command<'a>, AllocError>
+fn taking<'a>(alloc: Global, name: &'a str, ids: &[&'a str]) -> Result<Command<'a>, AllocError>
     ensures { IfOk result (λ command. app_of command ≡ fold with_rule (new_app name.entry.now) (map (λ id. required id.now) ids.entry.now)) }
 {
     let mut command = Command::new(alloc, name);
@@ -115,10 +111,7 @@ pub(crate) fn found<'a>(
 }
 
 // What this command finds in the words.
-fn found_by<'a>(
-    command: Command<'a>,
-    words: &'a [String],
-) -> Result<ArgMatches<'a>, WordsRefusal>
+fn found_by<'a>(command: Command<'a>, words: &'a [String]) -> Result<ArgMatches<'a>, WordsRefusal>
     requires { is_simple_and_free (app_of command) ≡ true }
     ensures { Answers (λ matches. rows_of (found_of matches)) (found_in (app_of command.entry) (map string_bytes words.entry.now)) result }
 {

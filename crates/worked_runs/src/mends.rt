@@ -101,7 +101,12 @@ fn a_mended_mesh_can_be_run(rt: HostRuntime) -> Result<(), Fail> {
     assert!(rt; tells(&rt, rt.alloc(), "run q m", CYCLE, 3, told)?);
     let mended = call(&rt, rt.alloc(), "mend q", CYCLE)?;
     assert_eq!(rt; mended.status, 0);
-    let ran = call(&rt, rt.alloc(), "run q m", str::from_utf8(mended.out.bytes())?)?;
+    let ran = call(
+        &rt,
+        rt.alloc(),
+        "run q m",
+        str::from_utf8(mended.out.bytes())?,
+    )?;
     assert_eq!(rt; ran.status, 0);
     let text = str::from_utf8(ran.out.bytes())?;
     assert!(rt; text.contains("number of vertices: 9\nnumber of elements: 12\n"));
@@ -114,7 +119,8 @@ fn what_cannot_be_mended_is_refused(rt: HostRuntime) -> Result<(), Fail> {
     assert!(rt; tells(&rt, rt.alloc(), "mend q", FINEST, 3, told)?);
     let told = "adapt: macro: key missing: number of vertices\n";
     assert!(rt; tells(&rt, rt.alloc(), "mend q", "", 3, told)?);
-    let flat = "number of vertices: 3\nnumber of elements: 1\nvertex coordinates: 0 0 1 1 2 2\nelement vertices: 0 1 2\n";
+    let flat =
+        "number of vertices: 3\nnumber of elements: 1\nvertex coordinates: 0 0 1 1 2 2\nelement vertices: 0 1 2\n";
     let told = "adapt: macro: element 0: flat\n";
     assert!(rt; tells(&rt, rt.alloc(), "mend q", flat, 3, told)?);
     let told = "adapt: read fault: x\n";

@@ -89,16 +89,37 @@ fn each_fault_of_a_restart_file_is_told(rt: HostRuntime) -> Result<(), Fail> {
         ("restart: 0133\n", "restart: bad head"),
         ("restart: 9\nDIM: 2\n", "restart: macro part short"),
         (&spaced, "macro: line 1: bad key"),
-        (&restart(alloc, SQUARE, "10\n100\n")?, "restart: element 0: bad word"),
-        (&restart(alloc, SQUARE, "0\n")?, "restart: element 1: bad word"),
-        (&restart(alloc, SQUARE, DEEP)?, "restart: element 0: level above 24"),
-        (&restart(alloc, SQUARE, "0\n0\n\n")?, "restart: bytes left over"),
-        (&restart(alloc, SQUARE, "100\n0\n")?, "restart: 0: not conforming"),
+        (
+            &restart(alloc, SQUARE, "10\n100\n")?,
+            "restart: element 0: bad word",
+        ),
+        (
+            &restart(alloc, SQUARE, "0\n")?,
+            "restart: element 1: bad word",
+        ),
+        (
+            &restart(alloc, SQUARE, DEEP)?,
+            "restart: element 0: level above 24",
+        ),
+        (
+            &restart(alloc, SQUARE, "0\n0\n\n")?,
+            "restart: bytes left over",
+        ),
+        (
+            &restart(alloc, SQUARE, "100\n0\n")?,
+            "restart: 0: not conforming",
+        ),
     ];
     for (text, told) in cases {
         let line = format!(in alloc; "adapt: {told}\n")?;
-        assert!(rt; tells(&rt, alloc, "join a b", text, "", 3, &line)?, "{told}");
-        assert!(rt; tells(&rt, alloc, "join b a", text, &right, 3, &line)?, "{told}");
+        assert!(rt;
+            tells(&rt, alloc, "join a b", text, "", 3, &line)?,
+            "{told}"
+        );
+        assert!(rt;
+            tells(&rt, alloc, "join b a", text, &right, 3, &line)?,
+            "{told}"
+        );
     }
     assert!(rt; tells(&rt, alloc, "join c a", "", "", 6, "adapt: read fault: c\n")?);
     Ok(())
