@@ -42,20 +42,20 @@ written_out source out err text result is_text ends = ⊎_elim
     ends
 
 -- a command with files: what they lead to is its outcome
-module _ (leads : Files → End → Type 0) (asks : Option Files → Word → Type 0) (command : CommandWords) (files : Option Files) (steady : Bool) (before now : ℕ)
+module _ (leads : Files → End → Type 0) (asks : Option Files → Word → Type 0) (command : CommandWords) (asked : Option CommandWords) (is : asked ≡ Some command) (files : Option Files) (steady : Bool) (before now : ℕ)
     (is_outcome : (end : End) → IfSome files (λ told. leads told end) → IsOutcomeOf files command end) (is_asked : (name : Word) → asks files name → AsksFor command files name) where
   abbrev pub source_of : Source
-  source_of = record { command = Some command; files = files; steady = steady; before = before; now = now }
+  source_of = record { command = asked; files = files; steady = steady; before = before; now = now }
 
   pub finished : (ended : Result (Vec ℕ Global) FileStop) (out err : Written) (result : ℕ) → IfOk ended (λ text. IsTextOf leads files before now text.items) → IfErr ended (IsStop leads asks files steady before now) →
       Finishes ended out err result → Ends (call source_of out err result)
-  finished (Ok text) out err result h stops at = written_out source_of out err text.items result (record { calm = h.0; outcome = record { command = command; is_command = refl; outcome = is_outcome (Ok text.items) h.1 } }) at
-  finished (Err (Stopped (Refused fault))) out err result h stops at = told source_of out err at.0 (string_bytes fault.line) fault.status result (inr (inr (inl (record { low = stops.0; high = stops.1; calm = stops.2; outcome = record { command = command; is_command = refl; outcome = is_outcome (Err (fault.status, string_bytes fault.line)) stops.3 } })))) at.1
+  finished (Ok text) out err result h stops at = written_out source_of out err text.items result (record { calm = h.0; outcome = record { command = command; is_command = is; outcome = is_outcome (Ok text.items) h.1 } }) at
+  finished (Err (Stopped (Refused fault))) out err result h stops at = told source_of out err at.0 (string_bytes fault.line) fault.status result (inr (inr (inl (record { low = stops.0; high = stops.1; calm = stops.2; outcome = record { command = command; is_command = is; outcome = is_outcome (Err (fault.status, string_bytes fault.line)) stops.3 } })))) at.1
   finished (Err (Stopped Memory)) out err result h stops at = told source_of out err at.0 memory_line 1 result (inl (record { status_is = refl; line_is = refl; calm = stops })) at.1
   finished (Err (Unread name)) out err result h stops at = told source_of out err at.0 (read_fault_line name.now) 6 result (inr (inr (inr (record {
     status_is = refl;
     name = name.now;
-    is_next = (command, refl, is_asked name.now stops.1);
+    is_next = (command, is, is_asked name.now stops.1);
     line_is = refl;
     rose = stops.0;
     missing = stops.2;

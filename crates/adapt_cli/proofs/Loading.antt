@@ -1,6 +1,6 @@
 -- What the loads of the files lead to.
-use Rattle.std.proofs.Common.{◌≡◌, ℕ, zero, suc, ◌≤◌, refl, subst, sym, Bool, List, [], ◌∷◌, map, length, arith}
-use Rattle.std.specs.Prelude.{All, Result, Ok, IfOk, Option, Some, None, IfSome, String, string_bytes}
+use Rattle.std.proofs.Common.{◌≡◌, ℕ, zero, suc, subst, Bool, List, [], ◌∷◌, map, arith}
+use Rattle.std.specs.Prelude.{All, Result, IfOk, Option, Some, None, IfSome, String, string_bytes}
 use Rattle.std.specs.FinMap.{get}
 use Rattle.std.specs.declared.alloc.Global.{Global}
 use Rattle.std.specs.declared.alloc.AllocError.{AllocError}
@@ -57,3 +57,8 @@ marks_formed rounds marks = each rounds marks.rows
     each [] h k d l = absurd (omega (arith, l))
     each (r ∷ rs) h zero d l = λ j e m. h 0 (round_read d) (omega arith) j e m
     each (r ∷ rs) h (suc k) d l = each rs (λ j e m. h (suc j) e (omega (arith, m))) k d (omega (arith, l))
+
+-- what is refused for a reason is refused for one of several
+pub refuses-more : (status : ℕ) (less more : List ℕ → Type 0) → ((line : List ℕ) → less line → more line) → (stop : Stop) → RefusesBy status less stop → RefusesBy status more stop
+refuses-more status less more wider (Refused fault) h = (h.0, wider (string_bytes fault.line) h.1)
+refuses-more status less more wider Memory h = tt

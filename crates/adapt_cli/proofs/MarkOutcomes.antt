@@ -1,16 +1,16 @@
 -- From the rounds to the marks for one more.
-use Rattle.std.proofs.Common.{◌≡◌, ◌⊎◌, ℕ, ◌+◌, ◌<◌, ◌≤◌, refl, sym, ap, ◌∙◌, subst, List, [], ◌∷◌, ◌++◌, length, map, take, inl, inr, ⊎_elim, arith, append_assoc, get_or}
-use Rattle.std.specs.Prelude.{Result, Ok, Err, string_bytes}
+use Rattle.std.proofs.Common.{◌≡◌, ℕ, ◌+◌, ◌<◌, ◌≤◌, refl, sym, ap, ◌∙◌, subst, List, [], ◌∷◌, ◌++◌, length, map, take, inl, inr, ⊎_elim, arith, append_assoc, get_or}
+use Rattle.std.specs.Prelude.{Result, Ok, Err}
 use Rattle.std.specs.List.{concat}
 use Rattle.std.proofs.lemmas.List.{append-nil, map-append, take_more}
 use Rattle.mesh_names.specs.Names.{Name}
 use Rattle.compat_check.specs.Meshes.{Mesh}
 use Rattle.mark_file.specs.Meaning.{Round}
-use Rattle.mark_strategy.specs.Leaves.{Leaf, names_of}
+use Rattle.mark_strategy.specs.Leaves.{names_of}
 use Rattle.dof_transfer.specs.Held.{Held, worth_of}
 use Rattle.mesh_rounds.specs.State.{IsFirst, State}
 use Rattle.adapt_words.specs.Rounds.{MarkWords}
-use Rattle.adapt_cli.specs.FaultTexts.{Fault, no_round_left}
+use Rattle.adapt_cli.specs.FaultTexts.{Fault}
 use Rattle.adapt_cli.specs.Marks.{IsMarksText, IsNoRoundLeft, MarksTo}
 use Rattle.adapt_cli.specs.Rounds.{LeadTo}
 use Rattle.adapt_cli.specs.Stops.{IsRun, StopsBy}

@@ -1,5 +1,5 @@
 -- From the loads and the rounds to what a run leads to.
-use Rattle.std.proofs.Common.{◌≡◌, ℕ, ◌≤◌, Bool, true, false, refl, sym, ap, ◌∙◌, subst, List, [], ◌∷◌, inl, inr, ⊎_elim, arith}
+use Rattle.std.proofs.Common.{◌≡◌, ℕ, ◌≤◌, Bool, true, false, sym, ap, subst, List, [], ◌∷◌, ⊎_elim, arith}
 use Rattle.std.specs.Prelude.{Option, Some, None, Result, Ok, Err}
 use Rattle.compat_check.specs.Meshes.{Mesh}
 use Rattle.mark_file.specs.Meaning.{Round}

@@ -1,7 +1,7 @@
 -- From the rounds to the restart file of the last forest, and from two restart files to their joint one.
-use Rattle.std.proofs.Common.{◌≡◌, ℕ, ◌≤◌, subst, sym, ap, List, arith}
-use Rattle.std.specs.Prelude.{Ok, Err, string_bytes}
-use Rattle.mesh_names.specs.Forests.{Conforms, IsForest, IsListOf, Names}
+use Rattle.std.proofs.Common.{ℕ, ◌≤◌, subst, sym, ap, List, arith}
+use Rattle.std.specs.Prelude.{Ok, Err}
+use Rattle.mesh_names.specs.Forests.{Conforms, IsForest, IsListOf}
 use Rattle.mesh_names.specs.Names.{Name}
 use Rattle.mesh_names.proofs.Conforming.{conforms_by_partners}
 use Rattle.compat_check.specs.Meshes.{IsChecked, Mesh, across_in, shape_of}

@@ -1,6 +1,6 @@
 -- How a soak ends at a stop.
-use Rattle.std.proofs.Common.{◌≡◌, ℕ, refl, inl, inr, arith}
-use Rattle.std.specs.Prelude.{Some, Err, string_bytes}
+use Rattle.std.proofs.Common.{◌≡◌, ℕ, inl, inr, arith}
+use Rattle.std.specs.Prelude.{Some, string_bytes}
 use Rattle.adapt_words.specs.Rounds.{SoakWords}
 use Rattle.adapt_words.specs.Words.{soak}
 use Rattle.adapt_cli.specs.Ending.{Ends, IsUntouched, Source, StopEnds, Written}

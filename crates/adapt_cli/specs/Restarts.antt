@@ -19,7 +19,7 @@ use Rattle.adapt_words.specs.Restarts.{JoinWords, SaveWords}
 use Rattle.adapt_cli.specs.FaultTexts.{End, Fault, check_line, joined, macro_line}
 use Rattle.adapt_cli.specs.InputFiles.{AcceptsMacro, IsTooLong, RefusesMacro}
 use Rattle.adapt_cli.specs.Loads.{Asks, AsksOnce, Loads}
-use Rattle.adapt_cli.specs.Outcome.{AsksBoth, LoadsMarks}
+use Rattle.adapt_cli.specs.Outcome.{LoadsMarks}
 use Rattle.adapt_cli.specs.Rounds.{LeadTo, last_state}
 
 -- a fault of an element's line

@@ -80,47 +80,48 @@ fn macro_files_that_differ_in_one_blank_are_not_joined(rt: HostRuntime) -> Resul
     Ok(())
 }
 
-#[test]
-fn each_fault_of_a_restart_file_is_told(rt: HostRuntime) -> Result<(), Fail> {
-    let alloc = rt.alloc();
+// Whether this restart file is refused with this line, as the first and as the second of two.
+fn refuses<R: Threads + Sync>(
+    rt: &R,
+    alloc: Global,
+    text: &str,
+    told: &str,
+) -> Result<bool, AllocError> {
     let right = restart(alloc, SQUARE, "0\n0\n")?;
+    let line = format!(in alloc; "adapt: {told}\n")?;
+    let first = tells(rt, alloc, "join a b", text, "", 3, &line)?;
+    Ok(first && tells(rt, alloc, "join b a", text, &right, 3, &line)?)
+}
+
+#[test]
+fn each_fault_of_the_macro_part_is_told(rt: HostRuntime) -> Result<(), Fail> {
+    let alloc = rt.alloc();
     let spaced = restart(alloc, "vertices: 3\n", "0\n")?;
     let cases = [
         ("restart: 0133\n", "restart: bad head"),
         ("restart: 9\nDIM: 2\n", "restart: macro part short"),
         (&spaced, "macro: line 1: bad key"),
-        (
-            &restart(alloc, SQUARE, "10\n100\n")?,
-            "restart: element 0: bad word",
-        ),
-        (
-            &restart(alloc, SQUARE, "0\n")?,
-            "restart: element 1: bad word",
-        ),
-        (
-            &restart(alloc, SQUARE, DEEP)?,
-            "restart: element 0: level above 24",
-        ),
-        (
-            &restart(alloc, SQUARE, "0\n0\n\n")?,
-            "restart: bytes left over",
-        ),
-        (
-            &restart(alloc, SQUARE, "100\n0\n")?,
-            "restart: 0: not conforming",
-        ),
     ];
     for (text, told) in cases {
-        let line = format!(in alloc; "adapt: {told}\n")?;
-        assert!(rt;
-            tells(&rt, alloc, "join a b", text, "", 3, &line)?,
-            "{told}"
-        );
-        assert!(rt;
-            tells(&rt, alloc, "join b a", text, &right, 3, &line)?,
-            "{told}"
-        );
+        assert!(rt; refuses(&rt, alloc, text, told)?, "{told}");
     }
     assert!(rt; tells(&rt, alloc, "join c a", "", "", 6, "adapt: read fault: c\n")?);
+    Ok(())
+}
+
+#[test]
+fn each_fault_of_the_words_is_told(rt: HostRuntime) -> Result<(), Fail> {
+    let alloc = rt.alloc();
+    let cases = [
+        ("10\n100\n", "restart: element 0: bad word"),
+        ("0\n", "restart: element 1: bad word"),
+        (DEEP, "restart: element 0: level above 24"),
+        ("0\n0\n\n", "restart: bytes left over"),
+        ("100\n0\n", "restart: 0: not conforming"),
+    ];
+    for (words, told) in cases {
+        let text = restart(alloc, SQUARE, words)?;
+        assert!(rt; refuses(&rt, alloc, &text, told)?, "{told}");
+    }
     Ok(())
 }

@@ -1,4 +1,4 @@
-use Rattle.std.proofs.Common.{◌<◌, ◌≡◌, ◌+◌, ℕ, ap, arith, length, subst, sym}
+use Rattle.std.proofs.Common.{◌<◌, ◌+◌, ℕ, arith, length, subst, sym}
 use Rattle.std.proofs.lemmas.List.{length-map}
 use Rattle.std.proofs.lemmas.Result.{IfOk-weaker}
 use Rattle.forest_plain.specs.Forests.{members_of}

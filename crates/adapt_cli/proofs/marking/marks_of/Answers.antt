@@ -1,4 +1,4 @@
-use Rattle.std.proofs.Common.{List, ℕ, ◌++◌, ◌∙◌, ◌≡◌, ap, arith, map, take}
+use Rattle.std.proofs.Common.{◌++◌, ◌∙◌, ◌≡◌, ap, arith, map, take}
 use Rattle.std.specs.List.{concat}
 use Rattle.std.proofs.lemmas.List.{take_all}
 use Rattle.mesh_names.specs.Names.{Name}

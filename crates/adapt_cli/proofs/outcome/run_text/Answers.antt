@@ -22,8 +22,8 @@ returns-in-Ok-make_rounds-clause-ok g c =
     let made = subst (λ (l : List RoundMarks). RunsTo c.in-Ok.mesh (run_said c.args.run.now) (rounds_read l) (Ok c.in-Ok-make_rounds.text.items)) c.deref.ensures.value c.in-Ok-make_rounds.ensures.ok in
     rounds-text (run_said c.args.run.now).macro_file (run_said c.args.run.now).marks_file RefusesMacro AcceptsMacro (λ read rounds. RunsTo read (run_said c.args.run.now) rounds) (g.S.Shelf.files c.args.shelf.now) (g.S.Shelf.steady c.args.shelf.now) (g.S.Shelf.faults c.args.shelf.now) c.in-Ok.mesh (g.S.Shelf.faults c.load_macro.new.shelf) (g.S.Shelf.files c.load_macro.new.shelf) c.in-Ok.ensures.same (g.S.Shelf.steady c.load_macro.new.shelf) c.in-Ok.ensures.stays c.in-Ok.ensures.ok (rounds_read rounds) (g.S.Shelf.faults c.load_marks.new.shelf) c.in-Ok-load_marks.ensures.ok c.in-Ok-make_rounds.text.items made
 
-pub returns-in-Err-make_rounds-clause-stopped : goal.returns-in-Err-make_rounds-clause-stopped
-returns-in-Err-make_rounds-clause-stopped g c =
+pub returns-clause-stopped : goal.returns-clause-stopped
+returns-clause-stopped g c =
     let rounds = c.in-Ok-load_marks.rounds.items in
     let stops = subst (λ (l : List RoundMarks). StopsBy (RunsTo c.in-Ok.mesh (run_said c.args.run.now) (rounds_read l)) c.in-Err-make_rounds.stop) c.deref.ensures.value c.in-Err-make_rounds.ensures.stopped in
     rounds-stop (run_said c.args.run.now).macro_file (run_said c.args.run.now).marks_file RefusesMacro AcceptsMacro (λ read rounds. RunsTo read (run_said c.args.run.now) rounds) (g.S.Shelf.files c.args.shelf.now) (g.S.Shelf.steady c.args.shelf.now) (g.S.Shelf.faults c.args.shelf.now) c.in-Ok.mesh (g.S.Shelf.faults c.load_macro.new.shelf) (g.S.Shelf.files c.load_macro.new.shelf) c.in-Ok.ensures.same (g.S.Shelf.steady c.load_macro.new.shelf) c.in-Ok.ensures.stays c.in-Ok.ensures.ok (rounds_read rounds) (g.S.Shelf.faults c.load_marks.new.shelf) c.in-Ok-load_marks.ensures.ok (run_status c.in-Ok.mesh (run_said c.args.run.now) (rounds_read rounds)) c.in-Err-make_rounds.stop stops

@@ -1,9 +1,17 @@
 use Rattle.std.proofs.Common.{map, refl, subst}
-use Rattle.std.specs.Prelude.{Err, string_bytes}
-use Rattle.adapt_words.specs.Words.{Answers, command_of, said}
+use Rattle.std.specs.Prelude.{Ok, Err, string_bytes}
+use Rattle.adapt_words.specs.Mending.{mend_said}
+use Rattle.adapt_words.specs.Restarts.{join_said, save_said}
+use Rattle.adapt_words.specs.Rounds.{mark_said, run_said}
+use Rattle.adapt_words.specs.Words.{Answers, command_of, join, mark, mend, run, said, save}
+use Rattle.adapt_words.specs.declared.words.Command.{Command}
 use Rattle.adapt_words.specs.declared.words.WordsRefusal.{WordsRefusal}
+use Rattle.adapt_cli.specs.Marks.{MarkAsks, MarkLeads}
+use Rattle.adapt_cli.specs.Mending.{MendAsks, MendLeads}
+use Rattle.adapt_cli.specs.Outcome.{RunAsks, RunLeads}
+use Rattle.adapt_cli.specs.Restarts.{JoinAsks, JoinLeads, SaveAsks, SaveLeads}
 use Rattle.adapt_cli.proofs.Parts.{written}
-use Rattle.adapt_cli.proofs.Endings.{ends_outside, ends_wanting}
+use Rattle.adapt_cli.proofs.Endings.{ends_outside, ends_wanting, finished}
 use Rattle.adapt_cli.proofs.program.adapt.Goals as goal
 
 pub returns-in-Err-Outside : goal.returns-in-Err-Outside
@@ -19,3 +27,49 @@ returns-in-Err-Memory g c =
     (written (g.O.Sink.holds c.args.out.now) (g.O.Sink.holds c.args.out.now) (g.O.Sink.faults c.args.out.now) (g.O.Sink.faults c.args.out.now))
     (written (g.E.Sink.holds c.args.err.now) (g.E.Sink.holds c.write_line-in-Err-Memory.new.err) (g.E.Sink.faults c.args.err.now) (g.E.Sink.faults c.write_line-in-Err-Memory.new.err))
     (record { same = refl; calm = refl }) refl c.write_line-in-Err-Memory.result c.write_line-in-Err-Memory.ensures
+
+pub returns-in-Ok-Run : goal.returns-in-Ok-Run
+returns-in-Ok-Run g c =
+    let told = command_of (map string_bytes c.args.words.now) in
+    finished (RunLeads (run_said c.in-Ok-Run.run')) (RunAsks (run_said c.in-Ok-Run.run')) (run (run_said c.in-Ok-Run.run')) told (subst (λ (x : Command). Answers said told (Ok x)) c.in-Ok-Run.field-0-is c.in-Ok-Run.ensures.told) (g.S.Shelf.files c.args.shelf.now) (g.S.Shelf.steady c.args.shelf.now) (g.S.Shelf.faults c.args.shelf.now) (g.S.Shelf.faults c.run_text.new.shelf) (λ end h. h) (λ name h. h) c.run_text.result
+    (written (g.O.Sink.holds c.args.out.now) (g.O.Sink.holds c.finish.new.out) (g.O.Sink.faults c.args.out.now) (g.O.Sink.faults c.finish.new.out))
+    (written (g.E.Sink.holds c.args.err.now) (g.E.Sink.holds c.finish.new.err) (g.E.Sink.faults c.args.err.now) (g.E.Sink.faults c.finish.new.err))
+    c.finish.result c.run_text.ensures.ok c.run_text.ensures.stopped c.finish.ensures
+
+pub returns-in-Ok-Mark : goal.returns-in-Ok-Mark
+returns-in-Ok-Mark g c =
+    let told = command_of (map string_bytes c.args.words.now) in
+    finished (MarkLeads (mark_said c.in-Ok-Mark.mark)) (MarkAsks (mark_said c.in-Ok-Mark.mark)) (mark (mark_said c.in-Ok-Mark.mark)) told (subst (λ (x : Command). Answers said told (Ok x)) c.in-Ok-Mark.field-0-is c.in-Ok-Mark.ensures.told) (g.S.Shelf.files c.args.shelf.now) (g.S.Shelf.steady c.args.shelf.now) (g.S.Shelf.faults c.args.shelf.now) (g.S.Shelf.faults c.mark_text.new.shelf) (λ end h. h) (λ name h. h) c.mark_text.result
+    (written (g.O.Sink.holds c.args.out.now) (g.O.Sink.holds c.finish-in-Ok-Mark.new.out) (g.O.Sink.faults c.args.out.now) (g.O.Sink.faults c.finish-in-Ok-Mark.new.out))
+    (written (g.E.Sink.holds c.args.err.now) (g.E.Sink.holds c.finish-in-Ok-Mark.new.err) (g.E.Sink.faults c.args.err.now) (g.E.Sink.faults c.finish-in-Ok-Mark.new.err))
+    c.finish-in-Ok-Mark.result c.mark_text.ensures.ok c.mark_text.ensures.stopped c.finish-in-Ok-Mark.ensures
+
+pub returns-in-Ok-Mend : goal.returns-in-Ok-Mend
+returns-in-Ok-Mend g c =
+    let told = command_of (map string_bytes c.args.words.now) in
+    finished (MendLeads (mend_said c.in-Ok-Mend.mend)) (MendAsks (mend_said c.in-Ok-Mend.mend)) (mend (mend_said c.in-Ok-Mend.mend)) told (subst (λ (x : Command). Answers said told (Ok x)) c.in-Ok-Mend.field-0-is c.in-Ok-Mend.ensures.told) (g.S.Shelf.files c.args.shelf.now) (g.S.Shelf.steady c.args.shelf.now) (g.S.Shelf.faults c.args.shelf.now) (g.S.Shelf.faults c.mend_text.new.shelf) (λ end h. h) (λ name h. h) c.mend_text.result
+    (written (g.O.Sink.holds c.args.out.now) (g.O.Sink.holds c.finish-in-Ok-Mend.new.out) (g.O.Sink.faults c.args.out.now) (g.O.Sink.faults c.finish-in-Ok-Mend.new.out))
+    (written (g.E.Sink.holds c.args.err.now) (g.E.Sink.holds c.finish-in-Ok-Mend.new.err) (g.E.Sink.faults c.args.err.now) (g.E.Sink.faults c.finish-in-Ok-Mend.new.err))
+    c.finish-in-Ok-Mend.result c.mend_text.ensures.ok c.mend_text.ensures.stopped c.finish-in-Ok-Mend.ensures
+
+pub returns-in-Ok-Save : goal.returns-in-Ok-Save
+returns-in-Ok-Save g c =
+    let told = command_of (map string_bytes c.args.words.now) in
+    finished (SaveLeads (save_said c.in-Ok-Save.save)) (SaveAsks (save_said c.in-Ok-Save.save)) (save (save_said c.in-Ok-Save.save)) told (subst (λ (x : Command). Answers said told (Ok x)) c.in-Ok-Save.field-0-is c.in-Ok-Save.ensures.told) (g.S.Shelf.files c.args.shelf.now) (g.S.Shelf.steady c.args.shelf.now) (g.S.Shelf.faults c.args.shelf.now) (g.S.Shelf.faults c.save_text.new.shelf) (λ end h. h) (λ name h. h) c.save_text.result
+    (written (g.O.Sink.holds c.args.out.now) (g.O.Sink.holds c.finish-in-Ok-Save.new.out) (g.O.Sink.faults c.args.out.now) (g.O.Sink.faults c.finish-in-Ok-Save.new.out))
+    (written (g.E.Sink.holds c.args.err.now) (g.E.Sink.holds c.finish-in-Ok-Save.new.err) (g.E.Sink.faults c.args.err.now) (g.E.Sink.faults c.finish-in-Ok-Save.new.err))
+    c.finish-in-Ok-Save.result c.save_text.ensures.ok c.save_text.ensures.stopped c.finish-in-Ok-Save.ensures
+
+pub returns-in-Ok-Join : goal.returns-in-Ok-Join
+returns-in-Ok-Join g c =
+    let told = command_of (map string_bytes c.args.words.now) in
+    finished (JoinLeads (join_said c.in-Ok-Join.join)) (JoinAsks (join_said c.in-Ok-Join.join)) (join (join_said c.in-Ok-Join.join)) told (subst (λ (x : Command). Answers said told (Ok x)) c.in-Ok-Join.field-0-is c.in-Ok-Join.ensures.told) (g.S.Shelf.files c.args.shelf.now) (g.S.Shelf.steady c.args.shelf.now) (g.S.Shelf.faults c.args.shelf.now) (g.S.Shelf.faults c.join_text.new.shelf) (λ end h. h) (λ name h. h) c.join_text.result
+    (written (g.O.Sink.holds c.args.out.now) (g.O.Sink.holds c.finish-in-Ok-Join.new.out) (g.O.Sink.faults c.args.out.now) (g.O.Sink.faults c.finish-in-Ok-Join.new.out))
+    (written (g.E.Sink.holds c.args.err.now) (g.E.Sink.holds c.finish-in-Ok-Join.new.err) (g.E.Sink.faults c.args.err.now) (g.E.Sink.faults c.finish-in-Ok-Join.new.err))
+    c.finish-in-Ok-Join.result c.join_text.ensures.ok c.join_text.ensures.stopped c.finish-in-Ok-Join.ensures
+
+pub returns-in-Ok-Soak : goal.returns-in-Ok-Soak
+returns-in-Ok-Soak g c =
+    let told = command_of (map string_bytes c.args.words.now) in
+    c.end_soak.ensures (record { command = told; files = g.S.Shelf.files c.args.shelf.now; steady = g.S.Shelf.steady c.args.shelf.now; before = g.S.Shelf.faults c.args.shelf.now; now = g.S.Shelf.faults c.args.shelf.now })
+    (subst (λ (x : Command). Answers said told (Ok x)) c.in-Ok-Soak.field-0-is c.in-Ok-Soak.ensures.told) refl

@@ -21,4 +21,4 @@ pub returns-in-Err : goal.returns-in-Err
 returns-in-Err g c source is calm = soak_stopped (soak_said c.args.soak.now) source is calm
     (written (g.O.Sink.holds c.args.out.now) (g.O.Sink.holds c.args.out.now) (g.O.Sink.faults c.args.out.now) (g.O.Sink.faults c.args.out.now))
     (written (g.E.Sink.holds c.args.err.now) (g.E.Sink.holds c.write_stop.new.err) (g.E.Sink.faults c.args.err.now) (g.E.Sink.faults c.write_stop.new.err))
-    (record { same = refl; calm = refl }) c.in-Err.stop c.in-Err.ensures c.write_stop.result c.write_stop.ensures
+    (record { same = refl; calm = refl }) c.in-Err.stop c.in-Err.ensures.stopped c.write_stop.result c.write_stop.ensures
