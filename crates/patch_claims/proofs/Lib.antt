@@ -5,3 +5,4 @@ pub mod Owning
 pub mod Growing
 pub mod Whole
 pub mod Leaving
+pub mod Letters

@@ -20,6 +20,7 @@ ghost use Rattle.patch_claims.specs.Needs.{IsMade, IsStood, Refused};
 ghost use Rattle.patch_walk.specs.Works.{Works};
 
 use crate::bisect::{Bisected, bisect_alone, bisect_pair};
+use crate::descents::descend;
 use mesh_io::Gate;
 use mesh_names::name::ElemName;
 use mesh_table::rule::MeshSeat;
@@ -158,6 +159,39 @@ pub fn take_pair<G: Gate>(
 /// Finds the place of a name, after all above it was made bisected.
 #[cycle(needs)]
 pub fn stand<G: Gate>(
+    table: &MeshTable,
+    pass: &mut MeshSeat,
+    name: ElemName,
+    round: u32,
+    gate: &G,
+    number: u32,
+) -> Result<Stood, ClaimRefusal>
+    requires fit { IsOf table.now.table.shared.table_id pass.old }
+    requires works { (sight pass.old).kind ≡ Worker }
+    requires half { (sight pass.old).work.half ≡ FirstHalf }
+    requires round { (sight pass.old).work.round ≡ round }
+    requires root { name.0 < size (shape_of table.now.site.mesh.now) }
+    requires level { level (shape_of table.now.site.mesh.now) name < 24 }
+    requires aimed { HasEntry (sight pass.old).work.plan.target (name_code name) }
+    requires closed { IsClosed (setup_at table.now.site) (HasEntry (sight pass.old).work.plan.target) }
+    requires living { AllLiving (sight pass.old).claims }
+    ensures stays { Stays pass.old pass.new }
+    ensures works { Works (sight pass.old) (sight pass.new) }
+    ensures stood { IfOk result (λ r. IsStood table.now.site.layout (sight pass.old) (sight pass.new) (name_code name) r × (r.patches < 2 ^ level (shape_of table.now.site.mesh.now) name)) }
+    ensures refused { IfErr result (Refused (across_in table.now.site.mesh.now) (λ m. (b : Bool) × (w : List Bool) × (name.1 ≡ b ∷ w) × Has (chain_of (shape_of table.now.site.mesh.now) (across_in table.now.site.mesh.now) (name.0, w)) m) (sight pass.old) (sight pass.new)) }
+{
+    if let Some(at) = descend(table, pass, name, round) {
+        return Ok(Stood { at, patches: 0 });
+    }
+    match stand_above(table, pass, name, round, gate, number) {
+        Err(refusal) => Err(refusal),
+        Ok(stood) => Ok(stood),
+    }
+}
+
+// Makes all above a name bisected, from its parent on, and finds its place.
+#[cycle(needs)]
+fn stand_above<G: Gate>(
     table: &MeshTable,
     pass: &mut MeshSeat,
     name: ElemName,

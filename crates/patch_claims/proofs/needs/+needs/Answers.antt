@@ -18,8 +18,10 @@ use Rattle.mesh_table.specs.Lost.{AllLiving}
 use Rattle.patch_walk.proofs.Above.{Below, below_chain, below_other, other_of, parent_level, target_up, target_other}
 use Rattle.patch_walk.proofs.Learning.{works_more, wiser_works}
 use Rattle.patch_claims.proofs.Growing.{published_more, published_seen, published_ended, refused_after, few_more, few_one, few_both, few_fit}
+use Rattle.patch_claims.specs.Needs.{HasPublished}
 use Rattle.patch_claims.proofs.Owning.{may_alone}
 use Rattle.patch_walk.proofs.Patches.{chain_self}
+use Rattle.std.proofs.lemmas.Nat.{pow_pos}
 use Rattle.patch_claims.proofs.needs.+needs.Goals as goal
 
 pub make_bisected-returns-in-Err-clause-refused : goal.make_bisected-returns-in-Err-clause-refused
@@ -71,16 +73,16 @@ make_bisected-returns-in-Ok-take_one-clause-works g t c = works_more (works_more
 pub make_bisected-returns-in-Ok-take_one-clause-made : goal.make_bisected-returns-in-Ok-take_one-clause-made
 make_bisected-returns-in-Ok-take_one-clause-made g t c = (record { room = c.in-Ok-take_one.ensures.made.0.room; knows = c.in-Ok-take_one.ensures.made.0.knows; living = c.in-Ok-take_one.ensures.made.0.living; published = published_more (sight c.args.pass.now) (sight c.stand-2.new.pass) (sight c.take_one.new.pass) (c.in-Ok.stood.patches + c.in-Ok-stand.beside.patches) c.in-Ok-take_one.made.patches (published_more (sight c.args.pass.now) (sight c.visit.new.pass) (sight c.stand-2.new.pass) c.in-Ok.stood.patches c.in-Ok-stand.beside.patches (published_ended (sight c.args.pass.now) (sight c.stand.new.pass) (sight c.visit.new.pass) c.in-Ok.stood.patches (name_code c.args.name) c.in-Ok.ensures.stood.0.published c.in_default.ensures.ended) c.in-Ok-stand.ensures.stood.0.published) c.in-Ok-take_one.ensures.made.0.published }, few_both (level (shape_of c.args.table.now.site.mesh.now) c.args.name) c.in-Ok.stood.patches c.in-Ok-stand.beside.patches c.in-Ok-take_one.made.patches c.in-Ok.ensures.stood.1 (subst (λ (l : ℕ). c.in-Ok-stand.beside.patches < 2 ^ l) (other_of (shape_of c.args.table.now.site.mesh.now) (across_in c.args.table.now.site.mesh.now) (subst (λ (m : MacroMesh). Tells (shape_of m) (across_in m)) c.mesh.ensures c.element_count-count.ensures.tells) c.args.name c.requires.root c.in-Some-partner.other (subst (λ (m : MacroMesh). Some c.in-Some-partner.other ≡ option_map (λ (a : Name × Bool). a.0) (partner (across_in m) c.args.name.0 c.args.name.1)) c.mesh-2.ensures (sym c.in-Some-partner.is ∙ c.partner.ensures.partner))).1 c.in-Ok-stand.ensures.stood.1) c.in-Ok-take_one.ensures.made.1)
 
-pub stand-make_bisected-requires : goal.stand-make_bisected-requires
-stand-make_bisected-requires g t c κs within = let e : c.args.name ≡ (c.in-Some.parent-1-given.0.0.0.0, c.in-Some.parent-1-given.0.0.1 ∷ c.in-Some.parent-1-given.0.0.0.1) = c.in-Some.ensures in
+pub stand_above-make_bisected-requires : goal.stand_above-make_bisected-requires
+stand_above-make_bisected-requires g t c κs within = let e : c.args.name ≡ (c.in-Some.parent-1-given.0.0.0.0, c.in-Some.parent-1-given.0.0.1 ∷ c.in-Some.parent-1-given.0.0.0.1) = c.in-Some.ensures in
     let l : level (shape_of c.args.table.now.site.mesh.now) c.args.name ≡ level (shape_of c.args.table.now.site.mesh.now) c.in-Some.parent-1-given.0.0.0 + 1 = parent_level (shape_of c.args.table.now.site.mesh.now) c.args.name c.in-Some.parent-1-given.0.0.0 c.in-Some.parent-1-given.0.0.1 e in
     let low = c.requires.level in
     let r : c.in-Some.parent-1-given.0.0.0.0 < size (shape_of c.args.table.now.site.mesh.now) = subst (λ (n : Name). n.0 < size (shape_of c.args.table.now.site.mesh.now)) e c.requires.root in
     let d = c.decreases in
     (omega arith, (within, (c.requires.fit, (c.requires.works, (c.requires.half, (c.requires.round, (r, (omega arith, (target_up c.args.table.now.site (sight c.args.pass.now).work.plan.target c.requires.closed c.args.name c.in-Some.parent-1-given.0.0.0 c.in-Some.parent-1-given.0.0.1 e r c.requires.level c.requires.aimed, (c.requires.closed, c.requires.living))))))))))
 
-pub stand-returns-in-Ok-clause-stood : goal.stand-returns-in-Ok-clause-stood
-stand-returns-in-Ok-clause-stood g t c = let e : c.args.name ≡ (c.in-Some.parent-1-given.0.0.0.0, c.in-Some.parent-1-given.0.0.1 ∷ c.in-Some.parent-1-given.0.0.0.1) = c.in-Some.ensures in
+pub stand_above-returns-in-Ok-clause-stood : goal.stand_above-returns-in-Ok-clause-stood
+stand_above-returns-in-Ok-clause-stood g t c = let e : c.args.name ≡ (c.in-Some.parent-1-given.0.0.0.0, c.in-Some.parent-1-given.0.0.1 ∷ c.in-Some.parent-1-given.0.0.0.1) = c.in-Some.ensures in
     let l : level (shape_of c.args.table.now.site.mesh.now) c.args.name ≡ level (shape_of c.args.table.now.site.mesh.now) c.in-Some.parent-1-given.0.0.0 + 1 = parent_level (shape_of c.args.table.now.site.mesh.now) c.args.name c.in-Some.parent-1-given.0.0.0 c.in-Some.parent-1-given.0.0.1 e in
     let low = c.requires.level in
     let r : c.in-Some.parent-1-given.0.0.0.0 < size (shape_of c.args.table.now.site.mesh.now) = subst (λ (n : Name). n.0 < size (shape_of c.args.table.now.site.mesh.now)) e c.requires.root in
@@ -96,3 +98,16 @@ stand-returns-in-Ok-clause-stood g t c = let e : c.args.name ≡ (c.in-Some.pare
       },
       subst (λ (k : ℕ). c.in-Ok.made.patches < 2 ^ k) (sym l) made.1,
     )
+
+pub stand-returns-in-Some-clause-stood : goal.stand-returns-in-Some-clause-stood
+stand-returns-in-Some-clause-stood g t c = (record { place = c.in-Some.ensures.some.0; found = c.in-Some.ensures.some.1; living = subst AllLiving (sym c.descend.ensures.wiser.claims) c.requires.living; published = c.descend.ensures.published }, pow_pos (level (shape_of c.args.table.now.site.mesh.now) c.args.name))
+
+pub stand-returns-in-Ok-clause-stood : goal.stand-returns-in-Ok-clause-stood
+stand-returns-in-Ok-clause-stood g t c = let s = c.in-Ok.ensures.stood in
+    let same : 0 + c.in-Ok.stood.patches ≡ c.in-Ok.stood.patches = omega arith in
+    let both = published_more (sight c.args.pass.now) (sight c.descend.new.pass) (sight c.stand_above.new.pass) 0 c.in-Ok.stood.patches c.descend.ensures.published s.0.published in
+    (record { place = s.0.place; found = s.0.found; living = s.0.living; published = subst (HasPublished (sight c.args.pass.now) (sight c.stand_above.new.pass)) same both }, s.1)
+
+pub stand-returns-in-Err-clause-refused : goal.stand-returns-in-Err-clause-refused
+stand-returns-in-Err-clause-refused g t c = let below = Below (shape_of c.args.table.now.site.mesh.now) (across_in c.args.table.now.site.mesh.now) c.args.name in
+    refused_after (across_in c.args.table.now.site.mesh.now) below below (sight c.args.pass.now) (sight c.descend.new.pass) (sight c.stand_above.new.pass) c.in-Err.refusal 0 (λ m h. h) c.descend.ensures.published c.in-Err.ensures.refused
