@@ -4,13 +4,12 @@ use Rattle.std.specs.Prelude.{Option, Some, None, IfSome, Ok, Err, string_bytes}
 use Rattle.std.specs.FinMap.{get}
 use Rattle.mesh_io.specs.Faults.{Rose}
 use Rattle.mesh_io.specs.Shelves.{Files}
-use Rattle.compat_check.specs.Meshes.{Mesh}
 use Rattle.mark_file.specs.Meaning.{Round}
 use Rattle.adapt_words.specs.Numbers.{Word}
 use Rattle.adapt_cli.specs.FaultTexts.{End, Fault}
-use Rattle.adapt_cli.specs.InputFiles.{AcceptsMacro, AcceptsMarks, RefusesMacro, RefusesMarks}
-use Rattle.adapt_cli.specs.Loads.{AsksOnce, IsAccepted, Loads}
-use Rattle.adapt_cli.specs.Outcome.{AsksBoth, LoadsBoth, LoadsMarks}
+use Rattle.adapt_cli.specs.InputFiles.{AcceptsMarks, RefusesMarks}
+use Rattle.adapt_cli.specs.Loads.{Asks, AsksOnce, IsAccepted, Loads}
+use Rattle.adapt_cli.specs.Outcome.{LoadsMarks}
 use Rattle.adapt_cli.specs.Stops.{Gives, IsLoadStop, IsStop, IsTextOf, StopsBy}
 use Rattle.adapt_cli.specs.declared.fault.FileStop.{FileStop}
 use Rattle.adapt_cli.specs.declared.fault.FileStop.TheVariants.{Stopped, Unread}
@@ -80,38 +79,41 @@ module _ {A : Type 0} (name : Word) (status : ℕ) (low : 3 ≤ status) (high : 
 abbrev pub asks_none : Option Files → Word → Type 0
 asks_none files asked = ⊥
 
--- a macro file and then a marks file, after which no other file is asked for
-module _ (macro_file marks_file : Word) (next : Mesh → List Round → End → Type 0) (files : Option Files) (steady : Bool) (before : ℕ) where
+-- a file, and then a marks file, after which no other file is asked for; the first has status 3
+module _ {A : Type 0} (first_file marks_file : Word) (refuses : List ℕ → List ℕ → Type 0) (accepts : List ℕ → A → Type 0) (next : A → List Round → End → Type 0) (files : Option Files) (steady : Bool) (before : ℕ) where
+  abbrev after_first : A → Files → End → Type 0
+  after_first read = LoadsMarks marks_file (λ rounds told. next read rounds)
+
   abbrev leading : Files → End → Type 0
-  leading = LoadsBoth macro_file marks_file (λ mesh rounds told. next mesh rounds)
+  leading = Loads first_file 3 refuses accepts after_first
 
-  abbrev after_macro : Mesh → Files → End → Type 0
-  after_macro mesh = LoadsMarks marks_file (λ rounds told. next mesh rounds)
+  abbrev asking : Option Files → Word → Type 0
+  asking = Asks first_file accepts (AsksOnce marks_file)
 
-  asked_first : (n : Word) → n ≡ macro_file → AsksBoth macro_file marks_file files n
+  asked_first : (n : Word) → n ≡ first_file → asking files n
   asked_first n e = inl e
 
-  asked_then : (n : Word) → IsAccepted AcceptsMacro files macro_file → AsksOnce marks_file files n → AsksBoth macro_file marks_file files n
+  asked_then : (n : Word) → IsAccepted accepts files first_file → AsksOnce marks_file files n → asking files n
   asked_then n accepted e = inr (accepted, e)
 
-  pub macro-stops : (now : ℕ) (stop : FileStop) → IsLoadStop RefusesMacro 3 macro_file files steady before now stop → IsStop leading (AsksBoth macro_file marks_file) files steady before now stop
-  macro-stops now stop h = load-stops macro_file 3 (omega arith) (omega arith) RefusesMacro AcceptsMacro after_macro files (AsksBoth macro_file marks_file) asked_first steady before now stop h
+  pub first-stops : (now : ℕ) (stop : FileStop) → IsLoadStop refuses 3 first_file files steady before now stop → IsStop leading asking files steady before now stop
+  first-stops now stop h = load-stops first_file 3 (omega arith) (omega arith) refuses accepts after_first files asking asked_first steady before now stop h
 
-  module _ (mesh : Mesh) (first : ℕ) (files_now : Option Files) (same : files_now ≡ files) (steady_now : Bool) (stays : steady ≡ true → steady_now ≡ true) (gives : Gives (λ bytes. AcceptsMacro bytes mesh) macro_file files before first) where
-    rest-stops : (now : ℕ) (stop : FileStop) → IsStop (after_macro mesh) (AsksOnce marks_file) files_now steady_now first now stop → IsStop leading (AsksBoth macro_file marks_file) files steady before now stop
-    rest-stops now stop h = then-stops macro_file 3 (omega arith) (omega arith) RefusesMacro AcceptsMacro after_macro files (AsksBoth macro_file marks_file) asked_first steady before mesh first files_now same steady_now stays gives (AsksOnce marks_file) asked_then now stop h
+  module _ (read : A) (first : ℕ) (files_now : Option Files) (same : files_now ≡ files) (steady_now : Bool) (stays : steady ≡ true → steady_now ≡ true) (gives : Gives (λ bytes. accepts bytes read) first_file files before first) where
+    rest-stops : (now : ℕ) (stop : FileStop) → IsStop (after_first read) (AsksOnce marks_file) files_now steady_now first now stop → IsStop leading asking files steady before now stop
+    rest-stops now stop h = then-stops first_file 3 (omega arith) (omega arith) refuses accepts after_first files asking asked_first steady before read first files_now same steady_now stays gives (AsksOnce marks_file) asked_then now stop h
 
-    pub marks-stops : (now : ℕ) (stop : FileStop) → IsLoadStop RefusesMarks 4 marks_file files_now steady_now first now stop → IsStop leading (AsksBoth macro_file marks_file) files steady before now stop
-    marks-stops now stop h = rest-stops now stop (load-stops marks_file 4 (omega arith) (omega arith) RefusesMarks AcceptsMarks (λ rounds told. next mesh rounds) files_now (AsksOnce marks_file) (λ n e. e) steady_now first now stop h)
+    pub marks-stops : (now : ℕ) (stop : FileStop) → IsLoadStop RefusesMarks 4 marks_file files_now steady_now first now stop → IsStop leading asking files steady before now stop
+    marks-stops now stop h = rest-stops now stop (load-stops marks_file 4 (omega arith) (omega arith) RefusesMarks AcceptsMarks (λ rounds told. next read rounds) files_now (AsksOnce marks_file) (λ n e. e) steady_now first now stop h)
 
     module _ (rounds : List Round) (now : ℕ) (gives_marks : Gives (λ bytes. AcceptsMarks bytes rounds) marks_file files_now first now) where
-      pub rounds-text : (text : List ℕ) → next mesh rounds (Ok text) → IsTextOf leading files before now text
+      pub rounds-text : (text : List ℕ) → next read rounds (Ok text) → IsTextOf leading files before now text
       rounds-text text h =
-          then-text macro_file 3 (omega arith) (omega arith) RefusesMacro AcceptsMacro after_macro files (AsksBoth macro_file marks_file) asked_first steady before mesh first files_now same steady_now stays gives now text
-          (then-text marks_file 4 (omega arith) (omega arith) RefusesMarks AcceptsMarks (λ rs told. next mesh rs) files_now (AsksOnce marks_file) (λ n e. e) steady_now first rounds now files_now refl steady_now (λ e. e) gives_marks now text
-          (ends-text (next mesh rounds) files_now now text h))
+          then-text first_file 3 (omega arith) (omega arith) refuses accepts after_first files asking asked_first steady before read first files_now same steady_now stays gives now text
+          (then-text marks_file 4 (omega arith) (omega arith) RefusesMarks AcceptsMarks (λ rs told. next read rs) files_now (AsksOnce marks_file) (λ n e. e) steady_now first rounds now files_now refl steady_now (λ e. e) gives_marks now text
+          (ends-text (next read rounds) files_now now text h))
 
-      pub rounds-stop : ((fault : Fault) → next mesh rounds (Err fault) → (3 ≤ fault.0) × (fault.0 ≤ 5)) → (stop : Stop) → StopsBy (next mesh rounds) stop → IsStop leading (AsksBoth macro_file marks_file) files steady before now (Stopped stop)
+      pub rounds-stop : ((fault : Fault) → next read rounds (Err fault) → (3 ≤ fault.0) × (fault.0 ≤ 5)) → (stop : Stop) → StopsBy (next read rounds) stop → IsStop leading asking files steady before now (Stopped stop)
       rounds-stop status stop h = rest-stops now (Stopped stop)
-          (then-stops marks_file 4 (omega arith) (omega arith) RefusesMarks AcceptsMarks (λ rs told. next mesh rs) files_now (AsksOnce marks_file) (λ n e. e) steady_now first rounds now files_now refl steady_now (λ e. e) gives_marks asks_none (λ n a x. absurd x) now (Stopped stop)
-          (ends-stops (next mesh rounds) asks_none status files_now steady_now now stop h))
+          (then-stops marks_file 4 (omega arith) (omega arith) RefusesMarks AcceptsMarks (λ rs told. next read rs) files_now (AsksOnce marks_file) (λ n e. e) steady_now first rounds now files_now refl steady_now (λ e. e) gives_marks asks_none (λ n a x. absurd x) now (Stopped stop)
+          (ends-stops (next read rounds) asks_none status files_now steady_now now stop h))

@@ -10,3 +10,4 @@ pub mod SoakEnds
 pub mod MarkOutcomes
 pub mod FilesInTurn
 pub mod SoakStops
+pub mod RestartOutcomes

@@ -5,11 +5,12 @@ use Rattle.std.specs.FinMap.{get}
 use Rattle.mesh_io.specs.Faults.{Rose}
 use Rattle.mesh_io.specs.Shelves.{Files}
 use Rattle.adapt_words.specs.Numbers.{Word}
-use Rattle.adapt_words.specs.Words.{CommandWords, mark, mend, run, soak}
+use Rattle.adapt_words.specs.Words.{CommandWords, join, mark, mend, run, save, soak}
 use Rattle.adapt_cli.specs.FaultTexts.{End, memory_line, read_fault_line, usage, write_fault_line}
 use Rattle.adapt_cli.specs.Marks.{MarkAsks, MarkLeads}
 use Rattle.adapt_cli.specs.Mending.{MendAsks, MendLeads}
 use Rattle.adapt_cli.specs.Outcome.{RunAsks, RunLeads}
+use Rattle.adapt_cli.specs.Restarts.{JoinAsks, JoinLeads, SaveAsks, SaveLeads}
 use Rattle.adapt_cli.specs.Soaks.{IsSoakOutcome}
 use Rattle.adapt_cli.specs.declared.fault.FileStop.{FileStop}
 use Rattle.adapt_cli.specs.declared.fault.FileStop.TheVariants.{Stopped, Unread}
@@ -58,6 +59,8 @@ abbrev pub IsOutcomeOf : Option Files → CommandWords → End → Type 0
 IsOutcomeOf files (run r) end = IfSome files (λ told. RunLeads r told end)
 IsOutcomeOf files (soak s) end = IsSoakOutcome s end
 IsOutcomeOf files (mark m) end = IfSome files (λ told. MarkLeads m told end)
+IsOutcomeOf files (save s) end = IfSome files (λ told. SaveLeads s told end)
+IsOutcomeOf files (join j) end = IfSome files (λ told. JoinLeads j told end)
 IsOutcomeOf files (mend m) end = IfSome files (λ told. MendLeads m told end)
 
 -- the command asks for a file of this name; a soak asks for none
@@ -65,6 +68,8 @@ abbrev pub AsksFor : CommandWords → Option Files → Word → Type 0
 AsksFor (run r) files name = RunAsks r files name
 AsksFor (soak s) files name = ⊥
 AsksFor (mark m) files name = MarkAsks m files name
+AsksFor (save s) files name = SaveAsks s files name
+AsksFor (join j) files name = JoinAsks j files name
 AsksFor (mend m) files name = MendAsks m files name
 
 -- the outcome of the command

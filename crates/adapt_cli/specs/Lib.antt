@@ -10,3 +10,4 @@ pub mod SoakEnds
 pub mod Soaks
 pub mod Stops
 pub mod Mending
+pub mod Restarts

@@ -3,6 +3,7 @@
 
 pub mod ending;
 pub mod fault;
+pub mod joining;
 pub mod laws;
 pub mod load;
 pub mod macro_lines;
@@ -11,5 +12,7 @@ pub mod mending;
 pub mod outcome;
 pub mod program;
 pub mod reports;
+mod restart_lines;
 pub mod rounds;
+pub mod saving;
 pub mod soaking;

@@ -7,9 +7,11 @@ ghost use Rattle.adapt_cli.specs.Ending.{Ends, Finishes, Source, StopEnds};
 
 use crate::ending::{MEMORY, write_line, write_read_fault, write_text};
 use crate::fault::{FileStop, Stop};
+use crate::joining::join_text;
 use crate::marking::mark_text;
 use crate::mending::mend_text;
 use crate::outcome::run_text;
+use crate::saving::save_text;
 use crate::soaking::soak_text;
 use adapt_words::{Command, Soak, USAGE, WordsRefusal, read_words};
 use mesh_io::{Gate, Shelf, Sink};
@@ -53,10 +55,8 @@ pub fn adapt<R: Threads + Sync, S: Shelf, O: Sink, E: Sink, G: Gate + Sync>(
         Ok(Command::Soak(soak)) => end_soak(rt, alloc, &soak, out, err),
         Ok(Command::Mark(mark)) => finish(mark_text(alloc, &mark, shelf), out, err),
         Ok(Command::Mend(mend)) => finish(mend_text(alloc, &mend, shelf), out, err),
-        Ok(Command::Save(_)) => write_line(err, USAGE, 2),
-        Ok(Command::Join(_)) => write_line(err, USAGE, 2),
-        Ok(Command::Resume(_)) => write_line(err, USAGE, 2),
-        Ok(Command::Find(_)) => write_line(err, USAGE, 2),
+        Ok(Command::Save(save)) => finish(save_text(alloc, &save, shelf), out, err),
+        Ok(Command::Join(join)) => finish(join_text(alloc, &join, shelf), out, err),
         Err(WordsRefusal::Outside) => write_line(err, USAGE, 2),
         Err(WordsRefusal::Memory) => write_line(err, MEMORY, 1),
     }
@@ -96,7 +96,7 @@ fn finish<O: Sink, E: Sink>(
 
 // Writes the line of a stop to err.
 fn write_stop<E: Sink>(stop: Stop, err: &mut E) -> u8
-    ensures { StopEnds stop.entry (record { old = E.holds err.old; new = E.holds err.new; before = E.faults err.old; now = E.faults err.new }) result }
+    ensures { StopEnds stop (record { old = E.holds err.old; new = E.holds err.new; before = E.faults err.old; now = E.faults err.new }) result }
 {
     match stop {
         Stop::Refused(fault) => write_line(err, &fault.line, fault.status),

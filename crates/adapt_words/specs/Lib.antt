@@ -1,5 +1,4 @@
 pub mod Commands
-pub mod Finding
 pub mod Mending
 pub mod Numbers
 pub mod Options

@@ -2,7 +2,6 @@
 #![tactic(auto)]
 
 mod commands;
-mod finding;
 mod mending;
 mod numbers;
 mod restarts;
@@ -11,9 +10,8 @@ mod rules;
 mod values;
 mod words;
 
-pub use finding::Find;
 pub use mending::Mend;
-pub use restarts::{Join, Resume, Save};
+pub use restarts::{Join, Save};
 pub use rounds::{Mark, Run, Soak};
 pub use rules::Rule;
 pub use words::{Command, USAGE, WordsRefusal, read_words};

@@ -1,6 +1,6 @@
 //! Words and what they say, by the rules of the form.
 use crate::{
-    Command, Find, Join, Mark, Mend, Resume, Rule, Run, Save, Soak, USAGE, WordsRefusal, read_words,
+    Command, Join, Mark, Mend, Rule, Run, Save, Soak, USAGE, WordsRefusal, read_words,
 };
 use mark_strategy::Share;
 use std::alloc::{AllocError, Global};
@@ -291,21 +291,6 @@ fn other_commands(rt: HostRuntime) -> Result<(), Fail> {
         second_file: "b",
     };
     assert!(rt; is_command(alloc, "join a b", Command::Join(join))?);
-    let resume = Resume {
-        restart_file: "r",
-        marks_file: "m",
-        workers: 4,
-        pool: 9,
-    };
-    assert!(rt; is_command(alloc, "resume r m --pool=9", Command::Resume(resume))?);
-    let find = Find {
-        macro_file: "q",
-        marks_file: "m",
-        points_file: "p",
-        workers: 4,
-        pool: 65_536,
-    };
-    assert!(rt; is_command(alloc, "find q m p", Command::Find(find))?);
     let mend = Mend { macro_file: "q" };
     assert!(rt; is_command(alloc, "mend q", Command::Mend(mend))?);
     Ok(())
@@ -321,11 +306,8 @@ fn other_commands_outside_the_form(rt: HostRuntime) -> Result<(), Fail> {
         "join a b c",
         "join a b --workers 1",
         "join a b --pool 1",
-        "resume r",
-        "resume r m --report",
-        "find q m",
-        "find q m p x",
-        "find q m p --pool 0",
+        "resume r m",
+        "find q m p",
         "mend",
         "mend q m",
         "mend q --workers 1",
@@ -360,12 +342,6 @@ fn usage(rt: HostRuntime) -> Result<(), Fail> {
     );
     assert!(rt; lines.next() == Some("       adapt save MACRO MARKS [--workers N] [--pool P]"));
     assert!(rt; lines.next() == Some("       adapt join FIRST SECOND"));
-    assert!(rt;
-        lines.next() == Some("       adapt resume RESTART MARKS [--workers N] [--pool P]")
-    );
-    assert!(rt;
-        lines.next() == Some("       adapt find MACRO MARKS POINTS [--workers N] [--pool P]")
-    );
     assert!(rt; lines.next() == Some("       adapt mend MACRO"));
     assert!(rt; lines.next() == Some(""));
     assert!(rt; lines.next() == None);

@@ -19,6 +19,7 @@ use Rattle.compat_check.specs.declared.refusal.CheckRefusal.{CheckRefusal}
 use Rattle.restart_file.specs.Kept.{IsKept, set_of}
 use Rattle.restart_file.specs.Files.{IsPart, IsRestart, with_part}
 use Rattle.restart_file.specs.Refusals.{AreLow, HasPart, IsRestartRefusal}
+use Rattle.restart_file.specs.Joined.{KeepsForest}
 use Rattle.restart_file.specs.Parts.{AreLinesRead, HoldsAllPartners, IsPartRefusal, TellsCheck}
 use Rattle.restart_file.specs.declared.refusal.RestartRefusal.{RestartRefusal}
 use Rattle.restart_file.specs.declared.refusal.RestartRefusal.TheVariants.{BadHead, MacroShort, Macro, Check, BadWord, TooDeep, LeftOver, NotConforming, Memory}
@@ -81,3 +82,7 @@ accepted bytes part copied rest mesh members e has is_part are holds = subst (λ
   members_are = are.members_are;
   kept = is_kept mesh rest members are part is_part holds;
 })
+
+pub keeps : (bytes part copied rest : List ℕ) (mesh : Mesh) (members : List Name) → copied ≡ part → HasPart bytes part rest → IsPart part mesh → AreLinesRead mesh rest members → HoldsAllPartners (across_in mesh) (set_of members) → KeepsForest copied mesh members
+keeps bytes part copied rest mesh members e has is_part are holds =
+    let r = accepted bytes part copied rest mesh members e has is_part are holds in record { is_part = r.is_part; kept = r.kept }

@@ -75,7 +75,7 @@ no_newline m h k i =
     ne_eqb (get_or (decimal m) k 0) 10 (omega arith)
 
 -- the newline is where the digits end
-newline_at : (m : ℕ) (rest : List ℕ) → m ≤ part_limit → position_or_len is_newline (decimal m ++ 10 ∷ rest) ≡ length (decimal m)
+pub newline_at : (m : ℕ) (rest : List ℕ) → m ≤ part_limit → position_or_len is_newline (decimal m ++ 10 ∷ rest) ≡ length (decimal m)
 newline_at m rest h =
     position_or_len_is is_newline (decimal m ++ 10 ∷ rest) (length (decimal m)) 0
     (omega (arith, length-append (decimal m) (10 ∷ rest)))
@@ -93,7 +93,7 @@ no_start bytes e m rest h =
 
 -- the line after its start
 module _ (bytes line : List ℕ) (end : ℕ) (cut : line ≡ drop 9 bytes) (place : end ≡ position_or_len is_newline line) where
-  line_is : (m : ℕ) (rest : List ℕ) → HasHead bytes m rest → line ≡ decimal m ++ 10 ∷ rest
+  pub line_is : (m : ℕ) (rest : List ℕ) → HasHead bytes m rest → line ≡ decimal m ++ 10 ∷ rest
   line_is m rest h = cut ∙ ap (drop 9) (head_is bytes m rest h) ∙ drop-append_seam (codes "restart: ") (decimal m ++ 10 ∷ rest)
 
   end_is : (m : ℕ) (rest : List ℕ) → HasHead bytes m rest → end ≡ length (decimal m)

@@ -9,3 +9,4 @@ pub mod Heading
 pub mod Searching
 pub mod Files
 pub mod Accepting
+pub mod OneFile

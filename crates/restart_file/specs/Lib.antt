@@ -7,3 +7,5 @@ pub mod Heads
 pub mod Refusals
 pub mod Lines
 pub mod Parts
+pub mod OneFile
+pub mod Joined

@@ -1,11 +1,14 @@
 //! The overlay of two forests over one macro mesh.
-ghost use Rattle.std.specs.Prelude.{◌≡◌, ◌≤◌, ◌+◌, IfErr, IfOk, length};
+ghost use Rattle.std.specs.Prelude.{◌≡◌, ◌≢◌, ◌≤◌, ◌+◌, IfErr, IfNone, IfOk, IfSome, length};
 ghost use Rattle.mesh_names.specs.LeastForest.{IsLeast};
 ghost use Rattle.compat_check.specs.Meshes.{shape_of};
 ghost use Rattle.restart_file.specs.Kept.{IsKept, set_of};
+ghost use Rattle.restart_file.specs.Joined.{IsJoined, KeepsForest};
 ghost use Rattle.restart_file.specs.Merges.{IsMerge};
 
+use crate::reading::Restart;
 use crate::refusal::RestartRefusal;
+use crate::writing::put_restart;
 use compat_check::MacroMesh;
 use mesh_names::name::ElemName;
 use std::alloc::{AllocError, Global};
@@ -54,4 +57,26 @@ pub fn overlay(
     let _count = mesh.element_count();
     let both = merge(alloc, first, second)?;
     Ok(both)
+}
+
+/// The restart file of the overlay of two, with the macro bytes of the first; `None` exactly where
+/// their macro bytes differ.
+pub fn join(
+    alloc: Global,
+    first: &Restart,
+    second: &Restart,
+) -> Result<Option<Vec<u8>>, RestartRefusal>
+    requires first { KeepsForest first.now.macro_bytes.items first.now.mesh first.now.members.items }
+    requires second { KeepsForest second.now.macro_bytes.items second.now.mesh second.now.members.items }
+    ensures differ { IfOk result (λ o. IfNone o (first.now.macro_bytes.items ≢ second.now.macro_bytes.items)) }
+    ensures alike { IfOk result (λ o. IfSome o (λ v. first.now.macro_bytes.items ≡ second.now.macro_bytes.items)) }
+    ensures joined { IfOk result (λ o. IfSome o (λ v. IsJoined v.items first.now.macro_bytes.items first.now.mesh first.now.members.items second.now.members.items)) }
+    ensures err { IfErr result (λ r. r ≡ RestartRefusal.Memory) }
+{
+    if first.macro_bytes.as_slice() != second.macro_bytes.as_slice() {
+        return Ok(None);
+    }
+    let members = overlay(alloc, &first.mesh, &first.members, &second.members)?;
+    let file = put_restart(alloc, &first.macro_bytes, &first.mesh, &members)?;
+    Ok(Some(file))
 }

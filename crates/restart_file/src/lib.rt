@@ -4,13 +4,14 @@
 
 mod head;
 mod joining;
+pub mod laws;
 mod lines;
 mod reading;
 mod refusal;
 mod walk;
 mod writing;
 
-pub use joining::overlay;
+pub use joining::{join, overlay};
 pub use reading::{Restart, read_restart};
 pub use refusal::RestartRefusal;
 pub use writing::put_restart;

@@ -10,6 +10,7 @@ ghost use Rattle.compat_check.specs.Meshes.{across_in, shape_of};
 ghost use Rattle.restart_file.specs.Kept.{set_of};
 ghost use Rattle.restart_file.specs.Files.{IsPart, IsRestart};
 ghost use Rattle.restart_file.specs.Refusals.{HasPart, IsAlone, IsFirstAlone, IsLinesRefusal, IsRestartRefusal};
+ghost use Rattle.restart_file.specs.Joined.{KeepsForest};
 ghost use Rattle.restart_file.specs.Parts.{AreLinesRead, HoldsAllPartners, IsPartRefusal, RefusesHead, TellsCheck};
 
 use crate::head::read_head;
@@ -137,6 +138,7 @@ fn first_alone(mesh: &MacroMesh, members: &[ElemName]) -> Option<ElemName>
 pub fn read_restart(alloc: Global, bytes: &[u8]) -> Result<Restart, RestartRefusal>
     requires { length bytes.now ≤ 33554432 }
     ensures ok { IfOk result (λ r. IsRestart bytes.now r.macro_bytes.items r.mesh r.members.items) }
+    ensures keeps { IfOk result (λ r. KeepsForest r.macro_bytes.items r.mesh r.members.items) }
     ensures refused { IfErr result (IsRestartRefusal bytes.now) }
 {
     let (part, rest) = split_part(bytes)?;

@@ -19,6 +19,8 @@ mod mends;
 #[cfg(test)]
 mod meshes;
 #[cfg(test)]
+mod restarts;
+#[cfg(test)]
 mod run;
 #[cfg(test)]
 mod soaks;

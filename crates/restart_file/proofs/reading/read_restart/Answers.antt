@@ -6,7 +6,7 @@ use Rattle.mesh_names.specs.Forests.{IsForest}
 use Rattle.compat_check.specs.Meshes.{across_in, shape_of}
 use Rattle.restart_file.specs.Kept.{set_of}
 use Rattle.restart_file.specs.Parts.{HoldsAllPartners}
-use Rattle.restart_file.proofs.Accepting.{accepted, in_order, is_forest, part_refused}
+use Rattle.restart_file.proofs.Accepting.{accepted, keeps, in_order, is_forest, part_refused}
 use Rattle.restart_file.proofs.reading.read_restart.Goals as goal
 
 pub returns-in_err-mesh-clause-refused : goal.returns-in_err-mesh-clause-refused
@@ -24,3 +24,8 @@ pub returns-clause-ok : goal.returns-clause-ok
 returns-clause-ok c =
     let holds = subst (λ (l : List Name). HoldsAllPartners (across_in c.in_ok-mesh.mesh) (set_of l)) c.deref.ensures.value c.in_default.ensures in
     accepted c.args.bytes.now c.in_ok-part.part.now c.in_ok-macro_bytes.macro_bytes.items c.in_ok-part.rest.now c.in_ok-mesh.mesh c.in_ok-members.members.items c.in_ok-macro_bytes.ensures.items c.in_ok-part.ensures.ok c.in_ok-mesh.ensures.ok c.in_ok-members.ensures.ok holds
+
+pub returns-clause-keeps : goal.returns-clause-keeps
+returns-clause-keeps c =
+    let holds = subst (λ (l : List Name). HoldsAllPartners (across_in c.in_ok-mesh.mesh) (set_of l)) c.deref.ensures.value c.in_default.ensures in
+    keeps c.args.bytes.now c.in_ok-part.part.now c.in_ok-macro_bytes.macro_bytes.items c.in_ok-part.rest.now c.in_ok-mesh.mesh c.in_ok-members.members.items c.in_ok-macro_bytes.ensures.items c.in_ok-part.ensures.ok c.in_ok-mesh.ensures.ok c.in_ok-members.ensures.ok holds
