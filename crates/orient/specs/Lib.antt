@@ -1,0 +1,3 @@
+pub mod Oriented
+pub mod Parts
+pub mod Calls
