@@ -12,8 +12,6 @@ mod making;
 mod plain;
 mod points;
 mod refusal;
-#[cfg(test)]
-mod tests;
 mod triangle;
 mod words;
 mod writing;
