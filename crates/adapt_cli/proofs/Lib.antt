@@ -11,3 +11,4 @@ pub mod MarkOutcomes
 pub mod FilesInTurn
 pub mod SoakStops
 pub mod RestartOutcomes
+pub mod FindOutcomes

@@ -104,7 +104,7 @@ no_round_left = (4, codes "adapt: marks: no round left\n")
 abbrev pub usage : List ℕ
 usage =
     codes "usage: adapt run MACRO MARKS [--workers N] [--pool P] [--report]\n       adapt soak START GRID ROUNDS [--workers N] [--pool P]\n       adapt mark MACRO MARKS RULE [--workers N] [--pool P]\n"
-    ++ codes "       adapt save MACRO MARKS [--workers N] [--pool P]\n       adapt join FIRST SECOND\n       adapt mend MACRO\n"
+    ++ codes "       adapt save MACRO MARKS [--workers N] [--pool P]\n       adapt join FIRST SECOND\n       adapt find MACRO MARKS POINTS [--workers N] [--pool P]\n       adapt mend MACRO\n"
 
 -- the line for want of memory
 abbrev pub memory_line : List ℕ

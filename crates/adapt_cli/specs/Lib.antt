@@ -11,3 +11,4 @@ pub mod Soaks
 pub mod Stops
 pub mod Mending
 pub mod Restarts
+pub mod Finding

@@ -3,6 +3,7 @@
 
 pub mod ending;
 pub mod fault;
+pub mod finding;
 pub mod joining;
 pub mod laws;
 pub mod load;

@@ -7,6 +7,7 @@ ghost use Rattle.adapt_cli.specs.Ending.{Ends, Finishes, Source, StopEnds};
 
 use crate::ending::{MEMORY, write_line, write_read_fault, write_text};
 use crate::fault::{FileStop, Stop};
+use crate::finding::find_text;
 use crate::joining::join_text;
 use crate::marking::mark_text;
 use crate::mending::mend_text;
@@ -54,6 +55,7 @@ pub fn adapt<R: Threads + Sync, S: Shelf, O: Sink, E: Sink, G: Gate + Sync>(
         Ok(Command::Run(run)) => finish(run_text(rt, alloc, &run, shelf), out, err),
         Ok(Command::Soak(soak)) => end_soak(rt, alloc, &soak, out, err),
         Ok(Command::Mark(mark)) => finish(mark_text(alloc, &mark, shelf), out, err),
+        Ok(Command::Find(find)) => finish(find_text(alloc, &find, shelf), out, err),
         Ok(Command::Mend(mend)) => finish(mend_text(alloc, &mend, shelf), out, err),
         Ok(Command::Save(save)) => finish(save_text(alloc, &save, shelf), out, err),
         Ok(Command::Join(join)) => finish(join_text(alloc, &join, shelf), out, err),

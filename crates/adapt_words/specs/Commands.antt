@@ -46,6 +46,10 @@ save_app = with_limits (taking (codes "save") (codes "macro" ∷ codes "marks" �
 abbrev pub join_app : App
 join_app = taking (codes "join") (codes "first" ∷ codes "second" ∷ [])
 
+-- `find MACRO MARKS POINTS [--workers N] [--pool P]`
+abbrev pub find_app : App
+find_app = with_limits (taking (codes "find") (codes "macro" ∷ codes "marks" ∷ codes "points" ∷ []))
+
 -- `mend MACRO`
 abbrev pub mend_app : App
 mend_app = taking (codes "mend") (codes "macro" ∷ [])

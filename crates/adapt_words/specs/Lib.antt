@@ -1,4 +1,5 @@
 pub mod Commands
+pub mod Finding
 pub mod Mending
 pub mod Numbers
 pub mod Options

@@ -1,5 +1,6 @@
 -- Which words are in the form, and what they say.
 use Rattle.std.specs.Prelude.{◌≡◌, ⊤, List, [], ◌∷◌, codes, bytes_eq, Option, Some, None, Result, Ok, Err, if◌then◌else◌, option_map}
+use Rattle.adapt_words.specs.Finding.{FindWords, IsFindInRange, find_of, find_said}
 use Rattle.adapt_words.specs.Mending.{MendWords, mend_of, mend_said}
 use Rattle.adapt_words.specs.Numbers.{Word}
 use Rattle.adapt_words.specs.Restarts.{IsSaveInRange, JoinWords, SaveWords, join_of, join_said, save_of, save_said}
@@ -16,6 +17,7 @@ pub data CommandWords : Type 0 where
   mark : MarkWords → CommandWords
   save : SaveWords → CommandWords
   join : JoinWords → CommandWords
+  find : FindWords → CommandWords
   mend : MendWords → CommandWords
 
 -- what the words say; None where they are outside the form
@@ -27,6 +29,7 @@ command_of (first ∷ others) =
     if bytes_eq first (codes "mark") then option_map mark (mark_of (first ∷ others)) else
     if bytes_eq first (codes "save") then option_map save (save_of (first ∷ others)) else
     if bytes_eq first (codes "join") then option_map join (join_of (first ∷ others)) else
+    if bytes_eq first (codes "find") then option_map find (find_of (first ∷ others)) else
     if bytes_eq first (codes "mend") then option_map mend (mend_of (first ∷ others)) else None
 
 -- what an answer of the code stands for
@@ -36,6 +39,7 @@ said (command.Soak c) = soak (soak_said c)
 said (command.Mark c) = mark (mark_said c)
 said (command.Save c) = save (save_said c)
 said (command.Join c) = join (join_said c)
+said (command.Find c) = find (find_said c)
 said (command.Mend c) = mend (mend_said c)
 
 -- the numbers of a command lie in their ranges
@@ -45,6 +49,7 @@ IsInRange (command.Soak c) = IsSoakInRange c
 IsInRange (command.Mark c) = IsMarkInRange c
 IsInRange (command.Save c) = IsSaveInRange c
 IsInRange (command.Join c) = ⊤
+IsInRange (command.Find c) = IsFindInRange c
 IsInRange (command.Mend c) = ⊤
 
 -- an answer to the words that say `told`: what it stands for; Outside exactly where they say nothing; or Memory

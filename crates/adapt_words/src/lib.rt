@@ -2,6 +2,7 @@
 #![tactic(auto)]
 
 mod commands;
+mod finding;
 mod mending;
 mod numbers;
 mod restarts;
@@ -10,6 +11,7 @@ mod rules;
 mod values;
 mod words;
 
+pub use finding::Find;
 pub use mending::Mend;
 pub use restarts::{Join, Save};
 pub use rounds::{Mark, Run, Soak};

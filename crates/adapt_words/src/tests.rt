@@ -1,5 +1,5 @@
 //! Words and what they say, by the rules of the form.
-use crate::{Command, Join, Mark, Mend, Rule, Run, Save, Soak, USAGE, WordsRefusal, read_words};
+use crate::{Command, Find, Join, Mark, Mend, Rule, Run, Save, Soak, USAGE, WordsRefusal, read_words};
 use mark_strategy::Share;
 use std::alloc::{AllocError, Global};
 use std::test::Fail;
@@ -289,6 +289,14 @@ fn other_commands(rt: HostRuntime) -> Result<(), Fail> {
         second_file: "b",
     };
     assert!(rt; is_command(alloc, "join a b", Command::Join(join))?);
+    let find = Find {
+        macro_file: "q",
+        marks_file: "m",
+        points_file: "p",
+        workers: 4,
+        pool: 65_536,
+    };
+    assert!(rt; is_command(alloc, "find q m p", Command::Find(find))?);
     let mend = Mend { macro_file: "q" };
     assert!(rt; is_command(alloc, "mend q", Command::Mend(mend))?);
     Ok(())
@@ -305,7 +313,9 @@ fn other_commands_outside_the_form(rt: HostRuntime) -> Result<(), Fail> {
         "join a b --workers 1",
         "join a b --pool 1",
         "resume r m",
-        "find q m p",
+        "find q m",
+        "find q m p x",
+        "find q m p --pool 0",
         "mend",
         "mend q m",
         "mend q --workers 1",
@@ -340,6 +350,9 @@ fn usage(rt: HostRuntime) -> Result<(), Fail> {
     );
     assert!(rt; lines.next() == Some("       adapt save MACRO MARKS [--workers N] [--pool P]"));
     assert!(rt; lines.next() == Some("       adapt join FIRST SECOND"));
+    assert!(rt;
+        lines.next() == Some("       adapt find MACRO MARKS POINTS [--workers N] [--pool P]")
+    );
     assert!(rt; lines.next() == Some("       adapt mend MACRO"));
     assert!(rt; lines.next() == Some(""));
     assert!(rt; lines.next() == None);

@@ -9,6 +9,8 @@ mod corner;
 #[cfg(test)]
 mod files;
 #[cfg(test)]
+mod finds;
+#[cfg(test)]
 mod forests;
 #[cfg(test)]
 mod kinds;

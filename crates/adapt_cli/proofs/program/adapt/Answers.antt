@@ -1,11 +1,13 @@
 use Rattle.std.proofs.Common.{map, refl, subst}
 use Rattle.std.specs.Prelude.{Ok, Err, string_bytes}
+use Rattle.adapt_words.specs.Finding.{find_said}
 use Rattle.adapt_words.specs.Mending.{mend_said}
 use Rattle.adapt_words.specs.Restarts.{join_said, save_said}
 use Rattle.adapt_words.specs.Rounds.{mark_said, run_said}
-use Rattle.adapt_words.specs.Words.{Answers, command_of, join, mark, mend, run, said, save}
+use Rattle.adapt_words.specs.Words.{Answers, command_of, find, join, mark, mend, run, said, save}
 use Rattle.adapt_words.specs.declared.words.Command.{Command}
 use Rattle.adapt_words.specs.declared.words.WordsRefusal.{WordsRefusal}
+use Rattle.adapt_cli.specs.Finding.{FindAsks, FindLeads}
 use Rattle.adapt_cli.specs.Marks.{MarkAsks, MarkLeads}
 use Rattle.adapt_cli.specs.Mending.{MendAsks, MendLeads}
 use Rattle.adapt_cli.specs.Outcome.{RunAsks, RunLeads}
@@ -73,3 +75,11 @@ returns-in-Ok-Soak g c =
     let told = command_of (map string_bytes c.args.words.now) in
     c.end_soak.ensures (record { command = told; files = g.S.Shelf.files c.args.shelf.now; steady = g.S.Shelf.steady c.args.shelf.now; before = g.S.Shelf.faults c.args.shelf.now; now = g.S.Shelf.faults c.args.shelf.now })
     (subst (λ (x : Command). Answers said told (Ok x)) c.in-Ok-Soak.field-0-is c.in-Ok-Soak.ensures.told) refl
+
+pub returns-in-Ok-Find : goal.returns-in-Ok-Find
+returns-in-Ok-Find g c =
+    let told = command_of (map string_bytes c.args.words.now) in
+    finished (FindLeads (find_said c.in-Ok-Find.find)) (FindAsks (find_said c.in-Ok-Find.find)) (find (find_said c.in-Ok-Find.find)) told (subst (λ (x : Command). Answers said told (Ok x)) c.in-Ok-Find.field-0-is c.in-Ok-Find.ensures.told) (g.S.Shelf.files c.args.shelf.now) (g.S.Shelf.steady c.args.shelf.now) (g.S.Shelf.faults c.args.shelf.now) (g.S.Shelf.faults c.find_text.new.shelf) (λ end h. h) (λ name h. h) c.find_text.result
+    (written (g.O.Sink.holds c.args.out.now) (g.O.Sink.holds c.finish-in-Ok-Find.new.out) (g.O.Sink.faults c.args.out.now) (g.O.Sink.faults c.finish-in-Ok-Find.new.out))
+    (written (g.E.Sink.holds c.args.err.now) (g.E.Sink.holds c.finish-in-Ok-Find.new.err) (g.E.Sink.faults c.args.err.now) (g.E.Sink.faults c.finish-in-Ok-Find.new.err))
+    c.finish-in-Ok-Find.result c.find_text.ensures.ok c.find_text.ensures.stopped c.finish-in-Ok-Find.ensures
