@@ -1,6 +1,6 @@
 -- From the rounds to the leaves of points.
-use Rattle.std.proofs.Common.{◌≡◌, ℕ, ◌≤◌, subst, List}
-use Rattle.std.specs.Prelude.{Ok, Err, string_bytes}
+use Rattle.std.proofs.Common.{ℕ, ◌≤◌, subst, List}
+use Rattle.std.specs.Prelude.{Ok, Err}
 use Rattle.mesh_names.specs.Names.{Name}
 use Rattle.compat_check.specs.Meshes.{Mesh}
 use Rattle.compat_check.specs.Points.{Point}

@@ -1,5 +1,7 @@
 //! Words and what they say, by the rules of the form.
-use crate::{Command, Find, Join, Mark, Mend, Rule, Run, Save, Soak, USAGE, WordsRefusal, read_words};
+use crate::{
+    Command, Find, Join, Mark, Mend, Rule, Run, Save, Soak, USAGE, WordsRefusal, read_words,
+};
 use mark_strategy::Share;
 use std::alloc::{AllocError, Global};
 use std::test::Fail;

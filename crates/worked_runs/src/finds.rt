@@ -61,7 +61,16 @@ fn midpoints_that_are_rounded_are_tried_leaf_by_leaf(rt: HostRuntime) -> Result<
     let alloc = rt.alloc();
     assert!(rt; finds(&rt, alloc, FOUR_TRIANGLES, "", "0.5 0\n", "0\n")?);
     let rows = "1,mark,*,1\n";
-    assert!(rt; finds(&rt, alloc, FOUR_TRIANGLES, rows, "0.25 0.125\n9 9\n", "0.0\nnone\n")?);
+    assert!(rt;
+        finds(
+            &rt,
+            alloc,
+            FOUR_TRIANGLES,
+            rows,
+            "0.25 0.125\n9 9\n",
+            "0.0\nnone\n"
+        )?
+    );
     Ok(())
 }
 

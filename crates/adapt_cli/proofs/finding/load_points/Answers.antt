@@ -1,7 +1,7 @@
 use Rattle.std.proofs.Common.{List, ℕ, subst, sym}
-use Rattle.adapt_cli.specs.Finding.{AcceptsPoints, RefusesPoints, points_limit}
-use Rattle.adapt_cli.specs.Stops.{GivesBytes, RefusesBy}
-use Rattle.adapt_cli.proofs.Loading.{given-refused, gives-more}
+use Rattle.adapt_cli.specs.Finding.{AcceptsPoints, points_limit}
+use Rattle.adapt_cli.specs.Stops.{GivesBytes}
+use Rattle.adapt_cli.proofs.Loading.{gives-more}
 use Rattle.adapt_cli.proofs.finding.load_points.Goals as goal
 
 pub returns-in-Ok-points_of-clause-ok : goal.returns-in-Ok-points_of-clause-ok
