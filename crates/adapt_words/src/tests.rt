@@ -271,36 +271,53 @@ fn calls_for_marks(rt: HostRuntime) -> Result<(), Fail> {
     Ok(())
 }
 
-fn is_command(alloc: Global, line: &str, want: Command<'_>) -> Result<bool, AllocError> {
+fn is_save(alloc: Global, line: &str, workers: u32, pool: u32) -> Result<bool, AllocError> {
     let words = words_of(alloc, line)?;
-    Ok(read_words(alloc, words.as_slice()) == Ok(want))
+    let want = Save {
+        macro_file: "q",
+        marks_file: "m",
+        workers,
+        pool,
+    };
+    Ok(read_words(alloc, words.as_slice()) == Ok(Command::Save(want)))
+}
+
+fn is_join(alloc: Global, line: &str) -> Result<bool, AllocError> {
+    let words = words_of(alloc, line)?;
+    let want = Join {
+        first_file: "a",
+        second_file: "b",
+    };
+    Ok(read_words(alloc, words.as_slice()) == Ok(Command::Join(want)))
+}
+
+fn is_find(alloc: Global, line: &str, workers: u32, pool: u32) -> Result<bool, AllocError> {
+    let words = words_of(alloc, line)?;
+    let want = Find {
+        macro_file: "q",
+        marks_file: "m",
+        points_file: "p",
+        workers,
+        pool,
+    };
+    Ok(read_words(alloc, words.as_slice()) == Ok(Command::Find(want)))
+}
+
+fn is_mend(alloc: Global, line: &str) -> Result<bool, AllocError> {
+    let words = words_of(alloc, line)?;
+    let want = Mend { macro_file: "q" };
+    Ok(read_words(alloc, words.as_slice()) == Ok(Command::Mend(want)))
 }
 
 #[test]
 fn other_commands(rt: HostRuntime) -> Result<(), Fail> {
     let alloc = rt.alloc();
-    let save = Save {
-        macro_file: "q",
-        marks_file: "m",
-        workers: 2,
-        pool: 65_536,
-    };
-    assert!(rt; is_command(alloc, "save q m --workers 2", Command::Save(save))?);
-    let join = Join {
-        first_file: "a",
-        second_file: "b",
-    };
-    assert!(rt; is_command(alloc, "join a b", Command::Join(join))?);
-    let find = Find {
-        macro_file: "q",
-        marks_file: "m",
-        points_file: "p",
-        workers: 4,
-        pool: 65_536,
-    };
-    assert!(rt; is_command(alloc, "find q m p", Command::Find(find))?);
-    let mend = Mend { macro_file: "q" };
-    assert!(rt; is_command(alloc, "mend q", Command::Mend(mend))?);
+    assert!(rt; is_save(alloc, "save q m --workers 2", 2, 65_536)?);
+    assert!(rt; is_save(alloc, "save --pool=9 q m", 4, 9)?);
+    assert!(rt; is_join(alloc, "join a b")?);
+    assert!(rt; is_find(alloc, "find q m p", 4, 65_536)?);
+    assert!(rt; is_find(alloc, "find q --pool 9 m --workers=64 p", 64, 9)?);
+    assert!(rt; is_mend(alloc, "mend q")?);
     Ok(())
 }
 
