@@ -58,7 +58,10 @@ fn shelf(alloc: Global, name: &str, text: &str) -> Result<MemShelf, AllocError> 
 fn grid_mesh(alloc: Global, side: u8) -> Result<MacroMesh, AllocError> {
     let text = grid(alloc, side)?;
     let mut shelf = shelf(alloc, "q", &text)?;
-    load_macro(alloc, &mut shelf, "q").map_err(|_| AllocError)
+    match load_macro(alloc, &mut shelf, "q") {
+        Ok(mesh) => Ok(mesh),
+        Err(_) => Err(AllocError),
+    }
 }
 
 // One round that bisects every leaf so often.

@@ -20,7 +20,10 @@ use std::test::Fail;
 /// The mesh of this macro file.
 pub fn mesh_of(alloc: Global, macro_text: &str) -> Result<MacroMesh, AllocError> {
     let mut shelf = shelf(alloc, &[("q", macro_text)])?;
-    load_macro(alloc, &mut shelf, "q").map_err(|_| AllocError)
+    match load_macro(alloc, &mut shelf, "q") {
+        Ok(mesh) => Ok(mesh),
+        Err(_) => Err(AllocError),
+    }
 }
 
 /// The rounds of these rows.
