@@ -1,6 +1,7 @@
 //! Leaves that have points.
 use crate::files::{FOUR_TRIANGLES, SQUARE};
-use crate::run::{Ran, run_words, shelf};
+use crate::run::{Ran, hold, run_words};
+use mesh_io::MemShelf;
 use std::alloc::{AllocError, Global};
 use std::test::Fail;
 use std::thread::Threads;
@@ -14,8 +15,12 @@ fn call<R: Threads + Sync>(
     points: &str,
 ) -> Result<Ran, AllocError> {
     let marks = format!(in alloc; "round,what,where,number\n{rows}")?;
-    let files = [("q", text), ("m", &marks), ("p", points)];
-    run_words(rt, alloc, "find q m p", shelf(alloc, &files)?)
+    let mut held = Vec::new(alloc);
+    hold(alloc, &mut held, "q", text)?;
+    hold(alloc, &mut held, "m", &marks)?;
+    hold(alloc, &mut held, "p", points)?;
+    let shelf = MemShelf::new(held, Vec::new(alloc));
+    run_words(rt, alloc, "find q m p", shelf)
 }
 
 // Whether exactly these lines are written, with status 0, and nothing is told.

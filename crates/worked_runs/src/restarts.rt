@@ -1,6 +1,7 @@
 //! Restart files: what is saved, and two of them joined.
 use crate::files::SQUARE;
-use crate::run::{Ran, run_words, shelf};
+use crate::run::{Ran, hold, run_words};
+use mesh_io::MemShelf;
 use std::alloc::{AllocError, Global};
 use std::test::Fail;
 use std::thread::Threads;
@@ -24,8 +25,13 @@ fn call<R: Threads + Sync>(
     b: &str,
 ) -> Result<Ran, AllocError> {
     let marks = format!(in alloc; "round,what,where,number\n{rows}")?;
-    let files = [("q", SQUARE), ("m", &marks), ("a", a), ("b", b)];
-    run_words(rt, alloc, line, shelf(alloc, &files)?)
+    let mut held = Vec::new(alloc);
+    hold(alloc, &mut held, "q", SQUARE)?;
+    hold(alloc, &mut held, "m", &marks)?;
+    hold(alloc, &mut held, "a", a)?;
+    hold(alloc, &mut held, "b", b)?;
+    let shelf = MemShelf::new(held, Vec::new(alloc));
+    run_words(rt, alloc, line, shelf)
 }
 
 // Whether these words end with this status, tell exactly this and write nothing.
