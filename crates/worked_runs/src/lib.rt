@@ -5,11 +5,7 @@
 #[cfg(test)]
 mod commands;
 #[cfg(test)]
-mod corner;
-#[cfg(test)]
 mod files;
-#[cfg(test)]
-mod finds;
 #[cfg(test)]
 mod forests;
 #[cfg(test)]
@@ -17,11 +13,7 @@ mod kinds;
 #[cfg(test)]
 mod marks;
 #[cfg(test)]
-mod mends;
-#[cfg(test)]
 mod meshes;
-#[cfg(test)]
-mod restarts;
 #[cfg(test)]
 mod run;
 #[cfg(test)]

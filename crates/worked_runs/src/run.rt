@@ -42,17 +42,6 @@ pub fn shelf(alloc: Global, files: &[(&str, &str)]) -> Result<MemShelf, AllocErr
     Ok(MemShelf::new(held, Vec::new(alloc)))
 }
 
-/// Adds a file.
-pub fn hold(
-    alloc: Global,
-    held: &mut Vec<(String, Vec<u8>)>,
-    name: &str,
-    text: &str,
-) -> Result<(), AllocError> {
-    held.push((name.to_string(alloc)?, text.as_bytes().to_vec(alloc)?))?;
-    Ok(())
-}
-
 /// Runs the program on these words and files.
 pub fn run_words<R: Threads + Sync>(
     rt: &R,
