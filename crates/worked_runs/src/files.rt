@@ -94,17 +94,3 @@ element vertices: 2 0 1 2 3 0
 vertex values: 1 10 100 1000
 element values: 11 -5
 ";
-
-/// An L-shaped domain, whose corner at (0, 0) is vertex 3 of each of its triangles.
-pub const L_SHAPE: &str = "number of vertices: 8
-number of elements: 6
-vertex coordinates: -1 -1 0 -1 -1 0 0 0 1 0 -1 1 0 1 1 1
-element vertices: 0 3 1 3 0 2 3 5 2 5 3 6 3 7 4 7 3 6
-";
-
-/// Four triangles round a vertex, whose refinement edges all end at it: no grades fit.
-pub const CYCLE: &str = "number of vertices: 5
-number of elements: 4
-vertex coordinates: 0 0 1 0 1 1 0 1 0.33333333333333331 0.5
-element vertices: 1 4 0 2 4 1 3 4 2 0 4 3
-";
