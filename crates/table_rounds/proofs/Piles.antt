@@ -1,5 +1,5 @@
 -- Lists of the blocks that the owner has.
-use Rattle.std.proofs.Common.{◌≡◌, ℕ, zero, suc, ◌+◌, ◌<◌, ◌≤◌, Bool, true, false, List, [], ◌∷◌, ◌++◌, drop, length, slice_index, ◌⊎◌, inl, inr, ⊎_elim, refl, sym, ap, ◌∙◌, subst, arith}
+use Rattle.std.proofs.Common.{◌≡◌, ℕ, zero, suc, ◌+◌, ◌-◌, ◌<◌, ◌≤◌, Bool, true, false, List, [], ◌∷◌, ◌++◌, drop, take, length, slice_index, ◌⊎◌, inl, inr, ⊎_elim, refl, sym, ap, ◌∙◌, subst, arith}
 use Rattle.std.proofs.lemmas.List.{length-append}
 use native.Mathlib.Decide.{dec_lt}
 use Rattle.table_words.specs.declared.layout.Layout.{Layout}
@@ -28,7 +28,7 @@ index_find [] b h = absurd h
 index_find (x ∷ xs) b (inl e) = (0, omega arith, e)
 index_find (x ∷ xs) b (inr h) = let t = index_find xs b h in let l = t.1 in (suc t.0, omega arith, t.2)
 
-once_list : (xs : List ℕ) → ((j k : ℕ) → j < length xs → k < length xs → slice_index xs j ≡ slice_index xs k → j ≡ k) → Once xs
+pub once_list : (xs : List ℕ) → ((j k : ℕ) → j < length xs → k < length xs → slice_index xs j ≡ slice_index xs k → j ≡ k) → Once xs
 once_list [] f = tt
 once_list (x ∷ xs) f = (
   (λ h. let t = index_find xs x h in let l = t.1 in let e : 0 ≡ suc t.0 = f 0 (suc t.0) (omega arith) (omega arith) t.2 in absurd (omega arith)),
@@ -43,7 +43,7 @@ once_index (x ∷ xs) o (suc j) zero a b e = absurd (o.0 (subst (HasEntry xs) e 
 once_index (x ∷ xs) o (suc j) (suc k) a b e = let q = once_index xs o.1 j k (omega arith) (omega arith) e in omega arith
 
 -- the numbers below p
-below : ℕ → List ℕ
+abbrev below : ℕ → List ℕ
 below zero = []
 below (suc p) = p ∷ below p
 
@@ -55,7 +55,7 @@ below_has : (p b : ℕ) → b < p → HasEntry (below p) b
 below_has zero b l = absurd (omega arith)
 below_has (suc p) b l = elim (dec_lt b p) [ yes m ↦ inr (below_has p b m) | no o ↦ inl (omega arith) ]
 
-few : (p : ℕ) (xs : List ℕ) → Once xs → ((b : ℕ) → HasEntry xs b → b < p) → length xs ≤ p
+pub few : (p : ℕ) (xs : List ℕ) → Once xs → ((b : ℕ) → HasEntry xs b → b < p) → length xs ≤ p
 few p xs o low = let e = below_length p in let l = once_within xs (below p) o (λ b h. below_has p b (low b h)) in omega arith
 
 -- the blocks of patches
@@ -85,6 +85,18 @@ once_blocks ps o = once_list (blocks_of ps) (λ j k a b e. let n = blocks_length
 drop_append : (xs ys : List ℕ) → drop (length xs) (xs ++ ys) ≡ ys
 drop_append [] ys = refl
 drop_append (x ∷ xs) ys = drop_append xs ys
+
+take_whole : (xs : List ℕ) → take (length xs) xs ≡ xs
+take_whole [] = refl
+take_whole (x ∷ xs) = ap (λ (r : List ℕ). x ∷ r) (take_whole xs)
+
+slice_tail : (xs ys : List ℕ) → take (length (xs ++ ys) - length xs) (drop (length xs) (xs ++ ys)) ≡ ys
+slice_tail xs ys = let a = length-append xs ys in let e : length (xs ++ ys) - length xs ≡ length ys = omega arith in
+    ap (λ (n : ℕ). take n (drop (length xs) (xs ++ ys))) e ∙ ap (λ (zs : List ℕ). take (length ys) zs) (drop_append xs ys) ∙ take_whole ys
+
+-- what stands behind a list that was added to
+pub slice_is : (h xs ys : List ℕ) (n : ℕ) → h ≡ xs ++ ys → n ≡ length xs → take (length h - n) (drop n h) ≡ ys
+slice_is h xs ys n e m = ap (λ (z : List ℕ × ℕ). take (length z.0 - z.1) (drop z.1 z.0)) (λ t. (e t, m t)) ∙ slice_tail xs ys
 
 module _ (l : Layout) (v : Sight) (hand : List ℕ) (kept back : List Patch) (held : IsHand v l.pool hand) (old : AreOld l v kept) (old_once : EachOnce kept) (rolled : AreBack l v back) (back_once : EachOnce back) (told : BlocksTold l.elements v) where
   in_hand : (b : ℕ) → HasEntry hand b → HasEntry v.ruling.hand b × (b < l.pool)

@@ -139,3 +139,21 @@ module _ (l : Layout) (u w : Sight) (s s' : Stock) (is : IsStock l u s) (told : 
       (subst EachOnce (sym back) is.back_once)
       (omega arith)
       (placed_after l u s.hand.items s.kept.items s.rolled_back.items is.hand is.old is.old_once is.back is.back_once told w (blocks_of s.kept.items) freed low once s.places.items is.placed)
+
+-- further rounds are drained
+pub stock_drained : (l : Layout) (u v : Sight) (s : Stock) (d : ℕ) → MoreDrained u v → IsStock l u s → AllDrained v d → d ≤ s.finished → IsStock l v record s { drained = d }
+stock_drained l u v s d more is all low = let t = stock_more l u v s more is in record {
+  hand = t.hand;
+  old = t.old;
+  old_once = t.old_once;
+  back = t.back;
+  back_once = t.back_once;
+  placed = t.placed;
+  few = t.few;
+  room = t.room;
+  finished = t.finished;
+  early = t.early;
+  left = t.left;
+  drained = (all, low);
+  rounds = t.rounds;
+}

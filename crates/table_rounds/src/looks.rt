@@ -1,21 +1,23 @@
 //! Loads of the owner before a round, which tell which versions stand at a place.
-ghost use Rattle.std.specs.Prelude.{◌≡◌, ℕ, ◌+◌, ◌<◌, ◌≤◌, ◌⊎◌};
+ghost use Rattle.std.specs.Prelude.{◌≡◌, ◌≢◌, ℕ, ◌+◌, ◌<◌, ◌≤◌, ◌⊎◌};
 ghost use Rattle.table_words.specs.Entries.{HasEntry, Noted};
 ghost use Rattle.table_words.specs.Layout.{IsElemAt};
 ghost use Rattle.table_words.specs.Places.{member_of, place_number};
-ghost use Rattle.table_words.specs.Views.{Owner, Resting};
+ghost use Rattle.table_words.specs.Views.{FirstHalf, Owner, Resting};
 ghost use Rattle.table_words.specs.Words.{node, node_of};
 ghost use Rattle.table_state.specs.Ghosts.{Placed, stands};
 ghost use Rattle.mesh_table.specs.Told.{IsOf, Stays, sight};
 ghost use Rattle.table_rounds.specs.Patches.{StandsAt};
+ghost use Rattle.mesh_table.specs.Rounds.{counted_cursor};
 ghost use Rattle.table_rounds.specs.Kinds.{BlocksTold};
+ghost use Rattle.table_rounds.specs.Rows.{RowsFit};
 ghost use Rattle.table_rounds.specs.Versions.{Falls, IsRooted, LeadsTo, NamesLiving, NotesMore, TwoPlaces};
 
 use mesh_table::rule::MeshSeat;
 use mesh_table::steps::Tells;
 use mesh_table::table::MeshTable;
 use std::marker::Brand;
-use table_words::layout::{ElemAt, SEATS};
+use table_words::layout::{CURSOR, ElemAt, SEATS};
 
 /// Loads the LINK word of a place before a round, and notes DIED of the block that it names, which
 /// is the word's retired round.
@@ -86,4 +88,17 @@ pub fn look_blocks<'m>(table: &MeshTable<'m>, owner: &mut MeshSeat)
     ensures told { BlocksTold table.now.site.layout.elements (sight owner.old) }
 {
     table.get::<Brand, ()>(owner, SEATS, ());
+}
+
+/// Loads CURSOR after the first half of a round, which tells that the blocks of the hand and the
+/// rows that were not drawn fit into the pool.
+pub fn look_drawn<'m>(table: &MeshTable<'m>, owner: &mut MeshSeat) -> u64
+    requires fit { IsOf table.now.table.shared.table_id owner.old }
+    requires rules { (sight owner.old).kind ≡ Owner }
+    requires half { (sight owner.old).ruling.phase ≢ FirstHalf }
+    ensures stays { Stays owner.old owner.new }
+    ensures view { sight owner.new ≡ counted_cursor (sight owner.old) result }
+    ensures fits { RowsFit (sight owner.old) table.now.site.layout.pool result }
+{
+    table.get::<Brand, ()>(owner, CURSOR, ())
 }
