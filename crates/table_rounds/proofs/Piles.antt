@@ -111,7 +111,7 @@ module _ (l : Layout) (v : Sight) (hand : List ℕ) (kept back : List Patch) (he
   given_up : List ℕ
   given_up = blocks_of kept ++ blocks_of back
 
-  once_given : Once (blocks_of kept ++ blocks_of back)
+  pub once_given : Once (blocks_of kept ++ blocks_of back)
   once_given = once_append (blocks_of kept) (blocks_of back) (once_blocks kept old_once) (once_blocks back back_once) (λ b h k. told.kept_back b (in_kept b h).0 (in_back b k).0)
 
   once_all : Once (hand ++ (blocks_of kept ++ blocks_of back))

@@ -4,17 +4,20 @@ use Rattle.std.proofs.lemmas.List.{length-append}
 use native.Mathlib.Decide.{dec_lt}
 use Rattle.atomic_table.specs.Table.{Allows}
 use Rattle.table_words.specs.Entries.{HasEntry}
-use Rattle.table_words.specs.Views.{FirstHalf, Owner}
+use Rattle.table_words.specs.Views.{FirstHalf, Owner, Resting}
 use Rattle.table_words.specs.Words.{words_at}
 use Rattle.table_words.proofs.Entries.{entry_of_both}
+use Rattle.table_state.proofs.OwnerLaws.{patches_counted}
 use Rattle.table_state.proofs.Counts.{once_append, rows_from, rows_length, row_of, once_rows}
 use Rattle.table_steps.specs.Steps.{ByLoadCursor}
 use Rattle.mesh_table.specs.declared.rule.Site.{Site}
-use Rattle.mesh_table.specs.Sights.{Sight, seat_at, views_of}
+use Rattle.mesh_table.specs.Sights.{Sight, seat_at, views_of, setup_at}
 use Rattle.mesh_table.specs.Holds.{Holds, Sat}
 use Rattle.mesh_table.specs.Rounds.{counted_cursor}
 use Rattle.mesh_table.proofs.Owning.{owner_acts, by_step, kept_words, in_ruling}
+use Rattle.table_words.specs.Entries.{EntryAt}
 use Rattle.table_rounds.specs.Rows.{IsHand, RowsFit, drawn_told}
+use Rattle.table_rounds.specs.Stocks.{RoomTold, room_told}
 use Rattle.table_rounds.proofs.Piles.{few, index_find, once_list}
 
 pub rows_room : (hand rows pool drawn low : ℕ) → hand + rows ≤ pool + drawn → hand ≤ pool → low ≤ rows → (low < rows → drawn ≡ low) → hand + rows ≤ pool + low
@@ -48,4 +51,24 @@ module _ (k : Site) (id i : ℕ) (me : Sat) (rules : me.0.kind ≡ Owner) where
         in_ruling f u refl refl refl refl refl,
         by_step k id i me rules s h _ _ (ByLoadCursor ((λ e. calm (sym (ap (λ (z : Sight). z.ruling.phase) same) ∙ e)), refl)),
         (refl, (λ z. counted_cursor (same z) (here z)), subst (λ (z : Sight). RowsFit z k.layout.pool (get_or s.words i 0)) same told),
+      ))
+
+  pub looks_room : me.0.ruling.phase ≡ Resting → (slots : ℕ) → Allows (Holds k) slots id me i (λ n. n) (room_told (setup_at k) k.layout.pool me)
+  looks_room rests slots = owner_acts k id i me rules slots (λ n. n) (room_told (setup_at k) k.layout.pool me) (λ s h same _.
+      let f = seat_at s.views in
+      let w = words_at k.layout s.words in
+      let r = h.lawful.1 in
+      let rest : (f 0).ruling.phase ≡ Resting = ap (λ (z : Sight). z.ruling.phase) same ∙ rests in
+      let told : RoomTold (setup_at k) (f 0) k.layout.pool = λ rows stay none stopped drawn free once_s same_s names firsts at once_f same_f.
+          let is_free : w.free ≡ rows = r.stock.free_is rows free in
+          let is_drawn : w.cursor ≡ 0 = (r.stock.cursor_is 0 drawn).1 in
+          let e = patches_counted (setup_at k) w (length s.views) (views_of f) h.lawful rest none stopped (omega arith) names firsts stay (subst (λ (q : ℕ). EntryAt (f 0).ruling.history q names) r.stock.finished at) once_f same_f once_s same_s in
+          omega arith in (
+        f 0,
+        w,
+        views_of f,
+        kept_words k id i me rules s,
+        in_ruling f (f 0) refl refl refl refl refl,
+        h.lawful,
+        ((λ z. (same z, me.1)), subst (λ (z : Sight). RoomTold (setup_at k) z k.layout.pool) same told, λ rows e. let q = r.stock.free_is rows (ap (λ (z : Sight). z.ruling.free) same ∙ e) in let few_rows = r.inside.few in omega arith),
       ))

@@ -52,6 +52,8 @@ stock_more l u v s more is = subst (λ (z : Sight). IsStock l z s) (sym more.sam
   left = is.left;
   drained = ((λ q a. more.more q (is.drained.0 q a)), is.drained.1);
   rounds = is.rounds;
+  rows = is.rows;
+  none = is.none;
 }
 
 pub stock_quiet : (l : Layout) (u v : Sight) (s : Stock) → v ≡ record u { ruling = record u.ruling { seen = v.ruling.seen; quiet = v.ruling.quiet } } → IsStock l u s → IsStock l v s
@@ -69,6 +71,8 @@ stock_quiet l u v s same is = subst (λ (z : Sight). IsStock l z s) (sym same) r
   left = is.left;
   drained = is.drained;
   rounds = is.rounds;
+  rows = is.rows;
+  none = is.none;
 }
 
 pub drained_early : (v : Sight) → v.ruling.early ≡ 0 → AreDrained v
@@ -82,7 +86,7 @@ append_none [] = refl
 append_none (x ∷ xs) = ap (λ (r : List ℕ). x ∷ r) (append_none xs)
 
 -- The lists after blocks became free: the same but for the hand, and for those blocks' patches
-module _ (l : Layout) (u w : Sight) (s s' : Stock) (is : IsStock l u s) (told : BlocksTold l.elements u) (places : s'.places.items ≡ s.places.items) (room : vec_capacity s'.hand ≡ vec_capacity s.hand) (finished : s'.finished ≡ s.finished) (early : s'.early ≡ s.early) (left : s'.left.items ≡ s.left.items) (drained : s'.drained ≡ s.drained) where
+module _ (l : Layout) (u w : Sight) (s s' : Stock) (is : IsStock l u s) (told : BlocksTold l.elements u) (places : s'.places.items ≡ s.places.items) (room : vec_capacity s'.hand ≡ vec_capacity s.hand) (finished : s'.finished ≡ s.finished) (early : s'.early ≡ s.early) (left : s'.left.items ≡ s.left.items) (drained : s'.drained ≡ s.drained) (rows : s'.rows ≡ s.rows) where
   others_same : (blocks : List ℕ) → AreFreed u w blocks → IsHand w l.pool s'.hand.items → AreOld l w s'.kept.items → EachOnce s'.kept.items → AreBack l w s'.rolled_back.items → EachOnce s'.rolled_back.items → length s'.hand.items + length s'.kept.items + length s'.rolled_back.items ≤ l.pool → ArePlaced l w s.places.items → IsStock l w s'
   others_same blocks freed hand old old_once back back_once few known = record {
     hand = hand;
@@ -98,6 +102,8 @@ module _ (l : Layout) (u w : Sight) (s s' : Stock) (is : IsStock l u s) (told : 
     left = subst (λ (z : Sight × List ℕ × ℕ). AreLeft z.0 z.1 × (length z.1 ≡ z.2)) (λ t. (sym freed t, sym left t, sym finished t)) is.left;
     drained = subst (λ (z : Sight × ℕ × ℕ). AllDrained z.0 z.1 × (z.1 ≤ z.2)) (λ t. (sym freed t, sym drained t, sym finished t)) is.drained;
     rounds = subst (λ (z : ℕ). z ≤ l.rounds) (sym finished) is.rounds;
+    rows = subst (λ (z : Sight × ℕ). (z.0.ruling.free ≡ z.1 + 1) × (z.1 ≤ l.pool)) (λ t. (sym freed t, sym rows t)) is.rows;
+    none = subst (λ (z : Sight). z.ruling.high ≤ z.ruling.low) (sym freed) is.none;
   }
 
   pub stock_both : AreFreed u w (blocks_of s.kept.items ++ blocks_of s.rolled_back.items) → s'.hand.items ≡ s.hand.items ++ (blocks_of s.kept.items ++ blocks_of s.rolled_back.items) → s'.kept.items ≡ [] → s'.rolled_back.items ≡ [] → IsStock l w s'
@@ -156,4 +162,26 @@ stock_drained l u v s d more is all low = let t = stock_more l u v s more is in 
   left = t.left;
   drained = (all, low);
   rounds = t.rounds;
+  rows = t.rows;
+  none = t.none;
+}
+
+-- the hand was laid
+pub stock_laid : (l : Layout) (u v : Sight) (s : Stock) (h : Stock) (n : ℕ) → IsStock l u s → v ≡ record u { owned = v.owned; ruling = record u.ruling { hand = []; cursor = 1; free = n + 1; low = 0; high = 0 } } → n ≤ l.pool → h.hand.items ≡ [] → vec_capacity h.hand ≡ vec_capacity s.hand → IsStock l v record s { hand = h.hand; rows = n }
+stock_laid l u v s h n is same low empty room = subst (λ (z : Sight). IsStock l z record s { hand = h.hand; rows = n }) (sym same) record {
+  hand = subst (IsHand (record u { owned = v.owned; ruling = record u.ruling { hand = []; cursor = 1; free = n + 1; low = 0; high = 0 } }) l.pool) (sym empty) record { held = λ k a. absurd (omega arith); all = λ b e. absurd e; once = λ j k a. absurd (omega arith) };
+  old = record { each = λ k a. let t = is.old.each k a in record { fits = t.fits; kept = t.kept; placed = t.placed; rooted = t.rooted }; all = is.old.all };
+  old_once = is.old_once;
+  back = record { fits = is.back.fits; each = is.back.each; all = is.back.all };
+  back_once = is.back_once;
+  placed = is.placed;
+  few = let e = ap (λ (xs : List ℕ). length xs) empty in let f = is.few in omega arith;
+  room = let f = is.room in omega arith;
+  finished = is.finished;
+  early = is.early;
+  left = is.left;
+  drained = is.drained;
+  rounds = is.rounds;
+  rows = (refl, low);
+  none = omega arith;
 }

@@ -10,7 +10,9 @@ ghost use Rattle.mesh_table.specs.Told.{IsOf, Stays, sight};
 ghost use Rattle.table_rounds.specs.Patches.{StandsAt};
 ghost use Rattle.mesh_table.specs.Rounds.{counted_cursor};
 ghost use Rattle.table_rounds.specs.Kinds.{BlocksTold};
+ghost use Rattle.mesh_table.specs.Sights.{setup_at};
 ghost use Rattle.table_rounds.specs.Rows.{RowsFit};
+ghost use Rattle.table_rounds.specs.Stocks.{RoomTold};
 ghost use Rattle.table_rounds.specs.Versions.{Falls, IsRooted, LeadsTo, NamesLiving, NotesMore, TwoPlaces};
 
 use mesh_table::rule::MeshSeat;
@@ -101,4 +103,17 @@ pub fn look_drawn<'m>(table: &MeshTable<'m>, owner: &mut MeshSeat) -> u64
     ensures fits { RowsFit (sight owner.old) table.now.site.layout.pool result }
 {
     table.get::<Brand, ()>(owner, CURSOR, ())
+}
+
+/// A load of SEATS before a round, which tells how many free rows there are once all are laid.
+pub fn look_room<'m>(table: &MeshTable<'m>, owner: &mut MeshSeat)
+    requires fit { IsOf table.now.table.shared.table_id owner.old }
+    requires rules { (sight owner.old).kind ≡ Owner }
+    requires rests { (sight owner.old).ruling.phase ≡ Resting }
+    ensures stays { Stays owner.old owner.new }
+    ensures same { sight owner.new ≡ sight owner.old }
+    ensures told { RoomTold (setup_at table.now.site) (sight owner.old) table.now.site.layout.pool }
+    ensures few { (rows : ℕ) → (sight owner.old).ruling.free ≡ rows + 1 → rows ≤ table.now.site.layout.pool }
+{
+    table.get::<Brand, ()>(owner, SEATS, ());
 }

@@ -1,15 +1,17 @@
 //! The blocks that the owner has between rounds, and which of them become free.
-ghost use Rattle.std.specs.Prelude.{◌≡◌, ℕ, ◌+◌, ◌++◌, ◌≤◌, ◌⊎◌, false, length, map, true, vec_capacity};
+ghost use Rattle.std.specs.Prelude.{◌≡◌, ℕ, ◌+◌, ◌++◌, ◌≤◌, ◌⊎◌, [], false, length, map, true, vec_capacity};
 ghost use Rattle.table_words.specs.Views.{Owner, Resting};
 ghost use Rattle.mesh_table.specs.Rounds.{DrainedTo};
+ghost use Rattle.mesh_table.specs.Sights.{setup_at};
 ghost use Rattle.mesh_table.specs.Told.{IsOf, Stays, sight};
 ghost use Rattle.table_rounds.specs.Drained.{MoreDrained};
-ghost use Rattle.table_rounds.specs.Stocks.{AreDrained, IsStock, blocks_of};
+ghost use Rattle.table_rounds.specs.Stocks.{AreDrained, IsStock, RoomLeft, blocks_of};
 
 use crate::clearing::drained_rounds;
 use crate::freeing::{find_quiet, free_given_up, free_retired};
-use crate::looks::look_blocks;
+use crate::looks::{look_blocks, look_room};
 use crate::patch::Patch;
+use crate::rows::lay_rows;
 use mesh_table::rule::MeshSeat;
 use mesh_table::table::MeshTable;
 
@@ -22,6 +24,8 @@ pub struct Stock {
     pub kept: Vec<Patch>,
     pub rolled_back: Vec<Patch>,
     pub places: Vec<Patch>,
+    /// How many free rows there are.
+    pub rows: u32,
     /// The last finished round.
     pub finished: u32,
     /// How many readers' passes are out that were made before that round was finished.
@@ -175,4 +179,26 @@ pub fn reclaim<'m>(
         freed: (given_up - kept) as u32,
         kept: kept as u32,
     }
+}
+
+/// Lays the free blocks of the hand into rows before a round: how many free rows there are. They are
+/// the pool less the patches of the last forest and the blocks that were given up.
+pub fn open_rows<'m>(table: &MeshTable<'m>, owner: &mut MeshSeat, stock: &mut Stock) -> u32
+    requires fit { IsOf table.now.table.shared.table_id owner.old }
+    requires rules { (sight owner.old).kind ≡ Owner }
+    requires rests { (sight owner.old).ruling.phase ≡ Resting }
+    requires home { (sight owner.old).ruling.workers ≡ 0 }
+    requires stock { IsStock table.now.site.layout (sight owner.old) stock.old }
+    ensures stays { Stays owner.old owner.new }
+    ensures stock { IsStock table.now.site.layout (sight owner.new) stock.new }
+    ensures opened { sight owner.new ≡ record (sight owner.old) { owned = (sight owner.new).owned; ruling = record (sight owner.old).ruling { hand = []; cursor = 1; free = result + 1; low = 0; high = 0 } } }
+    ensures given { (stock.new.kept.items ≡ stock.old.kept.items) × (stock.new.rolled_back.items ≡ stock.old.rolled_back.items) }
+    ensures room { RoomLeft (setup_at table.now.site) (sight owner.new) table.now.site.layout.pool result (length stock.new.kept.items + length stock.new.rolled_back.items) }
+{
+    let rows = lay_rows(table, owner, &stock.hand, stock.rows);
+    look_blocks(table, owner);
+    look_room(table, owner);
+    stock.hand.clear();
+    stock.rows = rows;
+    rows
 }
