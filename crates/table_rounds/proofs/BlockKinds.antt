@@ -64,11 +64,11 @@ module _ (s : Setup) (w : Words) (n : ℕ) (v : Views) (g : Ghost) (r : Rule s w
   covering_rooted : (b x : ℕ) (t : Bool) → chained (g.life b) t ≡ x + 1 → 0 < w.born b → w.born b ≤ w.round → (w.died b ≡ 0) ⊎ (w.round < w.died b) → (x < s.elements) ⊎ ((p z i : ℕ) × (k c : Bool) × (x ≡ s.elements + 4 * p + 2 * digit k + digit c) × HasEntry v.ruling.placed (p, z, i))
   covering_rooted b x t c d l live = ⊎_elim (λ a. inl a.0)
       (λ a.
-          let p = a.0 in
-          let f = (r.names.fits w.round (inl (inl refl))).found (w.name (member_of p a.1)) p a.4 in
-          let q = placed (g.life p) f.0 f.1 f.3 in
-          let u = found_covers w.history w.born w.died g.life w.round f.1 p f.5.0 (w.head f.1) f.5.1 in
-          inr (p, q.0, q.1, a.1, a.2, a.3, ⊎_elim (λ h. h) (λ h. absurd (no_claim p q.0 q.1 h.0 h.1 h.2 h.3 q.2 u.0 u.1)) (r.known.noted p q.0 q.1 q.2)))
+      let p = a.0 in
+      let f = (r.names.fits w.round (inl (inl refl))).found (w.name (member_of p a.1)) p a.4 in
+      let q = placed (g.life p) f.0 f.1 f.3 in
+      let u = found_covers w.history w.born w.died g.life w.round f.1 p f.5.0 (w.head f.1) f.5.1 in
+      inr (p, q.0, q.1, a.1, a.2, a.3, ⊎_elim (λ h. h) (λ h. absurd (no_claim p q.0 q.1 h.0 h.1 h.2 h.3 q.2 u.0 u.1)) (r.known.noted p q.0 q.1 q.2)))
       (r.names.sound w.round (inl (inl refl)) b t x c (d, l, live)).1
 
 module _ (k : Site) (id i : ℕ) (me : Sat) (rules : me.0.kind ≡ Owner) where

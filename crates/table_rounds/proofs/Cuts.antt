@@ -223,15 +223,15 @@ module _ (pool : ℕ) (u v : Sight) (x : ℕ) (l : Node) (led : LedHead pool u v
         ⊎_elim (λ a. inl (subst (λ (z : Sight). HasEntry z.ruling.kept c) (sym still.same) a))
         (λ a. ⊎_elim (λ i. inr (inl (subst (λ (z : Sight). HasEntry z.ruling.rolled_back c) (sym still.same) i)))
         (λ i. inr (inr (
-            let same : b ≡ c = one_more b c (sym named ∙ i.0) in
-            let here : HasEntry v.ruling.placed (b, y, m) = subst (λ (z : ℕ). HasEntry v.ruling.placed (z, y, m)) (sym same) at in
-            let one = (known b y m here).1 in
-            let other = (known b stood.0 stood.1 stood.2).1 in
-            let y_is : stood.0 ≡ y = ap (λ (z : ℕ × ℕ × ℕ). z.1) (sym other ∙ one) in
-            let m_is : stood.1 ≡ m = ap (λ (z : ℕ × ℕ × ℕ). z.2) (sym other ∙ one) in
-            let st2 : stands (Placed y m) t ≡ x + 1 = subst (λ (z : ℕ × ℕ). stands (Placed z.0 z.1) t ≡ x + 1) (λ q. (y_is q, m_is q)) stood.3 in
-            let side : t ≡ s = led.two b y m x t s here st2 st in
-            subst (λ (z : ℕ × Bool). OldClear w z.0 z.1) (λ q. (same q, side q)) old))) a)
+        let same : b ≡ c = one_more b c (sym named ∙ i.0) in
+        let here : HasEntry v.ruling.placed (b, y, m) = subst (λ (z : ℕ). HasEntry v.ruling.placed (z, y, m)) (sym same) at in
+        let one = (known b y m here).1 in
+        let other = (known b stood.0 stood.1 stood.2).1 in
+        let y_is : stood.0 ≡ y = ap (λ (z : ℕ × ℕ × ℕ). z.1) (sym other ∙ one) in
+        let m_is : stood.1 ≡ m = ap (λ (z : ℕ × ℕ × ℕ). z.2) (sym other ∙ one) in
+        let st2 : stands (Placed y m) t ≡ x + 1 = subst (λ (z : ℕ × ℕ). stands (Placed z.0 z.1) t ≡ x + 1) (λ q. (y_is q, m_is q)) stood.3 in
+        let side : t ≡ s = led.two b y m x t s here st2 st in
+        subst (λ (z : ℕ × Bool). OldClear w z.0 z.1) (λ q. (same q, side q)) old))) a)
         (led.living c y m s at st),
   )
 

@@ -126,7 +126,7 @@ module _ (l : Layout) (v : Sight) (hand : List ℕ) (kept back : List Patch) (he
       let c = blocks_length kept in
       let d = blocks_length back in
       let e = few l.pool (hand ++ (blocks_of kept ++ blocks_of back)) once_all
-          (λ i h. ⊎_elim (λ k. (in_hand i k).1) (λ k. ⊎_elim (λ q. (in_kept i q).1) (λ q. (in_back i q).1) (entry_of_both (blocks_of kept) (blocks_of back) i k)) (entry_of_both hand (blocks_of kept ++ blocks_of back) i h)) in
+      (λ i h. ⊎_elim (λ k. (in_hand i k).1) (λ k. ⊎_elim (λ q. (in_kept i q).1) (λ q. (in_back i q).1) (entry_of_both (blocks_of kept) (blocks_of back) i k)) (entry_of_both hand (blocks_of kept ++ blocks_of back) i h)) in
       omega arith
 
   pub are_kept : AreKept v (blocks_of kept)

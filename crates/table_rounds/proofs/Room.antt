@@ -35,15 +35,15 @@ module _ (k : Site) (id i : ℕ) (me : Sat) (rules : me.0.kind ≡ Owner) where
       let many = rows_length w.cursor w.row (w.free - w.cursor) in
       let once = once_rows w.cursor w.row (w.free - w.cursor) (λ a b c d e q. r.claims.apart a b c (omega arith) e (omega arith)) in
       let told : RowsFit (f 0) k.layout.pool (get_or s.words i 0) = λ hand rows is free.
-          let held : (b : ℕ) → HasEntry hand b → HasEntry (f 0).ruling.hand b × (b < k.layout.pool) = λ b e. let t = index_find hand b e in subst (λ (c : ℕ). HasEntry (f 0).ruling.hand c × (c < k.layout.pool)) (sym t.2) (is.held t.0 t.1) in
-          let hands = once_list hand is.once in
-          let count = length-append hand undrawn in
-          let all = few k.layout.pool (hand ++ undrawn) (once_append hand undrawn hands once (λ b a c. let t = row_of w.cursor w.row (w.free - w.cursor) b c in let m = t.2 in r.frees.hand_rows b (held b a).0 (t.0, t.1, (omega arith), t.3)))
-              (λ b a. ⊎_elim (λ c. (held b c).1) (λ c. let t = row_of w.cursor w.row (w.free - w.cursor) b c in let m = t.2 in let low = r.inside.rows t.0 (omega arith) in let e = t.3 in omega arith) (entry_of_both hand undrawn b a)) in
-          let only = few k.layout.pool hand hands (λ b a. (held b a).1) in
-          let is_free : w.free ≡ rows = r.stock.free_is rows free in
-          let is_drawn = here in
-          (omega arith, only) in (
+      let held : (b : ℕ) → HasEntry hand b → HasEntry (f 0).ruling.hand b × (b < k.layout.pool) = λ b e. let t = index_find hand b e in subst (λ (c : ℕ). HasEntry (f 0).ruling.hand c × (c < k.layout.pool)) (sym t.2) (is.held t.0 t.1) in
+      let hands = once_list hand is.once in
+      let count = length-append hand undrawn in
+      let all = few k.layout.pool (hand ++ undrawn) (once_append hand undrawn hands once (λ b a c. let t = row_of w.cursor w.row (w.free - w.cursor) b c in let m = t.2 in r.frees.hand_rows b (held b a).0 (t.0, t.1, (omega arith), t.3)))
+      (λ b a. ⊎_elim (λ c. (held b c).1) (λ c. let t = row_of w.cursor w.row (w.free - w.cursor) b c in let m = t.2 in let low = r.inside.rows t.0 (omega arith) in let e = t.3 in omega arith) (entry_of_both hand undrawn b a)) in
+      let only = few k.layout.pool hand hands (λ b a. (held b a).1) in
+      let is_free : w.free ≡ rows = r.stock.free_is rows free in
+      let is_drawn = here in
+      (omega arith, only) in (
         u,
         w,
         _,
@@ -60,10 +60,10 @@ module _ (k : Site) (id i : ℕ) (me : Sat) (rules : me.0.kind ≡ Owner) where
       let r = h.lawful.1 in
       let rest : (f 0).ruling.phase ≡ Resting = ap (λ (z : Sight). z.ruling.phase) same ∙ rests in
       let told : RoomTold (setup_at k) (f 0) k.layout.pool = λ rows stay none stopped drawn free once_s same_s names firsts at once_f same_f.
-          let is_free : w.free ≡ rows = r.stock.free_is rows free in
-          let is_drawn : w.cursor ≡ 0 = (r.stock.cursor_is 0 drawn).1 in
-          let e = patches_counted (setup_at k) w (length s.views) (views_of f) h.lawful rest none stopped (omega arith) names firsts stay (subst (λ (q : ℕ). EntryAt (f 0).ruling.history q names) r.stock.finished at) once_f same_f once_s same_s in
-          omega arith in (
+      let is_free : w.free ≡ rows = r.stock.free_is rows free in
+      let is_drawn : w.cursor ≡ 0 = (r.stock.cursor_is 0 drawn).1 in
+      let e = patches_counted (setup_at k) w (length s.views) (views_of f) h.lawful rest none stopped (omega arith) names firsts stay (subst (λ (q : ℕ). EntryAt (f 0).ruling.history q names) r.stock.finished at) once_f same_f once_s same_s in
+      omega arith in (
         f 0,
         w,
         views_of f,

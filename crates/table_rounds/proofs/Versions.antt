@@ -139,28 +139,28 @@ module _ (k : Site) (id i : ℕ) (me : Sat) (rules : me.0.kind ≡ Owner) where
       ⊎_elim
       (λ e. (u, w, one, kept_words k id i me rules s, in_owned f 0 u refl refl refl refl refl, law, (refl, more, inl (refl, here), inl (sym here ∙ e), named, two)))
       (λ t.
-          let b = t.0 in
-          let c = in_chain (setup_at k) w (length s.views) v g r rest b x t.1 t.3 in
-          let p = placed (g.life b) t.1 x t.3 in
-          let died : w.died b ≡ l.died = head_died (setup_at k) w (length s.views) v g r rest b x p.0 p.1 p.2 t.4 t.5 ∙ ap (λ (o : Node). o.died) here in
-          let u2 : Sight = noted_died u b (w.died b) in
-          let two_ : Views = record v { owned = update one.owned 0 u2.owned } in
-          let more2 : NotesMore u u2 = more_died u b (w.died b) (λ o e. (r.owned 0).died_is b o e (inl (refl, at_home))) in (
-            u2,
-            w,
-            two_,
-            kept_words k id i me rules s,
-            in_owned f 0 u2 refl refl refl refl refl ∙ (λ q. record v { owned = sym (twice v.owned 0 u.owned u2.owned) q }),
-            steps_keep (setup_at k) (state w (length s.views) one) (state w (length s.views) two_) (ByLoadDied (0, b, refl)) law,
-            (
-              refl,
-              more_on me.0 u u2 more more2,
-              inl (refl, here),
-              inr (b, sym (ap (λ (o : Node). o.block) here) ∙ t.2, c.0, c.1, c.2, inl (refl, died), (λ d. let y = c.3 (let a = died in omega arith) in (y.0, let a = died in let q = y.1 in omega arith)), λ d. c.4 (died ∙ d)),
-              named,
-              two,
-            ),
-          ))
+      let b = t.0 in
+      let c = in_chain (setup_at k) w (length s.views) v g r rest b x t.1 t.3 in
+      let p = placed (g.life b) t.1 x t.3 in
+      let died : w.died b ≡ l.died = head_died (setup_at k) w (length s.views) v g r rest b x p.0 p.1 p.2 t.4 t.5 ∙ ap (λ (o : Node). o.died) here in
+      let u2 : Sight = noted_died u b (w.died b) in
+      let two_ : Views = record v { owned = update one.owned 0 u2.owned } in
+      let more2 : NotesMore u u2 = more_died u b (w.died b) (λ o e. (r.owned 0).died_is b o e (inl (refl, at_home))) in (
+        u2,
+        w,
+        two_,
+        kept_words k id i me rules s,
+        in_owned f 0 u2 refl refl refl refl refl ∙ (λ q. record v { owned = sym (twice v.owned 0 u.owned u2.owned) q }),
+        steps_keep (setup_at k) (state w (length s.views) one) (state w (length s.views) two_) (ByLoadDied (0, b, refl)) law,
+        (
+          refl,
+          more_on me.0 u u2 more more2,
+          inl (refl, here),
+          inr (b, sym (ap (λ (o : Node). o.block) here) ∙ t.2, c.0, c.1, c.2, inl (refl, died), (λ d. let y = c.3 (let a = died in omega arith) in (y.0, let a = died in let q = y.1 in omega arith)), λ d. c.4 (died ∙ d)),
+          named,
+          two,
+        ),
+      ))
       (r.chains.heads x place))
 
   pub looks_older : (b : ℕ) (t : Bool) (x : ℕ) → i ≡ address k.layout (OfBlock b (HistoryOf t)) → b < k.layout.pool → me.0.ruling.phase ≡ Resting → ((y m : ℕ) × HasEntry me.0.ruling.placed (b, y, m) × (stands (Placed y m) t ≡ x + 1)) → (slots : ℕ) → Allows (Holds k) slots id me i (λ n. n) (older_told k.layout.pool b t x me)
@@ -181,38 +181,38 @@ module _ (k : Site) (id i : ℕ) (me : Sat) (rules : me.0.kind ≡ Owner) where
       let law = by_step k id i me rules s h w one (ByLoadHistory (0, member_of b t, refl)) in
       let more : NotesMore me.0 u = subst (λ (z : Sight). NotesMore z u) same (more_history (f 0) (member_of b t) (w.history (member_of b t)) (λ o e. (r.owned 0).history_is b t o e (inl (refl, at_home)))) in
       let born : (HasEntry me.0.ruling.rolled_back b → ⊥) → (d : ℕ) → Noted me.0.owned.died b d → 0 < d → (w.died b ≡ d) × (0 < w.born b) × (w.born b < d) = λ not d e pos.
-          let is : w.died b ≡ d = (r.owned 0).died_is b d (subst (λ (z : Sight). Noted z.owned.died b d) (sym same) e) (inl (refl, at_home)) in
-          ⊎_elim
-          (λ q. let a = r.chains.dieds b stood.0 stood.1 q (omega arith) in (is, a.0, (let c = a.1 in omega arith)))
-          (λ q. absurd (not (subst (λ (z : Sight). HasEntry z.ruling.rolled_back b) same (r.note.all b stood.0 stood.1 q)))) (r.note.placed b stood.0 stood.1 at) in
+      let is : w.died b ≡ d = (r.owned 0).died_is b d (subst (λ (z : Sight). Noted z.owned.died b d) (sym same) e) (inl (refl, at_home)) in
+      ⊎_elim
+      (λ q. let a = r.chains.dieds b stood.0 stood.1 q (omega arith) in (is, a.0, (let c = a.1 in omega arith)))
+      (λ q. absurd (not (subst (λ (z : Sight). HasEntry z.ruling.rolled_back b) same (r.note.all b stood.0 stood.1 q)))) (r.note.placed b stood.0 stood.1 at) in
       ⊎_elim
       (λ e.
-          let none : l ≡ node 0 0 = sym here ∙ e in
-          (u, w, one, kept_words k id i me rules s, in_owned f 0 u refl refl refl refl refl, law, (refl, more, inl (refl, here), inl none, inl none, (λ not d o pos. let a = ap (λ (q : Node). q.died) none in omega arith))))
+      let none : l ≡ node 0 0 = sym here ∙ e in
+      (u, w, one, kept_words k id i me rules s, in_owned f 0 u refl refl refl refl refl, law, (refl, more, inl (refl, here), inl none, inl none, (λ not d o pos. let a = ap (λ (q : Node). q.died) none in omega arith))))
       (λ o.
-          let c = o.0 in
-          let q = in_chain (setup_at k) w (length s.views) v g r rest c x o.1 o.3 in
-          let is : l ≡ node (c + 1) (w.died c) = sym here ∙ o.2 in
-          let died : w.died c ≡ l.died = sym (ap (λ (a : Node). a.died) is) in
-          let u2 : Sight = noted_died u c (w.died c) in
-          let two_ : Views = record v { owned = update one.owned 0 u2.owned } in
-          let more2 : NotesMore u u2 = more_died u c (w.died c) (λ a e. (r.owned 0).died_is c a e (inl (refl, at_home))) in
-          let pos : 0 < w.died c = o.4 in (
-            u2,
-            w,
-            two_,
-            kept_words k id i me rules s,
-            in_owned f 0 u2 refl refl refl refl refl ∙ (λ a. record v { owned = sym (twice v.owned 0 u.owned u2.owned) a }),
-            steps_keep (setup_at k) (state w (length s.views) one) (state w (length s.views) two_) (ByLoadDied (0, c, refl)) law,
-            (
-              refl,
-              more_on me.0 u u2 more more2,
-              inl (refl, here),
-              inr (c, ap (λ (a : Node). a.block) is, q.0, q.1, q.2, inl (refl, died), (λ d. let y = q.3 pos in (y.0, let a = died in let e = y.1 in omega arith)), λ d. absurd (omega arith)),
-              inr (omega arith),
-              λ not d e some_. let a = born not d e some_ in let lower = o.5 a.1 in let a2 = a.2 in omega arith,
-            ),
-          ))
+      let c = o.0 in
+      let q = in_chain (setup_at k) w (length s.views) v g r rest c x o.1 o.3 in
+      let is : l ≡ node (c + 1) (w.died c) = sym here ∙ o.2 in
+      let died : w.died c ≡ l.died = sym (ap (λ (a : Node). a.died) is) in
+      let u2 : Sight = noted_died u c (w.died c) in
+      let two_ : Views = record v { owned = update one.owned 0 u2.owned } in
+      let more2 : NotesMore u u2 = more_died u c (w.died c) (λ a e. (r.owned 0).died_is c a e (inl (refl, at_home))) in
+      let pos : 0 < w.died c = o.4 in (
+        u2,
+        w,
+        two_,
+        kept_words k id i me rules s,
+        in_owned f 0 u2 refl refl refl refl refl ∙ (λ a. record v { owned = sym (twice v.owned 0 u.owned u2.owned) a }),
+        steps_keep (setup_at k) (state w (length s.views) one) (state w (length s.views) two_) (ByLoadDied (0, c, refl)) law,
+        (
+          refl,
+          more_on me.0 u u2 more more2,
+          inl (refl, here),
+          inr (c, ap (λ (a : Node). a.block) is, q.0, q.1, q.2, inl (refl, died), (λ d. let y = q.3 pos in (y.0, let a = died in let e = y.1 in omega arith)), λ d. absurd (omega arith)),
+          inr (omega arith),
+          λ not d e some_. let a = born not d e some_ in let lower = o.5 a.1 in let a2 = a.2 in omega arith,
+        ),
+      ))
       (r.chains.histories b t x st))
     where
       inside : (t : Bool) → member_of b t < 2 * k.layout.pool

@@ -154,11 +154,7 @@ fn free_drained<'m>(table: &MeshTable<'m>, owner: &mut MeshSeat, stock: &mut Sto
 /// Frees blocks that were given up, before a round: none while a pin is out of a round before the
 /// last finished one; else all that were retired, and all that were rolled back where no pin of that
 /// round is out either. It takes no memory.
-pub fn reclaim<'m>(
-    table: &MeshTable<'m>,
-    owner: &mut MeshSeat,
-    stock: &mut Stock,
-) -> Reclaimed
+pub fn reclaim<'m>(table: &MeshTable<'m>, owner: &mut MeshSeat, stock: &mut Stock) -> Reclaimed
     requires fit { IsOf table.now.table.shared.table_id owner.old }
     requires rules { (sight owner.old).kind ≡ Owner }
     requires rests { (sight owner.old).ruling.phase ≡ Resting }

@@ -149,12 +149,7 @@ pub fn lead_older<'m>(
 
 /// Clears a place of a retired block: its LINK word, and the HISTORY word of the block that is not
 /// retired there.
-pub fn sweep_place<'m>(
-    table: &MeshTable<'m>,
-    owner: &mut MeshSeat,
-    places: &[Patch],
-    at: ElemAt,
-)
+pub fn sweep_place<'m>(table: &MeshTable<'m>, owner: &mut MeshSeat, places: &[Patch], at: ElemAt)
     requires fit { IsOf table.now.table.shared.table_id owner.old }
     requires may { MaySweep table.now.site.layout (sight owner.old) places.now }
     requires place { IsElemAt table.now.site.layout at }
@@ -192,12 +187,7 @@ pub fn sweep_second<'m>(
 }
 
 /// Clears the places of a retired block, and loads its DIED.
-pub fn sweep_block<'m>(
-    table: &MeshTable<'m>,
-    owner: &mut MeshSeat,
-    places: &[Patch],
-    patch: Patch,
-)
+pub fn sweep_block<'m>(table: &MeshTable<'m>, owner: &mut MeshSeat, places: &[Patch], patch: Patch)
     requires fit { IsOf table.now.table.shared.table_id owner.old }
     requires may { MaySweep table.now.site.layout (sight owner.old) places.now }
     requires old { IsOld table.now.site.layout (sight owner.old) patch }
@@ -211,12 +201,7 @@ pub fn sweep_block<'m>(
 }
 
 /// Clears the places of all retired blocks.
-pub fn sweep_all<'m>(
-    table: &MeshTable<'m>,
-    owner: &mut MeshSeat,
-    places: &[Patch],
-    kept: &[Patch],
-)
+pub fn sweep_all<'m>(table: &MeshTable<'m>, owner: &mut MeshSeat, places: &[Patch], kept: &[Patch])
     requires fit { IsOf table.now.table.shared.table_id owner.old }
     requires may { MaySweep table.now.site.layout (sight owner.old) places.now }
     requires old { AreOld table.now.site.layout (sight owner.old) kept.now }
@@ -229,12 +214,7 @@ pub fn sweep_all<'m>(
 }
 
 /// Clears the HISTORY words of a block that was rolled back and stays.
-pub fn clear_words<'m>(
-    table: &MeshTable<'m>,
-    owner: &mut MeshSeat,
-    places: &[Patch],
-    patch: Patch,
-)
+pub fn clear_words<'m>(table: &MeshTable<'m>, owner: &mut MeshSeat, places: &[Patch], patch: Patch)
     requires fit { IsOf table.now.table.shared.table_id owner.old }
     requires may { MaySweep table.now.site.layout (sight owner.old) places.now }
     requires fits { IsPatch table.now.site.layout patch }

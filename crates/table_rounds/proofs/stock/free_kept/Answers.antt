@@ -15,7 +15,7 @@ free_retired-requires-clause-blocks c =
     let all : c.deref-5.result.now ≡ s.hand.items ++ blocks_of s.kept.items = c.deref-5.ensures.value ∙ c.add_blocks.ensures.items ∙ (λ t. s.hand.items ++ blocks_of (c.deref.ensures.value t)) in
     let slice = slice_is c.deref-5.result.now s.hand.items (blocks_of s.kept.items) c.len-start.result all start in
     subst (λ (z : Sight × List ℕ). AreKept z.0 z.1) (λ t. (sym c.look_blocks.ensures.same t, sym slice t))
-        (are_kept c.args.table.now.site.layout (sight c.args.owner.now) s.hand.items s.kept.items s.rolled_back.items is.hand is.old is.old_once is.back is.back_once c.look_blocks.ensures.told)
+    (are_kept c.args.table.now.site.layout (sight c.args.owner.now) s.hand.items s.kept.items s.rolled_back.items is.hand is.old is.old_once is.back is.back_once c.look_blocks.ensures.told)
 
 pub returns-clause-stock : goal.returns-clause-stock
 returns-clause-stock c =
