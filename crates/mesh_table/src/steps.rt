@@ -29,8 +29,8 @@ impl<B: Tells> Play<(), View> for Told<B> {
 
 // What a call is asked, only the pick of what it tells reads.
 impl<'m> MeshTable<'m> {
-    /// Loads a word.
-    pub(crate) fn get<B: Tells, A: Copy>(&self, seat: &mut MeshSeat, index: usize, asked: A) -> u64
+    /// Loads a word: what the load tells is what `tells` says of the words before it.
+    pub fn get<B: Tells, A: Copy>(&self, seat: &mut MeshSeat, index: usize, asked: A) -> u64
         requires fit { IsOf self.now.table.shared.table_id seat.old }
         requires within { index < word_count self.now.site.layout }
         requires allowed { (slots : ℕ) → Allows (Holds self.now.site) slots seat.old.id seat.old.me index (λ n. n) (B.tells seat.old.me) }

@@ -64,6 +64,13 @@ impl<'m> MeshTable<'m> {
         Ok((MeshTable { table, site }, owner))
     }
 
+    /// How the words lie.
+    pub fn layout(&self) -> Layout
+        ensures { result ≡ self.now.site.layout }
+    {
+        self.site.layout
+    }
+
     /// The mesh.
     pub fn mesh(&self) -> &MacroMesh
         ensures { result.now ≡ self.now.site.mesh.now }

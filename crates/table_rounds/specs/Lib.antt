@@ -3,3 +3,7 @@ pub mod Refusals
 pub mod Rows
 pub mod Freed
 pub mod Drained
+pub mod Versions
+pub mod Sweeps
+pub mod Kinds
+pub mod Stocks

@@ -5,7 +5,8 @@ use Rattle.table_words.specs.Setup.{Setup}
 use Rattle.table_state.specs.Lists.{IsTarget}
 use Rattle.table_words.specs.Views.{Owner, Resting, Plan}
 use Rattle.mesh_table.specs.Sights.{Sight}
-use Rattle.mesh_table.specs.Rounds.{noted_born, noted_row}
+use Rattle.mesh_table.specs.Holds.{Sat}
+use Rattle.mesh_table.specs.Rounds.{counted_cursor, noted_born, noted_row}
 
 -- the view with a block in a row
 abbrev pub laid : Sight → ℕ → ℕ → Sight
@@ -38,6 +39,13 @@ pub record IsHand (v : Sight) (pool : ℕ) (hand : List ℕ) : Type 0 where
   pub held : (k : ℕ) → k < length hand → HasEntry v.ruling.hand (slice_index hand k) × (slice_index hand k < pool)
   pub all : (b : ℕ) → HasEntry v.ruling.hand b → (k : ℕ) × (k < length hand) × (b ≡ slice_index hand k)
   pub once : (j k : ℕ) → j < length hand → k < length hand → slice_index hand j ≡ slice_index hand k → j ≡ k
+
+-- with this CURSOR the hand and the rows that were not drawn are no more blocks than the pool has
+abbrev pub RowsFit : Sight → ℕ → ℕ → Type 0
+RowsFit v pool drawn = (hand : List ℕ) (rows : ℕ) → IsHand v pool hand → v.ruling.free ≡ rows + 1 → (length hand + rows ≤ pool + drawn) × (length hand ≤ pool)
+
+abbrev pub drawn_told : ℕ → Sat → ℕ → Sat → Type 0
+drawn_told pool m n m' = (m'.1 ≡ m.1) × (m'.0 ≡ counted_cursor m.0 n) × RowsFit m.0 pool n
 
 -- the rows below `next` are laid, and the stock ends at `high`; while there is a stock, `next` is the counter
 pub record StockTo (u v : Sight) (hand : List ℕ) (low rows next top counter : ℕ) : Type 0 where

@@ -25,6 +25,7 @@ pub fn drained_rounds<'m>(
     ensures more { MoreDrained (sight owner.old) (sight owner.new) }
     ensures drained { AllDrained (sight owner.new) result }
     ensures on { from ≤ result }
+    ensures within { result ≤ length left.now }
 {
     for round in from..left.len() as u32 {
         let pins = left[round as usize];

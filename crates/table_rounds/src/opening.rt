@@ -24,7 +24,6 @@ pub fn begin_round<'m, B: Plans>(
     requires free { ((sight owner.old).ruling.free ≡ rows + 1) × (rows ≤ table.now.site.layout.pool) }
     requires stock { (sight owner.old).ruling.high ≤ (sight owner.old).ruling.low }
     requires hand { IsHand (sight owner.old) table.now.site.layout.pool hand.now }
-    requires room { length hand.now + rows ≤ table.now.site.layout.pool }
     ensures stays { Stays owner.old owner.new }
     ensures begun { sight owner.new ≡ record (sight owner.old) { work = idle; owned = (sight owner.new).owned; ruling = record (sight owner.old).ruling { phase = FirstHalf; plan = B.plan; hand = []; cursor = 0; free = result + 1; low = 0; high = 0 } } }
 {

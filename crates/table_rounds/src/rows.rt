@@ -7,6 +7,7 @@ ghost use Rattle.mesh_table.specs.Rounds.{MayLay, MayOpen, MayTake, MayZero, tak
 ghost use Rattle.mesh_table.specs.Told.{IsOf, Stays, sight};
 ghost use Rattle.table_rounds.specs.Rows.{IsHand, IsShut, RowsLaid, laid};
 
+use crate::looks::look_drawn;
 use mesh_table::rule::MeshSeat;
 use mesh_table::table::MeshTable;
 
@@ -156,11 +157,10 @@ pub fn lay_rows<'m>(table: &MeshTable<'m>, owner: &mut MeshSeat, hand: &[u32], r
     requires free { ((sight owner.old).ruling.free ≡ rows + 1) × (rows ≤ table.now.site.layout.pool) }
     requires stock { (sight owner.old).ruling.high ≤ (sight owner.old).ruling.low }
     requires hand { IsHand (sight owner.old) table.now.site.layout.pool hand.now }
-    requires room { length hand.now + rows ≤ table.now.site.layout.pool }
     ensures stays { Stays owner.old owner.new }
     ensures opened { sight owner.new ≡ record (sight owner.old) { owned = (sight owner.new).owned; ruling = record (sight owner.old).ruling { hand = []; cursor = 1; free = result + 1; low = 0; high = 0 } } }
 {
-    let drawn = table.count_drawn(owner);
+    let drawn = look_drawn(table, owner);
     let low = low_of(drawn, rows);
     table.stop(owner, drawn, u64::from(rows));
     table.rewind(owner);

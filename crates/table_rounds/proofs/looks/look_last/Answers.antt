@@ -1,0 +1,16 @@
+use Rattle.std.proofs.Common.{◌≡◌, ◌<◌, ap, ◌∙◌, arith}
+use Rattle.table_words.specs.declared.layout.Layout.{Layout}
+use Rattle.table_words.specs.Layout.{OfBlock, Died, address, word_count}
+use Rattle.table_words.proofs.WordPlaces.{words_within}
+use Rattle.table_rounds.proofs.Versions.{looks_last}
+use Rattle.table_rounds.proofs.looks.look_last.Goals as goal
+
+pub get-requires-clause-within : goal.get-requires-clause-within
+get-requires-clause-within c =
+    let l = c.args.table.now.site.layout in
+    let inside : address l (OfBlock c.args.block Died) < word_count l = words_within l (OfBlock c.args.block Died) c.requires.block in
+    let lies : c.died.result ≡ address l (OfBlock c.args.block Died) = c.died.ensures ∙ ap (λ (y : Layout). address y (OfBlock c.args.block Died)) c.layout.ensures in
+    omega arith
+
+pub get-requires-clause-allowed : goal.get-requires-clause-allowed
+get-requires-clause-allowed c = looks_last c.args.table.now.site _ _ c.args.owner.now.me c.requires.rules c.args.block (c.died.ensures ∙ ap (λ (y : Layout). address y (OfBlock c.args.block Died)) c.layout.ensures) c.requires.block c.requires.rests

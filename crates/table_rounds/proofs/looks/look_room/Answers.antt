@@ -1,0 +1,10 @@
+use Rattle.table_words.specs.Layout.{Seats}
+use Rattle.table_words.proofs.WordPlaces.{words_within}
+use Rattle.table_rounds.proofs.Room.{looks_room}
+use Rattle.table_rounds.proofs.looks.look_room.Goals as goal
+
+pub get-requires-clause-within : goal.get-requires-clause-within
+get-requires-clause-within c = words_within c.args.table.now.site.layout Seats tt
+
+pub get-requires-clause-allowed : goal.get-requires-clause-allowed
+get-requires-clause-allowed c = looks_room c.args.table.now.site _ _ c.args.owner.now.me c.requires.rules c.requires.rests
