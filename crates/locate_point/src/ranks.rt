@@ -54,5 +54,8 @@ pub(crate) fn is_at(names: &[ElemName], rank: usize, name: ElemName) -> bool
     requires rank { IsRank names.now name rank }
     ensures { IsTrue result ↔ Contains names.now name }
 {
-    rank < names.len() && names[rank] == name
+    if rank >= names.len() {
+        return false;
+    }
+    names[rank] == name
 }
