@@ -80,12 +80,12 @@ impl Cells {
         let mut starts = Vec::new(alloc);
         let mut numbers = Vec::new(alloc);
         for pair in &pairs {
-            while starts.len() <= pair.0 {
+            for _ in starts.len()..pair.0.saturating_add(1) {
                 starts.push(length(&numbers))?;
             }
             numbers.push(pair.1)?;
         }
-        while starts.len() <= row.wrapping_mul(row) {
+        for _ in starts.len()..row.wrapping_mul(row).saturating_add(1) {
             starts.push(length(&numbers))?;
         }
         Ok(Cells {

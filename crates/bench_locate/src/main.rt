@@ -99,7 +99,18 @@ fn triangles(alloc: Global, mesh: &MacroMesh, leaves: &[ElemName]) -> Result<Vec
     Ok(triangles)
 }
 
-// By plain cells, five times: as many cells as leaves.
+// How many cells stand in a row, for so many leaves: a power of 2, at most 1,024.
+fn row_of(count: usize) -> usize {
+    let mut row: usize = 1;
+    for _ in 0..10 {
+        if row.saturating_mul(row) < count {
+            row = row.saturating_mul(2);
+        }
+    }
+    row
+}
+
+// By plain cells, five times: about as many cells as leaves.
 fn time_cells(
     rt: &HostRuntime,
     alloc: Global,
@@ -108,11 +119,8 @@ fn time_cells(
     case: Case,
 ) -> Result<Timed> {
     let mut timed = Timed::first();
-    let mut row = 1;
-    while row < 1024 && row * row < leaves.len() {
-        row *= 2;
-    }
-    let width = u64::from(case.side).saturating_mul(UNIT) / row as u64;
+    let row = row_of(leaves.len());
+    let width = u64::from(case.side).saturating_mul(UNIT) / (row as u64).max(1);
     for _ in 0..5 {
         let start = Instant::now(rt)?;
         let triangles = triangles(alloc, mesh, leaves)?;

@@ -62,9 +62,9 @@ fn tell_leaves<R: Threads + Print + Sync>(
 // Refines a domain at its corner in five steps: the values of a step, and then its marks, make two rounds.
 fn take_corner<R: Threads + Print + Sync>(rt: &R, alloc: Global, domain: &str) -> Result<()> {
     let mut marks = "round,what,where,number\n".to_string(alloc)?;
-    for round in [1, 3, 5, 7, 9] {
-        marks = step(rt, alloc, domain, marks.as_str(), round)?;
-        tell_leaves(rt, alloc, domain, marks.as_str(), round + 2)?;
+    for number in 0..5 {
+        marks = step(rt, alloc, domain, marks.as_str(), 2 * number + 1)?;
+        tell_leaves(rt, alloc, domain, marks.as_str(), 2 * number + 3)?;
     }
     Ok(())
 }
