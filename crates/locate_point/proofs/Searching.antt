@@ -60,11 +60,11 @@ module _ (list : List Name) (sorted : IsStrictlySortedBy name_cmp list) (n : Nam
   earlier_half middle x inside at less = record {
     within = omega (arith, inside);
     before = λ k d below.
-    let here : name_cmp (get_or list middle d) n ≡ Less = subst (λ (y : Name). name_cmp y n ≡ Less) (at ∙ get_or_default list middle x d inside) (less_from (name_cmp x n) less) in
-    ⊎_elim
-    (λ (lt : k < middle). name_cmp_total.trans (get_or list k d) (get_or list middle d) n (Less-from_sorted name_cmp list k middle d sorted lt inside) here)
-    (λ (ge : middle ≤ k). let same : middle ≡ k = omega (arith, ge, below) in subst (λ (i : ℕ). name_cmp (get_or list i d) n ≡ Less) same here)
-    (cases_lt k middle);
+        let here : name_cmp (get_or list middle d) n ≡ Less = subst (λ (y : Name). name_cmp y n ≡ Less) (at ∙ get_or_default list middle x d inside) (less_from (name_cmp x n) less) in
+        ⊎_elim
+        (λ (lt : k < middle). name_cmp_total.trans (get_or list k d) (get_or list middle d) n (Less-from_sorted name_cmp list k middle d sorted lt inside) here)
+        (λ (ge : middle ≤ k). let same : middle ≡ k = omega (arith, ge, below) in subst (λ (i : ℕ). name_cmp (get_or list i d) n ≡ Less) same here)
+        (cases_lt k middle);
   }
 
   -- the name at a place of the list does not come before the name, and none after it

@@ -1,4 +1,4 @@
-use Rattle.std.proofs.Common.{sym, ◌∙◌}
+use Rattle.std.proofs.Common.{sym}
 use Rattle.std.proofs.lemmas.Bool.{true≢false}
 use Rattle.locate_point.proofs.Searching.{found_at_rank, past_all}
 use Rattle.locate_point.proofs.ranks.is_at.Goals as goal

@@ -1,6 +1,5 @@
-use Rattle.std.proofs.Common.{◌≡◌, ◌+◌, ◌-◌, ◌<◌, ◌≤◌, length, arith, sym, ◌∙◌, subst}
+use Rattle.std.proofs.Common.{◌+◌, ◌-◌, ◌<◌, length, arith, sym, ◌∙◌}
 use Rattle.mesh_names.specs.Names.{name_cmp}
-use Rattle.locate_point.specs.Ranks.{AreBefore}
 use Rattle.locate_point.proofs.Searching.{earlier_half, later_half, less_from_not_ge, not_less_from_ge}
 use Rattle.locate_point.proofs.ranks.part_with_rank.Goals as goal
 

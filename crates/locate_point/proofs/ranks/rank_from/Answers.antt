@@ -1,4 +1,4 @@
-use Rattle.std.proofs.Common.{◌≡◌, ◌+◌, ◌-◌, ◌/◌, ◌<◌, length, arith, sym, ◌∙◌}
+use Rattle.std.proofs.Common.{◌+◌, ◌-◌, ◌/◌, ◌<◌, length, arith, sym, ◌∙◌}
 use Rattle.mesh_names.specs.Names.{name_cmp}
 use Rattle.locate_point.proofs.Searching.{earlier_half, later_half, not_less_from_not_lt}
 use Rattle.locate_point.proofs.ranks.rank_from.Goals as goal
