@@ -12,7 +12,7 @@ fn name_of(number: u32) -> ElemName {
 }
 
 /// So many leaves, in the order of names.
-pub fn leaves(alloc: Global, count: u32) -> Result<Vec<(ElemName, i64)>> {
+pub fn make_leaves(alloc: Global, count: u32) -> Result<Vec<(ElemName, i64)>> {
     let mut leaves = Vec::new(alloc);
     let mut state: u64 = 1;
     for number in 0..count {

@@ -1,14 +1,15 @@
 //! Bulk marking of leaves by their values, beside a sort of as many pairs of a size and a number.
 //!
-//! With no argument there are 2,000 leaves, and what is chosen is printed. With a number of leaves
-//! there are so many, and the times and their ratio are printed too.
+//! With no argument there are 2,000 leaves, and what is chosen is printed; and then one leaf more than a
+//! marks file has rows, of which those with a value are chosen. With a number of leaves there are so many,
+//! and the times and their ratio are printed too.
 #![tactic(auto)]
 
 mod leaves;
 
 use anyhow::{Result, anyhow};
-use leaves::{in_order, leaves};
-use mark_strategy::{Share, mark_bulk};
+use leaves::{in_order, make_leaves};
+use mark_strategy::{Share, mark_bulk, mark_max};
 use mesh_names::name::ElemName;
 use std::alloc::Global;
 use std::env;
@@ -30,6 +31,15 @@ fn chosen(alloc: Global, leaves: &[(ElemName, i64)]) -> Result<usize> {
         return Err(anyhow!("not in order"));
     }
     let names = mark_bulk(alloc, leaves, half).map_err(|_| anyhow!("out of memory"))?;
+    Ok(names.len())
+}
+
+// How many leaves have a value other than 0.
+fn valued(alloc: Global, leaves: &[(ElemName, i64)]) -> Result<usize> {
+    let Some(none) = Share::new(0, 1) else {
+        return Err(anyhow!("no share"));
+    };
+    let names = mark_max(alloc, leaves, none).map_err(|_| anyhow!("out of memory"))?;
     Ok(names.len())
 }
 
@@ -74,7 +84,7 @@ fn main(rt: HostRuntime) -> Result<()> {
         Some(word) => Some(word.parse::<u32>()?),
         None => None,
     };
-    let leaves = leaves(alloc, size.unwrap_or(2_000))?;
+    let leaves = make_leaves(alloc, size.unwrap_or(2_000))?;
     let count = leaves.len();
     let chosen = chosen(alloc, leaves.as_slice())?;
     println!(rt; "{count} leaves, {chosen} have half of the whole")?;
@@ -84,6 +94,11 @@ fn main(rt: HostRuntime) -> Result<()> {
         let rival = times.rival;
         let percent = strategy.saturating_mul(100) / rival.max(1);
         println!(rt; "bulk {strategy} us, sort {rival} us: {percent} %")?;
+    } else {
+        let many = make_leaves(alloc, 1_048_577)?;
+        let count = many.len();
+        let valued = valued(alloc, many.as_slice())?;
+        println!(rt; "{count} leaves, {valued} have a value")?;
     }
     Ok(())
 }

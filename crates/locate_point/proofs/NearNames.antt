@@ -7,7 +7,7 @@ use Rattle.std.specs.Ordering.{bool_cmp, ordering_then}
 use Rattle.std.specs.declared.cmp.Ordering.{Ordering}
 use Rattle.std.specs.declared.cmp.Ordering.TheVariants.{Less, Equal, Greater}
 use Rattle.std.proofs.lemmas.Bool.{cases_lt}
-use Rattle.mesh_names.specs.Names.{Name}
+use Rattle.mesh_names.specs.Names.{Name, name_cmp}
 use Rattle.std.specs.FinSet.{nat_cmp-IsAntisymmetric}
 use Rattle.locate_point.specs.Locating.{IsAtMost}
 
@@ -95,3 +95,14 @@ top_low r m h = ⊎_elim
     (λ less. low_less (nat_cmp r m.0) (slice_cmp bool_cmp [] (reverse m.1)) (sym (nat_cmp_is r m.0 Less less)))
     (λ more. low_equal (nat_cmp r m.0) (slice_cmp bool_cmp [] (reverse m.1)) (sym (nat_cmp_is r m.0 Equal (omega (arith, more, h)))) (low_empty (reverse m.1)))
     (cases_lt r m.0)
+
+less_longer : (xs : List Bool) (b : Bool) → slice_cmp bool_cmp xs (xs ++ b ∷ []) ≡ Less
+less_longer [] b = refl
+less_longer (true ∷ xs) b = less_longer xs b
+less_longer (false ∷ xs) b = less_longer xs b
+
+-- a name comes before its children
+pub child_later : (n : Name) (b : Bool) → name_cmp n (n.0, b ∷ n.1) ≡ Less
+child_later n b =
+    let words : slice_cmp bool_cmp (reverse n.1) (reverse (b ∷ n.1)) ≡ Less = subst (λ (w : List Bool). slice_cmp bool_cmp (reverse n.1) w ≡ Less) (sym (child_word n.1 b)) (less_longer (reverse n.1) b) in
+    ap (λ o. ordering_then o (slice_cmp bool_cmp (reverse n.1) (reverse (b ∷ n.1)))) (sym (nat_cmp_is n.0 n.0 Equal refl)) ∙ words

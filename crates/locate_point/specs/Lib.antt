@@ -1,6 +1,7 @@
 pub mod Covering
 pub mod Children
 pub mod Locating
+pub mod Ranks
 pub mod Ways
 pub mod PointsFile
 pub mod Reading

@@ -1,9 +1,6 @@
 //! The leaf around a point, from a macro triangle down.
-ghost use Rattle.std.specs.Prelude.{◌≡◌, ◌↔◌, IsTrue, None, Some, IfSome, ◌<◌, [], true, false};
+ghost use Rattle.std.specs.Prelude.{◌≡◌, ◌↔◌, None, Some, IfSome, ◌<◌, [], true, false};
 ghost use Rattle.std.specs.Bool.{OnFalse, OnTrue};
-ghost use Rattle.std.specs.List.{Contains};
-ghost use Rattle.std.specs.List.Sorted.{IsStrictlySortedBy};
-ghost use Rattle.mesh_names.specs.Names.{name_cmp};
 ghost use Rattle.mesh_names.specs.Triangles.{size};
 ghost use Rattle.compat_check.specs.Faults.{IsFirst};
 ghost use Rattle.compat_check.specs.Meshes.{shape_of};
@@ -14,6 +11,7 @@ ghost use Rattle.locate_point.specs.Locating.{AreLeaves, IsPlace, LiesOutside};
 ghost use Rattle.locate_point.specs.Ways.{IsOnWay, child_corners};
 
 use crate::laws::contains_by_children;
+use crate::ranks::{is_at, rank_from};
 use crate::triangle::{Corners, Point, contains, corners_of, middle};
 use compat_check::MacroMesh;
 use mesh_names::name::ElemName;
@@ -51,14 +49,6 @@ fn child_around(corners: Corners, point: Point) -> (bool, Corners)
     }
 }
 
-// Whether the name is one of the leaves.
-fn is_listed(leaves: &[ElemName], name: ElemName) -> bool
-    requires { IsStrictlySortedBy name_cmp leaves.now }
-    ensures { IsTrue result ↔ Contains leaves.now name }
-{
-    leaves.binary_search(&name).is_ok()
-}
-
 // The leaf at which the way from an element down ends.
 pub(crate) fn leaf_below(
     mesh: &MacroMesh,
@@ -75,10 +65,12 @@ pub(crate) fn leaf_below(
     contains_by_children();
     let mut name = top;
     let mut corners = corners_of(mesh, top);
-    while !is_listed(leaves, name) {
+    let mut rank = rank_from(leaves, 0, top);
+    while !is_at(leaves, rank, name) {
         let (side, child) = child_around(corners, point);
         name = name.child_at(side);
         corners = child;
+        rank = rank_from(leaves, rank, name);
     }
     name
 }
@@ -103,7 +95,7 @@ fn descend(mesh: &MacroMesh, leaves: &[ElemName], point: Point) -> Option<ElemNa
 /// those of a forest over the mesh, in order.
 ///
 /// Takes no memory, and time for each macro element, and for each letter of the leaf that of a search
-/// in the list.
+/// in the leaves below.
 pub fn find(mesh: &MacroMesh, leaves: &[ElemName], x: i64, y: i64) -> Option<ElemName>
     requires exact { AreTenths mesh.now.vertices }
     requires leaves { AreLeaves mesh.now leaves.now }

@@ -11,7 +11,10 @@ mod locator;
 mod making;
 mod plain;
 mod points;
+mod ranks;
 mod refusal;
+#[cfg(test)]
+mod tests;
 mod triangle;
 mod words;
 mod writing;

@@ -23,6 +23,28 @@ vertex values: 1 2 3 4
 element values: -1 -2 -3
 ";
 
+/// Four triangles round a centre, of which each has as refinement edge the one that it shares with the
+/// next: no grades fit.
+const CYCLE: &str = "DIM: 2
+DIM_OF_WORLD: 2
+
+number of vertices: 5
+number of elements: 4
+
+vertex coordinates:
+  0.0e+00 0.0e+00
+  1.0e+00 0.0e+00
+  1.0e+00 1.0e+00
+  0.0e+00 1.0e+00
+  0.33333333333333331 5.0e-01
+
+element vertices:
+  1 4 0
+  2 4 1
+  3 4 2
+  0 4 3
+";
+
 /// A band of five triangles with one half twist.
 const MOEBIUS_BAND: &str = "number of vertices: 5
 number of elements: 5
@@ -82,6 +104,20 @@ fn what_is_incompatible_is_oriented(rt: HostRuntime) -> Result<(), Fail> {
         assert!(rt; matches!(fault, Some(CheckRefusal::Incompatible { .. })));
         assert_eq!(rt; count(rt.alloc(), text)?, elements);
     }
+    Ok(())
+}
+
+#[test]
+fn a_cycle_that_no_grades_fit_is_oriented(rt: HostRuntime) -> Result<(), Fail> {
+    let fault = fault(rt.alloc(), CYCLE)?;
+    assert_eq!(rt;
+        fault,
+        Some(CheckRefusal::Incompatible {
+            element: 2,
+            edge: 2
+        })
+    );
+    assert_eq!(rt; count(rt.alloc(), CYCLE)?, 4);
     Ok(())
 }
 
