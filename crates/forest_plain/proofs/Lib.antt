@@ -14,3 +14,4 @@ pub mod Keeping
 pub mod Readiness
 pub mod Running
 pub mod OneAnswer
+pub mod MarkedLeaves

@@ -3,7 +3,7 @@ use Rattle.std.proofs.Common.{◌≡◌, ℕ, ◌<◌, ◌≤◌, ℤ, pos, Bool
 use Rattle.std.specs.FinSet.{contains, from_list, retain, len}
 use Rattle.mesh_names.specs.Names.{Name, name_cmp}
 use Rattle.mesh_names.specs.Triangles.{Shape}
-use Rattle.mesh_names.specs.Forests.{Names, Has, IsListOf}
+use Rattle.mesh_names.specs.Forests.{Names, Has, IsForest}
 use Rattle.mesh_names.specs.Partners.{Across, Tells}
 use Rattle.mesh_names.specs.Leaves.{leaves}
 use Rattle.mesh_names.specs.Marks.{effective_mark}
@@ -13,9 +13,12 @@ use Rattle.mesh_names.specs.declared.rows.MarkRow.{MarkRow}
 use Rattle.mesh_names.proofs.Booleans.{and_both, and-both, retained}
 use Rattle.mesh_names.proofs.Conforming.{conforms_by_partners}
 use Rattle.mesh_names.proofs.Coarsening.{coarsened_conforms}
+use Rattle.mesh_names.proofs.Leaving.{leaves_are}
+use Rattle.mesh_names.proofs.Sets.{both_sides}
 use Rattle.mesh_names.proofs.Steps.{negative-allowance}
 use Rattle.forest_plain.specs.LeafMarks.{leaf_mark, marked_so}
 use Rattle.forest_plain.specs.Coarsening.{IsReached}
+use Rattle.forest_plain.specs.Needed.{AreMarked}
 use Rattle.forest_plain.specs.Refined.{IsReady}
 use Rattle.forest_plain.specs.Rounds.{IsRefined, Stands}
 use Rattle.forest_plain.specs.declared.refined.Refined.{Refined}
@@ -23,10 +26,10 @@ use Rattle.forest_plain.proofs.Worklist.{len-within}
 
 module _ (mesh : Shape) (x : Across) (tells : Tells mesh x) (old : Names) (rows : List MarkRow) where
   -- the marks that are kept of the leaves
-  pub ready : (list : List Name) → IsListOf (leaves mesh old) list → (mark : Name → ℤ) → ((n : Name) → mark n ≡ effective_mark rows n) → (r : Refined) → IsRefined mesh old rows r.members →
+  pub ready : IsForest mesh old → (list : List Name) → AreMarked mesh old rows list → (mark : Name → ℤ) → ((n : Name) → mark n ≡ effective_mark rows n) → (r : Refined) → IsRefined mesh old rows r.members →
       ((n : Name) → allowance (leaf_mark r.marks n) ≡ cond (contains {R = name_cmp} (from_list list) n && not (contains r.members n)) (allowance (mark n)) 0) →
       ((n : Name) (side : Bool) → 0 < allowance (leaf_mark r.marks (child_at n side)) → Has (from_list r.marks.parents.items) n) → IsReady mesh x old rows r
-  ready list is mark same r refined marks parents = record {
+  ready forest list is mark same r refined marks parents = record {
     refined = refined;
     alike = record { forest = refl; leaves = λ n out. sym (marks n ∙ leaf n out) };
     underway = record {
@@ -39,12 +42,14 @@ module _ (mesh : Shape) (x : Across) (tells : Tells mesh x) (old : Names) (rows 
     where
       leaf : (n : Name) → contains r.members n ≡ false → cond (contains {R = name_cmp} (from_list list) n && not (contains r.members n)) (allowance (mark n)) 0 ≡ allowance (cond (contains (leaves mesh old) n) (effective_mark rows n) (pos 0))
       leaf n out =
-          (λ i. cond (contains (is.all i) n && not (out i)) (allowance (same n i)) 0)
-          ∙ by (contains (leaves mesh old) n)
+          (λ i. cond (contains {R = name_cmp} (from_list list) n && not (out i)) (allowance (same n i)) 0)
+          ∙ by (contains {R = name_cmp} (from_list list) n) (contains (leaves mesh old) n) refl refl
         where
-          by : (b : Bool) → cond (b && true) (allowance (effective_mark rows n)) 0 ≡ allowance (cond b (effective_mark rows n) (pos 0))
-          by true = refl
-          by false = refl
+          by : (a b : Bool) → contains {R = name_cmp} (from_list list) n ≡ a → contains (leaves mesh old) n ≡ b → cond (a && true) (allowance (effective_mark rows n)) 0 ≡ allowance (cond b (effective_mark rows n) (pos 0))
+          by true true e f = refl
+          by true false e f = absurd (both_sides (contains (leaves mesh old) n) ((leaves_are mesh old forest n).1 (is.leaves n e)) f)
+          by false true e f = sym (ap allowance (is.others n ((leaves_are mesh old forest n).0 f) e))
+          by false false e f = refl
 
       member : (n : Name) (b : Bool) → Has r.members n → cond (b && not (contains r.members n)) (allowance (mark n)) 0 ≡ 0
       member n true h = ap (λ (c : Bool). cond (not c) (allowance (mark n)) 0) h

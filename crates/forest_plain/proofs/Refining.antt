@@ -15,13 +15,13 @@ use Rattle.mesh_names.specs.declared.rows.MarkRow.{MarkRow}
 use Rattle.mesh_names.proofs.Booleans.{and_both}
 use Rattle.mesh_names.proofs.Sets.{In, item-in, both_sides, has-in, in-has, in-append, in-first, in-second, union-either, union-left, union-right, within-both}
 use Rattle.mesh_names.proofs.Leaving.{leaves_are}
-use Rattle.mesh_names.proofs.Marking.{marks_give_needs}
 use Rattle.mesh_names.proofs.Needs.{needs_can_be_held}
 use Rattle.mesh_names.proofs.Closing.{least_by_levels}
 use Rattle.mesh_names.proofs.Conforming.{conforms_by_partners}
-use Rattle.forest_plain.specs.Needed.{names_of, work_by}
+use Rattle.forest_plain.specs.Needed.{AreMarked, names_of, work_by}
 use Rattle.forest_plain.specs.Rounds.{IsDeepestLeaf, IsFine, IsGreatestIn, IsRefined, Stands}
 use Rattle.forest_plain.proofs.Counting.{len-retain}
+use Rattle.forest_plain.proofs.MarkedLeaves.{marked_needs}
 
 -- ---- the needed names as a set
 pub names-needs : (work : Work) → from_list (names_of work) ≡ needs_of work
@@ -159,13 +159,13 @@ module _ (mesh : Shape) (old : Names) (rows : List MarkRow) (forest : IsForest m
   reaches [] h = tt
   reaches (n ∷ list) h = ((h n (inl refl)).rooted, reached n (h n (inl refl)), reaches list (λ m i. h m (inr i)))
 
-  module _ (x : Across) (tells : Tells mesh x) (list : List Name) (is : IsListOf (leaves mesh old) list) where
+  module _ (x : Across) (tells : Tells mesh x) (list : List Name) (is : AreMarked mesh old rows list) where
     -- what the marks of the leaves ask for
     pub needs_fit : (mark : Name → ℤ) → ((n : Name) → mark n ≡ effective_mark rows n) → All (λ n. 0 < bisections (mark n) → length n.1 + bisections (mark n) ≤ 24) list
     needs_fit mark same i d h some =
         let n = slice_index_or list i d in
         let s = ap bisections (same n) in
-        let fits = mark_fits mesh old n (leaf_at mesh old list forest is i d h) rows fine (omega (arith, some, s)) in
+        let fits = mark_fits mesh old n (is.leaves n (in-has n list (item-in list i d h))) rows fine (omega (arith, some, s)) in
         omega (arith, fits, s)
 
     work_same : (mark : Name → ℤ) → ((n : Name) → mark n ≡ effective_mark rows n) → work_by mark list ≡ work_of rows list
@@ -175,7 +175,7 @@ module _ (mesh : Shape) (old : Names) (rows : List MarkRow) (forest : IsForest m
     needed_is mark needed same e = ap (λ (l : List Name). from_list l) (e ∙ ap names_of (work_same mark same)) ∙ names-needs (work_of rows list)
 
     work_can : CanHold mesh (needs_of (work_of rows list))
-    work_can = needs_can_be_held mesh (work_of rows list) (reaches list (leaf_in mesh old list forest is))
+    work_can = needs_can_be_held mesh (work_of rows list) (reaches list (λ n i. is.leaves n (in-has n list i)))
 
     pub needed_can : (mark : Name → ℤ) (needed : List Name) → ((n : Name) → mark n ≡ effective_mark rows n) → needed ≡ names_of (work_by mark list) → CanHold mesh (from_list needed)
     needed_can mark needed same e = subst (λ (s : Names). CanHold mesh s) (sym (needed_is mark needed same e)) work_can
@@ -183,7 +183,7 @@ module _ (mesh : Shape) (old : Names) (rows : List MarkRow) (forest : IsForest m
     pub refined_least : (mark : Name → ℤ) (needed : List Name) (start new : Names) → ((n : Name) → mark n ≡ effective_mark rows n) → needed ≡ names_of (work_by mark list) → start ≡ old → new ≡ least_forest mesh x start (from_list needed) → IsRefined mesh old rows new
     refined_least mark needed start new same e s closed = record {
       needs = needs_of (work_of rows list);
-      are_needs = marks_give_needs mesh old rows list forest is;
+      are_needs = marked_needs mesh old rows list is;
       least = subst (λ (y : Names). IsLeast mesh old (needs_of (work_of rows list)) y)
           (sym (closed ∙ (λ i. least_forest mesh x (s i) (needed_is mark needed same e i))))
           (least_by_levels mesh x tells old (needs_of (work_of rows list)) (record { rooted = forest.rooted; shallow = forest.shallow }) work_can);
@@ -215,6 +215,10 @@ refined_stands mesh x tells pool old new rows stands refined room = record {
   some = stands.some;
   most = stands.most;
 }
+
+-- a member of a forest is a name of the mesh
+pub member_in : (mesh : Shape) (members : Names) → IsForest mesh members → (n : Name) → Has members n → IsInMesh mesh n
+member_in mesh members forest n held = let low = forest.shallow n held in record { rooted = forest.rooted n held; low = omega (arith, low) }
 
 -- the members of a forest are names of the mesh
 pub members_in : (mesh : Shape) (members : Names) (list : List Name) → IsForest mesh members → IsListOf members list → All (IsInMesh mesh) list

@@ -8,7 +8,7 @@ use Rattle.mesh_names.specs.Forests.{Names, IsForest, IsLeaf}
 use Rattle.mesh_names.specs.Conformity.{HoldsPartners}
 use Rattle.mesh_names.specs.LeastForest.{IsLeast}
 use Rattle.mesh_names.specs.Patches.{patch_count}
-use Rattle.mesh_names.specs.Marks.{is_mark, names_leaf, bisections, AreNeeds}
+use Rattle.mesh_names.specs.Marks.{NamesElement, is_mark, names_leaf, bisections, AreNeeds}
 use Rattle.mesh_names.specs.declared.patch.RoundDelta.{RoundDelta}
 use Rattle.mesh_names.specs.declared.rows.MarkRow.{MarkRow}
 use Rattle.mesh_names.specs.declared.rows.Place.{Place}
@@ -43,6 +43,17 @@ pub record IsDeepest (mesh : Shape) (old : Names) (row : MarkRow) (deepest : ℕ
   pub is_named : names_leaf row.place leaf ≡ true
   pub reached : level mesh leaf ≡ deepest
   pub greatest : (n : Name) → IsLeaf mesh old n → names_leaf row.place n ≡ true → level mesh n ≤ deepest
+
+-- the row is a mark above 0 of an element or of every leaf
+pub record Bisects (row : MarkRow) : Type 0 where
+  pub mark : is_mark row.what ≡ true
+  pub positive : 0 < bisections row.number
+  pub element : NamesElement row.place
+
+-- the row is a mark above 0 of every leaf
+pub record BisectsEvery (row : MarkRow) : Type 0 where
+  pub bisects : Bisects row
+  pub every : named row.place ≡ None
 
 -- the greatest level of the listed names
 pub record IsGreatestIn (mesh : Shape) (list : List Name) (greatest : ℕ) : Type 0 where

@@ -9,22 +9,23 @@ ghost use Rattle.mesh_names.specs.LeastForest.{CanHold, least_forest};
 ghost use Rattle.compat_check.specs.Meshes.{across_in, shape_of};
 ghost use Rattle.forest_plain.specs.Closing.{names_above};
 
-use crate::name_set::NameSet;
+use crate::names::Growing;
 use compat_check::mesh::MacroMesh;
 use mesh_names::name::ElemName;
 use std::alloc::AllocError;
 
 /// Adds the needed names to a conforming forest, and all that a conforming forest has to hold
 /// with them: each new name brings its parent and its partner.
-pub fn close(
+pub fn close<S: Growing>(
     mesh: &MacroMesh,
-    members: &mut NameSet,
+    members: &mut S,
     needed: Vec<ElemName>,
 ) -> Result<(), AllocError>
-    requires forest { IsForest (shape_of mesh.now) members.old }
-    requires partners { HoldsPartners (across_in mesh.now) members.old }
+    requires forest { IsForest (shape_of mesh.now) (S.grown members.old) }
+    requires partners { HoldsPartners (across_in mesh.now) (S.grown members.old) }
     requires can { CanHold (shape_of mesh.now) (from_list needed.items) }
-    ensures { OnOk result (members.new ≡ least_forest (shape_of mesh.now) (across_in mesh.now) members.old (from_list needed.items)) }
+    ensures start { S.start members.new ≡ S.start members.old }
+    ensures least { OnOk result (S.grown members.new ≡ least_forest (shape_of mesh.now) (across_in mesh.now) (S.grown members.old) (from_list needed.items)) }
 {
     let _count = mesh.element_count();
     let mut pending = needed;
@@ -35,18 +36,19 @@ pub fn close(
 }
 
 // Adds a name, and appends its parent and its partner if it is new.
-fn add(
+fn add<S: Growing>(
     mesh: &MacroMesh,
-    members: &mut NameSet,
+    members: &mut S,
     name: ElemName,
     pending: &mut Vec<ElemName>,
 ) -> Result<(), AllocError>
     requires root { name.0 < size (shape_of mesh.now) }
     requires level { level (shape_of mesh.now) name ≤ 24 }
-    ensures held { OnOk result (members.new ≡ set.insert members.old name) }
-    ensures above { OnOk result (pending.new.items ≡ pending.old.items ++ cond (set.contains members.old name) [] (names_above (across_in mesh.now) name)) }
+    ensures start { S.start members.new ≡ S.start members.old }
+    ensures held { OnOk result (S.grown members.new ≡ set.insert (S.grown members.old) name) }
+    ensures above { OnOk result (pending.new.items ≡ pending.old.items ++ cond (set.contains (S.grown members.old) name) [] (names_above (across_in mesh.now) name)) }
 {
-    if members.insert(name)? {
+    if members.add(name)? {
         push_above(mesh, name, pending)?;
     }
     Ok(())

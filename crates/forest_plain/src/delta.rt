@@ -1,6 +1,7 @@
 //! What a round adds to a forest, and what it takes away.
 ghost use Rattle.std.specs.Prelude.{◌≡◌, [], ◌∷◌, ◌++◌, All, IfOk, OnOk};
-ghost use Rattle.mesh_names.specs.Forests.{IsForest, IsInMesh};
+ghost use Rattle.mesh_names.specs.Forests.{Has, IsInMesh};
+ghost use Rattle.mesh_names.specs.Names.{Name};
 ghost use Rattle.mesh_names.specs.Patches.{owns, patch_count, patch_of};
 ghost use Rattle.compat_check.specs.Meshes.{across_in, shape_of};
 ghost use Rattle.forest_plain.specs.Deltas.{new_owners, owns_new, patches_at, patches_below, patches_down};
@@ -13,7 +14,7 @@ use std::alloc::{AllocError, Global};
 
 /// The number of patches. Takes no memory.
 pub fn count_patches(mesh: &MacroMesh, members: &NameSet) -> usize
-    requires { IsForest (shape_of mesh.now) members.now }
+    requires { (n : Name) → Has members.now n → IsInMesh (shape_of mesh.now) n }
     ensures { result ≡ patch_count (across_in mesh.now) members.now }
 {
     let mut count = 0;

@@ -9,20 +9,21 @@ ghost use Rattle.compat_check.specs.Meshes.{shape_of};
 ghost use Rattle.forest_plain.specs.Rounds.{IsUnsplit, set_of};
 
 use crate::name_set::NameSet;
+use crate::names::Asked;
 use compat_check::mesh::MacroMesh;
 use mesh_names::name::ElemName;
 use std::alloc::{AllocError, Global};
 
 /// Whether the name is a leaf of the forest of these members.
-pub fn is_leaf(mesh: &MacroMesh, members: &NameSet, name: ElemName) -> bool
-    ensures { IsTrue result ↔ IsLeaf (shape_of mesh.now) members.now name }
+pub fn is_leaf<S: Asked>(mesh: &MacroMesh, members: &S, name: ElemName) -> bool
+    ensures { IsTrue result ↔ IsLeaf (shape_of mesh.now) (S.names members.now) name }
 {
-    if name.root() >= mesh.element_count() || members.contains(name) {
+    if name.root() >= mesh.element_count() || members.has(name) {
         return false;
     }
     match name.parent() {
         None => true,
-        Some(parent) => members.contains(parent),
+        Some(parent) => members.has(parent),
     }
 }
 
@@ -35,10 +36,24 @@ pub fn leaf_list(
     requires { IsForest (shape_of mesh.now) members.now }
     ensures { IfOk result (λ v. IsListOf (leaves (shape_of mesh.now) members.now) v.items) }
 {
+    let names = members.to_vec(alloc)?;
+    leaves_beside(alloc, mesh, members, &names)
+}
+
+/// The leaves in the order of names, where the list has the members.
+pub fn leaves_beside<S: Asked>(
+    alloc: Global,
+    mesh: &MacroMesh,
+    members: &S,
+    names: &[ElemName],
+) -> Result<Vec<ElemName>, AllocError>
+    requires forest { IsForest (shape_of mesh.now) (S.names members.now) }
+    requires names { IsListOf (S.names members.now) names.now }
+    ensures { IfOk result (λ v. IsListOf (leaves (shape_of mesh.now) (S.names members.now)) v.items) }
+{
     let mut found = Vec::new(alloc);
     add_tops(mesh, members, &mut found)?;
-    let names = members.to_vec(alloc)?;
-    add_children(members, &names, &mut found)?;
+    add_children(members, names, &mut found)?;
     found.sort_unstable();
     // No name was added twice; this is a pass that finds nothing, and shows it.
     found.dedup();
@@ -46,13 +61,13 @@ pub fn leaf_list(
 }
 
 // Adds the macro elements that are not members.
-fn add_tops(
+fn add_tops<S: Asked>(
     mesh: &MacroMesh,
-    members: &NameSet,
+    members: &S,
     found: &mut Vec<ElemName>,
 ) -> Result<(), AllocError>
     requires { found.old.items ≡ [] }
-    ensures { OnOk result (IsUnsplit (tops (size (shape_of mesh.now))) members.now (set_of found.new.items)) }
+    ensures { OnOk result (IsUnsplit (tops (size (shape_of mesh.now))) (S.names members.now) (set_of found.new.items)) }
 {
     for root in 0..mesh.element_count() {
         add_leaf(members, ElemName::top(root), found)?;
@@ -61,13 +76,13 @@ fn add_tops(
 }
 
 // Adds the children of these names that are not members.
-fn add_children(
-    members: &NameSet,
+fn add_children<S: Asked>(
+    members: &S,
     names: &[ElemName],
     found: &mut Vec<ElemName>,
 ) -> Result<(), AllocError>
     requires { All (λ n. depth n < 24) names.now }
-    ensures { OnOk result ((all : List Name) → IsUnsplit all members.now (set_of found.old.items) → IsUnsplit (all ++ children names.now) members.now (set_of found.new.items)) }
+    ensures { OnOk result ((all : List Name) → IsUnsplit all (S.names members.now) (set_of found.old.items) → IsUnsplit (all ++ children names.now) (S.names members.now) (set_of found.new.items)) }
 {
     for name in names {
         add_leaf(members, name.child_at(false), found)?;
@@ -77,10 +92,14 @@ fn add_children(
 }
 
 // Adds the name unless it is a member.
-fn add_leaf(members: &NameSet, name: ElemName, found: &mut Vec<ElemName>) -> Result<(), AllocError>
-    ensures { OnOk result (set_of found.new.items ≡ cond (set.contains members.now name) (set_of found.old.items) (set.insert (set_of found.old.items) name)) }
+fn add_leaf<S: Asked>(
+    members: &S,
+    name: ElemName,
+    found: &mut Vec<ElemName>,
+) -> Result<(), AllocError>
+    ensures { OnOk result (set_of found.new.items ≡ cond (set.contains (S.names members.now) name) (set_of found.old.items) (set.insert (set_of found.old.items) name)) }
 {
-    if !members.contains(name) {
+    if !members.has(name) {
         found.push(name)?;
     }
     Ok(())

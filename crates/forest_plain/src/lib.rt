@@ -13,6 +13,7 @@ pub mod leaf_marks;
 pub mod leaves;
 pub mod marks;
 pub mod name_set;
+pub mod names;
 pub mod needs;
 pub mod refined;
 pub mod refusal;

@@ -3,6 +3,7 @@ ghost use Rattle.std.specs.Prelude.{◌≡◌, not, IfOk, OnOk, OnErr};
 ghost use Rattle.std.specs.FinSet as set;
 ghost use Rattle.mesh_names.specs.Forests.{IsListOf};
 
+use crate::names::{Asked, Growing, Shrinking};
 use mesh_names::name::ElemName;
 use std::alloc::{AllocError, Global};
 use std::collections::BTreeSet;
@@ -85,5 +86,41 @@ impl NameSet {
         ensures { IfOk result (λ v. IsListOf self.now v.items) }
     {
         self.names.iter().copied().collect(alloc)
+    }
+}
+
+impl Asked for NameSet {
+    ghost names = { λ s. s };
+
+    fn has(&self, name: ElemName) -> bool {
+        self.contains(name)
+    }
+}
+
+impl Growing for NameSet {
+    ghost grown = { λ s. s };
+
+    // No others are kept beside them.
+    ghost start = { λ _. set.empty };
+
+    fn add(&mut self, name: ElemName) -> Result<bool, AllocError> {
+        self.insert(name)
+    }
+}
+
+impl Shrinking for NameSet {
+    ghost left = { λ s. s };
+
+    // No others are kept beside them.
+    ghost whole = { λ _. set.empty };
+
+    fn is_left(&self, name: ElemName) -> bool {
+        self.contains(name)
+    }
+
+    // This can be done without memory.
+    fn take_away(&mut self, name: ElemName) -> Result<(), AllocError> {
+        self.remove(name);
+        Ok(())
     }
 }

@@ -1,30 +1,31 @@
 //! The rows of a round, tried in order.
-ghost use Rattle.std.specs.Prelude.{◌≡◌, ◌<◌, ◌≤◌, All, cond, length, IfErr, IfNone, IfSome, OnOk};
+ghost use Rattle.std.specs.Prelude.{◌≡◌, ◌<◌, ◌≤◌, false, All, cond, length, IfErr, IfNone, IfSome, OnOk};
 ghost use Rattle.mesh_names.specs.Triangles.{level, size};
 ghost use Rattle.mesh_names.specs.Forests.{IsLeaf};
-ghost use Rattle.mesh_names.specs.Marks.{IsWellFormed, NamesElement, bisections, is_mark};
+ghost use Rattle.mesh_names.specs.Marks.{IsWellFormed, bisections, is_mark};
 ghost use Rattle.compat_check.specs.Meshes.{shape_of};
-ghost use Rattle.forest_plain.specs.Rounds.{IsDeepest, IsDeepestLeaf, IsFine, IsFirstFault, IsGreatestIn, IsRowFault, NamesLeaf, named};
+ghost use Rattle.forest_plain.specs.Rounds.{Bisects, BisectsEvery, IsDeepest, IsDeepestLeaf, IsFine, IsFirstFault, IsGreatestIn, IsRowFault, NamesLeaf, named};
 
 use crate::leaves::is_leaf;
-use crate::name_set::NameSet;
+use crate::names::Asked;
 use crate::refusal::RoundRefusal;
 use compat_check::mesh::MacroMesh;
 use mesh_names::name::ElemName;
 use mesh_names::rows::{MarkRow, Place, What};
 
-/// Tries each row, where `deepest` is the greatest level of all leaves.
-pub fn try_rows(
+/// Tries each row, where `deepest` is the greatest level of all leaves, if a row is a mark above 0 of
+/// every leaf.
+pub fn try_rows<S: Asked>(
     mesh: &MacroMesh,
-    members: &NameSet,
+    members: &S,
     deepest: u32,
     rows: &[MarkRow],
 ) -> Result<(), RoundRefusal>
-    requires deepest { IsDeepestLeaf (shape_of mesh.now) members.now deepest }
+    requires deepest { All (λ row. BisectsEvery row → IsDeepestLeaf (shape_of mesh.now) (S.names members.now) deepest) rows.now }
     requires small { deepest < 512 }
     requires formed { All IsWellFormed rows.now }
-    ensures ok { OnOk result (All (IsFine (shape_of mesh.now) members.now) rows.now) }
-    ensures refused { IfErr result (IsFirstFault (shape_of mesh.now) members.now rows.now) }
+    ensures ok { OnOk result (All (IsFine (shape_of mesh.now) (S.names members.now)) rows.now) }
+    ensures refused { IfErr result (IsFirstFault (shape_of mesh.now) (S.names members.now) rows.now) }
 {
     for row in rows {
         if let Err(refusal) = try_row(mesh, members, deepest, row) {
@@ -34,18 +35,37 @@ pub fn try_rows(
     Ok(())
 }
 
+/// Whether a row is a mark above 0 of every leaf.
+pub fn bisects_every(rows: &[MarkRow]) -> bool
+    ensures { result ≡ false → All (λ row. BisectsEvery row → ⊥) rows.now }
+{
+    for row in rows {
+        if is_of_every(row) {
+            return true;
+        }
+    }
+    false
+}
+
+// Whether the row is a mark above 0 of every leaf.
+fn is_of_every(row: &MarkRow) -> bool
+    ensures { result ≡ false → BisectsEvery row.now → ⊥ }
+{
+    row.what == What::Mark && row.number > 0 && named(row.place).is_none()
+}
+
 // Tries one row.
-fn try_row(
+fn try_row<S: Asked>(
     mesh: &MacroMesh,
-    members: &NameSet,
+    members: &S,
     deepest: u32,
     row: &MarkRow,
 ) -> Result<(), RoundRefusal>
-    requires deepest { IsDeepestLeaf (shape_of mesh.now) members.now deepest }
+    requires deepest { BisectsEvery row.now → IsDeepestLeaf (shape_of mesh.now) (S.names members.now) deepest }
     requires small { deepest < 512 }
     requires formed { IsWellFormed row.now }
-    ensures ok { OnOk result (IsFine (shape_of mesh.now) members.now row.now) }
-    ensures refused { IfErr result (IsRowFault (shape_of mesh.now) members.now row.now) }
+    ensures ok { OnOk result (IsFine (shape_of mesh.now) (S.names members.now) row.now) }
+    ensures refused { IfErr result (IsRowFault (shape_of mesh.now) (S.names members.now) row.now) }
 {
     let Some(reached) = reached(mesh, members, deepest, row) else {
         return Err(RoundRefusal::NotALeaf { row: row.row });
@@ -74,13 +94,13 @@ fn times(row: &MarkRow) -> u32
 
 // The greatest level of the leaves that a row names; `None` where its element is no leaf. Where it
 // names a corner, it is that of the corner's element.
-fn reached(mesh: &MacroMesh, members: &NameSet, deepest: u32, row: &MarkRow) -> Option<u32>
-    requires deepest { IsDeepestLeaf (shape_of mesh.now) members.now deepest }
+fn reached<S: Asked>(mesh: &MacroMesh, members: &S, deepest: u32, row: &MarkRow) -> Option<u32>
+    requires deepest { BisectsEvery row.now → IsDeepestLeaf (shape_of mesh.now) (S.names members.now) deepest }
     requires small { deepest < 512 }
-    ensures named { IfSome result (λ _. NamesLeaf (shape_of mesh.now) members.now row.now) }
-    ensures deepest { NamesElement row.now.place → IfSome result (IsDeepest (shape_of mesh.now) members.now row.now) }
+    ensures named { IfSome result (λ _. NamesLeaf (shape_of mesh.now) (S.names members.now) row.now) }
+    ensures deepest { Bisects row.now → IfSome result (IsDeepest (shape_of mesh.now) (S.names members.now) row.now) }
     ensures small { IfSome result (λ g. g < 512) }
-    ensures none { IfNone result (NamesLeaf (shape_of mesh.now) members.now row.now → ⊥) }
+    ensures none { IfNone result (NamesLeaf (shape_of mesh.now) (S.names members.now) row.now → ⊥) }
 {
     match named(row.place) {
         None => Some(deepest),
@@ -89,10 +109,10 @@ fn reached(mesh: &MacroMesh, members: &NameSet, deepest: u32, row: &MarkRow) -> 
 }
 
 // The level of the name, where it is a leaf.
-fn level_of_leaf(mesh: &MacroMesh, members: &NameSet, name: ElemName) -> Option<u32>
-    ensures some { IfSome result (λ g. IsLeaf (shape_of mesh.now) members.now name × (g ≡ level (shape_of mesh.now) name)) }
+fn level_of_leaf<S: Asked>(mesh: &MacroMesh, members: &S, name: ElemName) -> Option<u32>
+    ensures some { IfSome result (λ g. IsLeaf (shape_of mesh.now) (S.names members.now) name × (g ≡ level (shape_of mesh.now) name)) }
     ensures small { IfSome result (λ g. g < 512) }
-    ensures none { IfNone result (IsLeaf (shape_of mesh.now) members.now name → ⊥) }
+    ensures none { IfNone result (IsLeaf (shape_of mesh.now) (S.names members.now) name → ⊥) }
 {
     if is_leaf(mesh, members, name) {
         Some(mesh.level(name))

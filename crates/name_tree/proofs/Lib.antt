@@ -4,3 +4,4 @@ pub mod MorePairs
 pub mod LiveNames
 pub mod InOrders
 pub mod SlotsOfNodes
+pub mod Found

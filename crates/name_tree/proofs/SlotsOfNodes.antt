@@ -145,7 +145,7 @@ module _ (t : Nodes) (q : Name) where
       get-from_entries name_cmp_total (gathered slot (names_within (length t.tops.items) 24)) q
       ∙ found-out slot q (names_within (length t.tops.items) 24) (λ h. let low = names-short q (length t.tops.items) 24 h in absurd (omega arith))
 
-low_or_deep : (q : Name) → (depth q ≤ 24) ⊎ (24 < depth q)
+pub low_or_deep : (q : Name) → (depth q ≤ 24) ⊎ (24 < depth q)
 low_or_deep q = ⊎_elim (λ (e : 24 < depth q). inr e) (λ (e : depth q ≤ 24). inl e) (cases_lt 24 (depth q))
 
 -- nodes in which the same stands by name

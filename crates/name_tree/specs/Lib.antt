@@ -5,3 +5,4 @@ pub mod Growth
 pub mod Slots
 pub mod NodeSlots
 pub mod InOrder
+pub mod Held

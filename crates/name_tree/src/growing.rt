@@ -15,8 +15,8 @@ const BLANK: Node = Node {
     below: None,
 };
 
-// The node on one side of a pair.
-fn child_place(pair: u32, side: bool) -> u32
+/// The node on one side of a pair.
+pub(crate) fn child_place(pair: u32, side: bool) -> u32
     requires { pair < 2 ^ 31 }
     ensures { result ≡ 2 * pair + digit side }
 {

@@ -1,6 +1,7 @@
 //! A tree of names, with an index and a value for some of them.
 #![tactic(auto)]
 
+mod gathering;
 mod growing;
 mod letters;
 mod nodes;

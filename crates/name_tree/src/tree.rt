@@ -49,7 +49,7 @@ impl Keyed for VertexKey {
 /// is remembered, so that near names in turn take few steps each.
 #[derive(Drop)]
 pub struct NameTree {
-    nodes: Nodes,
+    pub(crate) nodes: Nodes,
     path: Path,
 }
 

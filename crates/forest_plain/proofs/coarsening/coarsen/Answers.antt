@@ -8,11 +8,11 @@ use Rattle.forest_plain.proofs.Turns.{none_pending, nothing_left}
 use Rattle.forest_plain.proofs.coarsening.coarsen.Goals as goal
 
 pub try_patch-requires : goal.try_patch-requires
-try_patch-requires c = subst (λ (ks : List Name). IsUnderway (shape_of c.args.mesh.now) (across_in c.args.mesh.now) (marked_so c.loop-name.members c.loop-name.marks) ks) c.in-Some.ensures.items c.loop-name.invariant.underway
+try_patch-requires g c = subst (λ (ks : List Name). IsUnderway (shape_of c.args.mesh.now) (across_in c.args.mesh.now) (marked_so (g.S.Shrinking.left c.loop-name.members) c.loop-name.marks) ks) c.in-Some.ensures.items c.loop-name.invariant.underway
 
-pub returns : goal.returns
-returns c first r =
+pub returns-clause-coarsened : goal.returns-clause-coarsened
+returns-clause-coarsened g c first r =
     let pending = c.loop-name.marks.parents.items in
-    let now = marked_so c.loop-name.members c.loop-name.marks in
+    let now = marked_so (g.S.Shrinking.left c.loop-name.members) c.loop-name.marks in
     let empty = nothing_left pending c.pop.new.self.items c.in_default.ensures.items (sym c.pop.new.self.ok.0 ∙ c.in_default.ensures.cases.1) in
     reach_end (across_in c.args.mesh.now) first now (c.loop-name.invariant.reached first r) (none_pending (across_in c.args.mesh.now) now pending empty c.loop-name.invariant.underway.pending)

@@ -8,10 +8,7 @@ pub loop-name-init : goal.loop-name-init
 loop-name-init c = all_left (across_in c.args.mesh.now) c.into_iter-name-iterator.result c.members.inside.names.keys c.args.members.now (c.into_iter-name-iterator.ensures.into_iter_gives ∙ c.iter-name-items.ensures.rest) c.members.view_is c.iter-name-items.ensures.ordered c.iter-name-items.ensures.fits
 
 pub is_owner-requires : goal.is_owner-requires
-is_owner-requires c =
-    let held = next_member (across_in c.args.mesh.now) c.args.members.now c.loop-name.count c.loop-name.name-iterator c.next.new.self c.in-Some.name.now c.loop-name.invariant c.in-Some.ensures.steps in
-    let low = c.requires.shallow c.in-Some.name.now held in
-    record { rooted = c.requires.rooted c.in-Some.name.now held; low = omega (arith, low) }
+is_owner-requires c = c.requires c.in-Some.name.now (next_member (across_in c.args.mesh.now) c.args.members.now c.loop-name.count c.loop-name.name-iterator c.next.new.self c.in-Some.name.now c.loop-name.invariant c.in-Some.ensures.steps)
 
 pub overflow_add-count : goal.overflow_add-count
 overflow_add-count c = let l = ap (λ (ks : List Name). length ks) c.in-Some.ensures.steps in omega (arith, c.loop-name.invariant.small, l)

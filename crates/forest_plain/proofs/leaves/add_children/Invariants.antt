@@ -5,4 +5,4 @@ use Rattle.forest_plain.specs.Rounds.{IsUnsplit, set_of}
 use Rattle.forest_plain.proofs.leaves.add_children.Given as goal
 
 abbrev pub invariant-loop-name : goal.invariant-loop-name
-invariant-loop-name l = (all : List Name) → IsUnsplit all l.members (set_of l.fn.found.items) → IsUnsplit (all ++ children (take l.name-index l.names)) l.members (set_of l.found.items)
+invariant-loop-name g l = (all : List Name) → IsUnsplit all (g.S.Asked.names l.members) (set_of l.fn.found.items) → IsUnsplit (all ++ children (take l.name-index l.names)) (g.S.Asked.names l.members) (set_of l.found.items)

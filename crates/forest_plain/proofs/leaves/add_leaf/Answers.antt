@@ -5,8 +5,8 @@ use Rattle.forest_plain.proofs.LeafSets.{pushed-insert}
 use Rattle.forest_plain.proofs.leaves.add_leaf.Goals as goal
 
 pub returns-in_ok-push : goal.returns-in_ok-push
-returns-in_ok-push c =
+returns-in_ok-push g c =
     let old = c.args.found.now.items in
     ap set_of c.in_ok-push.ensures.items
     ∙ pushed-insert old c.args.name
-    ∙ ap (λ (b : Bool). cond b (set_of old) (insert (set_of old) c.args.name)) c.if-not-contains.ensures
+    ∙ ap (λ (b : Bool). cond b (set_of old) (insert (set_of old) c.args.name)) c.if-not-has.ensures

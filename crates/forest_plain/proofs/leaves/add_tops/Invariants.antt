@@ -3,4 +3,4 @@ use Rattle.forest_plain.specs.Rounds.{IsUnsplit, set_of}
 use Rattle.forest_plain.proofs.leaves.add_tops.Given as goal
 
 abbrev pub invariant-loop-root : goal.invariant-loop-root
-invariant-loop-root l = IsUnsplit (tops l.root) l.members (set_of l.found.items)
+invariant-loop-root g l = IsUnsplit (tops l.root) (g.S.Asked.names l.members) (set_of l.found.items)

@@ -1,20 +1,7 @@
 use Rattle.std.proofs.Common.{List, sym, subst}
-use Rattle.std.proofs.lemmas.List.Filters.{dedup_is}
-use Rattle.mesh_names.specs.Names.{Name, name_eq}
-use Rattle.mesh_names.specs.Forests.{Names, IsListOf}
-use Rattle.mesh_names.specs.Triangles.{size}
-use Rattle.mesh_names.specs.Leaves.{tops}
-use Rattle.compat_check.specs.Meshes.{shape_of}
-use Rattle.forest_plain.specs.Rounds.{set_of}
-use Rattle.forest_plain.proofs.LeafSets.{all_leaves, listed, members_short}
+use Rattle.mesh_names.specs.Names.{Name}
+use Rattle.mesh_names.specs.Forests.{IsListOf}
 use Rattle.forest_plain.proofs.leaves.leaf_list.Goals as goal
 
-pub add_children-requires : goal.add_children-requires
-add_children-requires c = members_short (shape_of c.args.mesh.now) c.args.members.now c.deref.result.now c.requires (subst (λ (l : List Name). IsListOf c.args.members.now l) (sym c.deref.ensures.value) c.in_ok-names.ensures)
-
-pub returns : goal.returns
-returns c =
-    let names = subst (λ (l : List Name). IsListOf c.args.members.now l) (sym c.deref.ensures.value) c.in_ok-names.ensures in
-    let found = all_leaves (shape_of c.args.mesh.now) c.args.members.now (set_of c.add_children.new.found.items) c.deref.result.now names (c.in_ok-add_children.ensures (tops (size (shape_of c.args.mesh.now))) c.in_ok-add_tops.ensures) in
-    subst (λ (s : Names). IsListOf s c.dedup.new.self.items) found
-    (listed c.add_children.new.found.items _ c.dedup.new.self.items c.sort_unstable.ensures.permutation c.sort_unstable.ensures.sorted (dedup_is name_eq _ _ c.dedup.ensures.filtered))
+pub leaves_beside-requires-clause-names : goal.leaves_beside-requires-clause-names
+leaves_beside-requires-clause-names c = subst (λ (l : List Name). IsListOf c.args.members.now l) (sym c.deref.ensures.value) c.in_ok-names.ensures

@@ -5,4 +5,4 @@ use Rattle.forest_plain.specs.Rounds.{IsFine}
 use Rattle.forest_plain.proofs.rows.try_rows.Given as goal
 
 abbrev pub invariant-loop-row : goal.invariant-loop-row
-invariant-loop-row l = All (IsFine (shape_of l.mesh) l.members) (take l.row-index l.rows)
+invariant-loop-row g l = All (IsFine (shape_of l.mesh) (g.S.Asked.names l.members)) (take l.row-index l.rows)

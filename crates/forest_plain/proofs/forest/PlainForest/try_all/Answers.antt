@@ -10,7 +10,7 @@ pub greatest_level-deepest-requires-clause-some : goal.greatest_level-deepest-re
 greatest_level-deepest-requires-clause-some c = some_leaf (shape_of c.args.self.now.mesh.now) c.args.self.now.members c.args.list.now c.args.self.now.stands.forest c.requires.leaves c.element_count-checked.ensures.checked.some
 
 pub try_rows-requires-clause-deepest : goal.try_rows-requires-clause-deepest
-try_rows-requires-clause-deepest c = deepest_leaf (shape_of c.args.self.now.mesh.now) c.args.self.now.members c.args.list.now c.args.self.now.stands.forest c.requires.leaves c.greatest_level-deepest.result c.greatest_level-deepest.ensures
+try_rows-requires-clause-deepest c i d h asks = deepest_leaf (shape_of c.args.self.now.mesh.now) c.args.self.now.members c.args.list.now c.args.self.now.stands.forest c.requires.leaves c.greatest_level-deepest.result c.greatest_level-deepest.ensures
 
 pub try_rows-requires-clause-small : goal.try_rows-requires-clause-small
 try_rows-requires-clause-small c =

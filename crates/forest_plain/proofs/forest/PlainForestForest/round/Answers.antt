@@ -9,7 +9,7 @@ use Rattle.forest_plain.specs.Deltas.{new_owners, patches_below, patches_down}
 use Rattle.forest_plain.specs.Refined.{IsReady}
 use Rattle.forest_plain.specs.Rounds.{IsFine}
 use Rattle.forest_plain.proofs.Readiness.{reached_first, coarsened_stands}
-use Rattle.forest_plain.proofs.Refining.{members_in}
+use Rattle.forest_plain.proofs.Refining.{member_in, members_in}
 use Rattle.forest_plain.proofs.Running.{unlimited}
 use Rattle.forest_plain.proofs.forest.PlainForestForest.round.Goals as goal
 
@@ -35,6 +35,9 @@ returns-then-needed-self-clause-refused c =
         refl,
       ),
     )
+
+pub count_patches-needed-requires : goal.count_patches-needed-requires
+count_patches-needed-requires c = member_in (shape_of c.args.self.now.mesh.now) c.in_ok-refined.refined.members c.in_ok-refined.ensures.ready.refined.least.forest
 
 pub born_patches-requires : goal.born_patches-requires
 born_patches-requires c = members_in (shape_of c.args.self.now.mesh.now) c.in_ok-refined.refined.members c.deref-2.result.now c.in_ok-refined.ensures.ready.refined.least.forest (subst (λ (l : List Name). IsListOf c.in_ok-refined.refined.members l) (sym c.deref-2.ensures.value) c.in_ok-names.ensures)
