@@ -22,7 +22,8 @@ pub record NotesMore (u v : Sight) : Type 0 where
 -- a word leads to no block; or to a block that stands at the place and was not rolled back, with the block's DIED as its
 -- retired round: one that has a retired round is kept, and another is not
 abbrev pub LeadsTo : ℕ → Sight → ℕ → Node → Type 0
-LeadsTo pool v x l = (l ≡ node 0 0) ⊎ ((b : ℕ) × (l.block ≡ b + 1) × (b < pool) × StandsAt v b x × (HasEntry v.ruling.rolled_back b → ⊥) × Noted v.owned.died b l.died
+LeadsTo pool v x l = (l ≡ node 0 0)
+    ⊎ ((b : ℕ) × (l.block ≡ b + 1) × (b < pool) × StandsAt v b x × (HasEntry v.ruling.rolled_back b → ⊥) × Noted v.owned.died b l.died
     × (0 < l.died → HasEntry v.ruling.kept b × (l.died ≤ v.ruling.finished)) × (l.died ≡ 0 → HasEntry v.ruling.kept b → ⊥))
 
 -- each block that the owner noted at the place is kept, or was rolled back, or is the one that the word names
