@@ -55,9 +55,10 @@ pub fn run_workers<R: Threads + Clock + Sync>(
     if patches.len() > 1_048_576 || !can_bisect(mesh, patches) {
         return Err(anyhow!("too many patches"));
     }
-    let (table, mut owner) = new_table(alloc, mesh, patches.len() as u32, 4, 1)?;
+    let pool = patches.len() as u32;
+    let (table, mut owner) = new_table(alloc, mesh, pool, 4, 1)?;
     owner.begin(&table, patches);
-    let mut tasks = owner.split_shares(&table, alloc, patches, workers)?;
+    let mut tasks = owner.split_shares(&table, alloc, patches, workers, pool)?;
     let start = Instant::now(rt)?;
     work_all(rt, &table, tasks.as_mut_slice(), &NoGate);
     let time = start.elapsed(rt)?.as_micros();

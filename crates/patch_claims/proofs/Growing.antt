@@ -42,7 +42,7 @@ pub refused_after : (across : Across) (P Q : Name → Type 0) (u v w : Sight) (e
 refused_after across P Q u v w (Deferred owner n) a on p r =
     let m = r.1 in let x = m.3 in let s = x.3 in
     (r.0, (m.0, on m.0 m.1, m.2, (x.0, x.1, x.2, (s.0 ++ p.0, s.1 ∙ ap (λ (l : List Saw). SawEnd (name_code m.0) ∷ SawClaim x.0 n ∷ l) (ap (λ (l : List Saw). s.0 ++ l) p.1 ∙ sym (append_assoc s.0 p.0 u.saw))))), r.2)
-refused_after across P Q u v w (Full drawn free) a on p r =
+refused_after across P Q u v w (Full drawn free spot) a on p r =
     let x = r.1 in let s = x.2 in
     (r.0, (x.0, x.1, (s.0 ++ p.0, s.1 ∙ ap (λ (l : List Saw). SawFree free ∷ SawDraw drawn ∷ SawClaim x.0 x.1 ∷ l) (ap (λ (l : List Saw). s.0 ++ l) p.1 ∙ sym (append_assoc s.0 p.0 u.saw))), x.3))
 

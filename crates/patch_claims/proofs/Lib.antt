@@ -6,3 +6,5 @@ pub mod Growing
 pub mod Whole
 pub mod Leaving
 pub mod Letters
+pub mod Listing
+pub mod Swept

@@ -1,7 +1,9 @@
 pub mod Accounts
 pub mod Claims
 pub mod Kept
+pub mod Listed
 pub mod Ends
 pub mod Needs
+pub mod Patches
 pub mod Refined
 pub mod Retired

@@ -46,5 +46,5 @@ abbrev pub Refused : Across → (Name → Type 0) → Sight → Sight → ClaimR
 Refused across Needed u v (Deferred owner n) = (n % 2 ≡ 1) × ((m : Name) × Needed m × ((patch_of across m).first ≡ owner) × ((x : ℕ)
     × HasEntry v.work.found (x, name_code owner) × IsAnothers v x × ((news : List Saw) × (v.saw ≡ SawEnd (name_code m) ∷ SawClaim x n ∷ (news ++ u.saw)))))
     × AllLiving v.claims
-Refused across Needed u v (Full drawn free) = (free ≤ drawn) × ((x n : ℕ) × ((news : List Saw)
+Refused across Needed u v (Full drawn free spot) = (free ≤ drawn) × ((x n : ℕ) × ((news : List Saw)
     × (v.saw ≡ SawFree free ∷ SawDraw drawn ∷ SawClaim x n ∷ (news ++ u.saw))) × AllLivingBut x v.claims)

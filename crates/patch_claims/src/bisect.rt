@@ -13,7 +13,7 @@ ghost use Rattle.mesh_table.specs.Lost.{AllLiving};
 ghost use Rattle.patch_claims.specs.Claims.{AllLivingBut};
 ghost use Rattle.patch_walk.specs.Works.{Works};
 ghost use Rattle.patch_claims.specs.Kept.{SameWork, SureOnly};
-ghost use Rattle.patch_claims.specs.Ends.{Ends};
+ghost use Rattle.patch_claims.specs.Ends.{Ends, IsUnfound};
 
 use crate::draws::draw_block;
 use crate::fills::{fill_alone, fill_pair};
@@ -55,6 +55,8 @@ fn finish_alone(
     ensures works { Works (sight pass.old) (sight pass.new) }
     ensures lives { HasEntry (sight pass.new).claims (claim (place_number table.now.site.layout at) 0 (Living block)) }
     ensures others { AllLivingBut (place_number table.now.site.layout at) (sight pass.old).claims → AllLiving (sight pass.new).claims }
+    ensures moved { (sight pass.new).claims ≡ moved_on (sight pass.old).claims (place_number table.now.site.layout at) (Living block) }
+    ensures unfound { IsUnfound (setup_at table.now.site) (sight pass.old) block }
     ensures known { (k : ℕ) → HasEntry (name_code name ∷ []) k → HasEntry (sight pass.new).work.known k }
     ensures saw { (sight pass.new).saw ≡ SawBirth block ∷ (sight pass.old).saw }
 {
@@ -89,6 +91,8 @@ fn finish_pair(
     ensures works { Works (sight pass.old) (sight pass.new) }
     ensures lives { HasEntry (sight pass.new).claims (claim (place_number table.now.site.layout at) (place_number table.now.site.layout other + 1) (Living block)) }
     ensures others { AllLivingBut (place_number table.now.site.layout at) (sight pass.old).claims → AllLiving (sight pass.new).claims }
+    ensures moved { (sight pass.new).claims ≡ moved_on (sight pass.old).claims (place_number table.now.site.layout at) (Living block) }
+    ensures unfound { IsUnfound (setup_at table.now.site) (sight pass.old) block }
     ensures known { (k : ℕ) → HasEntry (name_code name ∷ name_code partner ∷ []) k → HasEntry (sight pass.new).work.known k }
     ensures saw { (sight pass.new).saw ≡ SawBirth block ∷ (sight pass.old).saw }
 {

@@ -14,6 +14,7 @@ ghost use Rattle.mesh_table.specs.Told.{IsOf, MayClaim, MayFill, MayLink, Stays,
 ghost use Rattle.mesh_table.specs.Lost.{AllLiving};
 ghost use Rattle.patch_claims.specs.Claims.{AllLivingBut};
 ghost use Rattle.patch_walk.specs.Works.{Works};
+ghost use Rattle.patch_claims.specs.Ends.{IsUnfound};
 ghost use Rattle.patch_claims.specs.Kept.{SameWork, SureOnly};
 
 use mesh_names::name::ElemName;
@@ -61,6 +62,7 @@ pub fn fill_alone(table: &MeshTable, pass: &mut MeshSeat, at: ElemAt, name: Elem
     ensures stays { Stays pass.old pass.new }
     ensures same { SureOnly (sight pass.old) (sight pass.new) }
     ensures may { MayLink (setup_at table.now.site) (sight pass.new) (place_number table.now.site.layout at) 0 block (name_code name) }
+    ensures unfound { IsUnfound (setup_at table.now.site) (sight pass.old) block }
 {
     table.fill_died(pass, block);
     table.fill_name(pass, block, false, Some(name));
@@ -99,6 +101,7 @@ pub fn fill_pair(
     ensures stays { Stays pass.old pass.new }
     ensures same { SureOnly (sight pass.old) (sight pass.new) }
     ensures may { MayLink (setup_at table.now.site) (sight pass.new) (place_number table.now.site.layout at) (place_number table.now.site.layout other + 1) block (name_code name) }
+    ensures unfound { IsUnfound (setup_at table.now.site) (sight pass.old) block }
 {
     table.fill_died(pass, block);
     table.fill_name(pass, block, false, Some(name));

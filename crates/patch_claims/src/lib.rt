@@ -6,5 +6,6 @@ pub mod descents;
 pub mod draws;
 pub mod fills;
 pub mod needs;
+pub mod patch;
 pub mod refine;
 pub mod retire;

@@ -1,5 +1,5 @@
 //! A name is made bisected, with all that is above it.
-ghost use Rattle.std.specs.Prelude.{◌≡◌, ℕ, ◌+◌, ◌^◌, ◌<◌, ◌≤◌, ◌⊎◌, ◌∷◌, Bool, List, Some, None, option_map, true, false, [], IfErr, IfOk};
+ghost use Rattle.std.specs.Prelude.{◌≡◌, ℕ, ◌+◌, ◌^◌, ◌<◌, ◌≤◌, ◌⊎◌, ◌∷◌, ◌++◌, Bool, List, Some, None, option_map, true, false, [], IfErr, IfOk, length, vec_capacity};
 ghost use Rattle.compat_check.specs.Meshes.{shape_of, across_in};
 ghost use Rattle.mesh_names.specs.Chains.{chain_of};
 ghost use Rattle.mesh_names.specs.Forests.{Has};
@@ -16,13 +16,16 @@ ghost use Rattle.table_state.specs.Lists.{IsClosed};
 ghost use Rattle.mesh_table.specs.Sights.{setup_at};
 ghost use Rattle.mesh_table.specs.Told.{IsOf, MayClaim, Stays, sight};
 ghost use Rattle.mesh_table.specs.Lost.{AllLiving};
+ghost use Rattle.patch_claims.specs.Listed.{AreKept, AreListed, IsUnclaimed, failed_by};
 ghost use Rattle.patch_claims.specs.Needs.{IsMade, IsStood, Refused};
 ghost use Rattle.patch_walk.specs.Works.{Works};
 
 use crate::bisect::{Bisected, bisect_alone, bisect_pair};
 use crate::descents::descend;
+use crate::patch::{Patch, Spot, keep};
 use mesh_io::Gate;
 use mesh_names::name::ElemName;
+use mesh_names::patch::PatchName;
 use mesh_table::rule::MeshSeat;
 use mesh_table::table::MeshTable;
 use patch_walk::visits::visit;
@@ -33,8 +36,8 @@ use table_words::layout::ElemAt;
 pub enum ClaimRefusal {
     /// The patch of this owner, which the name needs, is claimed, and no living block shows: this was its LINK word.
     Deferred { owner: ElemName, old_word: u64 },
-    /// A draw found this number, which is not below the number of free blocks.
-    Full { drawn: u64, free: u64 },
+    /// A draw found this number, which is not below the number of free blocks. It was for the claim of the patch at these places.
+    Full { drawn: u64, free: u64, spot: Spot },
 }
 
 /// By which block, and as which member, a name is bisected, and how many blocks were published for it.
@@ -52,10 +55,11 @@ pub struct Stood {
     pub patches: u32,
 }
 
-/// Bisects an element that has no partner, or finds it bisected by then.
+/// Bisects an element that has no partner, or finds it bisected by then. A patch that it publishes comes to the end of the list.
 pub fn take_alone<G: Gate>(
     table: &MeshTable,
     pass: &mut MeshSeat,
+    published: &mut Vec<Patch>,
     at: ElemAt,
     name: ElemName,
     round: u32,
@@ -68,11 +72,17 @@ pub fn take_alone<G: Gate>(
     requires half { (sight pass.old).work.half ≡ FirstHalf }
     requires round { (sight pass.old).work.round ≡ round }
     requires living { AllLiving (sight pass.old).claims }
+    requires listed { AreListed table.now.site (sight pass.old) (sight pass.old).claims published.old.items }
+    requires room { table.now.site.layout.pool ≤ vec_capacity published.old }
     requires owner { (patch_of (across_in table.now.site.mesh.now) name).first ≡ name }
+    requires unclaimed { IsUnclaimed (setup_at table.now.site) (sight pass.old) (name_code name) }
     ensures stays { Stays pass.old pass.new }
     ensures works { Works (sight pass.old) (sight pass.new) }
     ensures made { IfOk result (λ r. IsMade (setup_at table.now.site) (sight pass.old) (sight pass.new) (name_code name) r × (r.patches ≤ 1)) }
     ensures refused { IfErr result (Refused (across_in table.now.site.mesh.now) (λ m. m ≡ name) (sight pass.old) (sight pass.new)) }
+    ensures listed { IfOk result (λ r. AreListed table.now.site (sight pass.new) (sight pass.new).claims published.new.items) }
+    ensures kept { IfErr result (λ e. AreKept table.now.site (sight pass.new) published.new.items (failed_by e)) }
+    ensures capacity { vec_capacity published.new ≡ vec_capacity published.old }
 {
     match bisect_alone(table, pass, at, name, round, gate, number) {
         Bisected::Claimed(old_word) => match visit(table, pass, at, name, round) {
@@ -86,9 +96,21 @@ pub fn take_alone<G: Gate>(
                 old_word,
             }),
         },
-        Bisected::Full { drawn, free } => Err(ClaimRefusal::Full { drawn, free }),
+        Bisected::Full { drawn, free } => Err(ClaimRefusal::Full {
+            drawn,
+            free,
+            spot: Spot {
+                first: at,
+                second: None,
+            },
+        }),
         Bisected::Published(block) => {
             table.walk_own(pass, at, None, at, name, block, false);
+            let alone = PatchName {
+                first: name,
+                second: None,
+            };
+            keep(published, block, at, None, alone);
             Ok(Made {
                 block,
                 second: false,
@@ -98,10 +120,11 @@ pub fn take_alone<G: Gate>(
     }
 }
 
-/// Bisects a patch of two elements for one of them, or finds this bisected by then.
+/// Bisects a patch of two elements for one of them, or finds this bisected by then. A patch that it publishes comes to the end of the list.
 pub fn take_pair<G: Gate>(
     table: &MeshTable,
     pass: &mut MeshSeat,
+    published: &mut Vec<Patch>,
     first: ElemAt,
     second: ElemAt,
     owner: ElemName,
@@ -123,7 +146,10 @@ pub fn take_pair<G: Gate>(
     requires half { (sight pass.old).work.half ≡ FirstHalf }
     requires round { (sight pass.old).work.round ≡ round }
     requires living { AllLiving (sight pass.old).claims }
+    requires listed { AreListed table.now.site (sight pass.old) (sight pass.old).claims published.old.items }
+    requires room { table.now.site.layout.pool ≤ vec_capacity published.old }
     requires owner { (patch_of (across_in table.now.site.mesh.now) name).first ≡ owner }
+    requires unclaimed { IsUnclaimed (setup_at table.now.site) (sight pass.old) (name_code name) }
     requires which { ((side ≡ false) × (name ≡ owner)) ⊎ ((side ≡ true) × (name ≡ partner)) }
     requires place { IsElemAt table.now.site.layout at }
     requires found { HasEntry (sight pass.old).work.found (place_number table.now.site.layout at, name_code name) }
@@ -132,6 +158,9 @@ pub fn take_pair<G: Gate>(
     ensures works { Works (sight pass.old) (sight pass.new) }
     ensures made { IfOk result (λ r. IsMade (setup_at table.now.site) (sight pass.old) (sight pass.new) (name_code name) r × (r.patches ≤ 1)) }
     ensures refused { IfErr result (Refused (across_in table.now.site.mesh.now) (λ m. m ≡ name) (sight pass.old) (sight pass.new)) }
+    ensures listed { IfOk result (λ r. AreListed table.now.site (sight pass.new) (sight pass.new).claims published.new.items) }
+    ensures kept { IfErr result (λ e. AreKept table.now.site (sight pass.new) published.new.items (failed_by e)) }
+    ensures capacity { vec_capacity published.new ≡ vec_capacity published.old }
 {
     match bisect_pair(
         table, pass, first, second, owner, partner, round, gate, number,
@@ -144,9 +173,21 @@ pub fn take_pair<G: Gate>(
             }),
             None => Err(ClaimRefusal::Deferred { owner, old_word }),
         },
-        Bisected::Full { drawn, free } => Err(ClaimRefusal::Full { drawn, free }),
+        Bisected::Full { drawn, free } => Err(ClaimRefusal::Full {
+            drawn,
+            free,
+            spot: Spot {
+                first,
+                second: Some(second),
+            },
+        }),
         Bisected::Published(block) => {
             table.walk_own(pass, first, Some(second), at, name, block, side);
+            let pair = PatchName {
+                first: owner,
+                second: Some(partner),
+            };
+            keep(published, block, first, Some(second), pair);
             Ok(Made {
                 block,
                 second: side,
@@ -161,6 +202,7 @@ pub fn take_pair<G: Gate>(
 pub fn stand<G: Gate>(
     table: &MeshTable,
     pass: &mut MeshSeat,
+    published: &mut Vec<Patch>,
     name: ElemName,
     round: u32,
     gate: &G,
@@ -175,15 +217,20 @@ pub fn stand<G: Gate>(
     requires aimed { HasEntry (sight pass.old).work.plan.target (name_code name) }
     requires closed { IsClosed (setup_at table.now.site) (HasEntry (sight pass.old).work.plan.target) }
     requires living { AllLiving (sight pass.old).claims }
+    requires listed { AreListed table.now.site (sight pass.old) (sight pass.old).claims published.old.items }
+    requires room { table.now.site.layout.pool ≤ vec_capacity published.old }
     ensures stays { Stays pass.old pass.new }
     ensures works { Works (sight pass.old) (sight pass.new) }
     ensures stood { IfOk result (λ r. IsStood table.now.site.layout (sight pass.old) (sight pass.new) (name_code name) r × (r.patches < 2 ^ level (shape_of table.now.site.mesh.now) name)) }
     ensures refused { IfErr result (Refused (across_in table.now.site.mesh.now) (λ m. (b : Bool) × (w : List Bool) × (name.1 ≡ b ∷ w) × Has (chain_of (shape_of table.now.site.mesh.now) (across_in table.now.site.mesh.now) (name.0, w)) m) (sight pass.old) (sight pass.new)) }
+    ensures listed { IfOk result (λ r. AreListed table.now.site (sight pass.new) (sight pass.new).claims published.new.items) }
+    ensures kept { IfErr result (λ e. AreKept table.now.site (sight pass.new) published.new.items (failed_by e)) }
+    ensures capacity { vec_capacity published.new ≡ vec_capacity published.old }
 {
     if let Some(at) = descend(table, pass, name, round) {
         return Ok(Stood { at, patches: 0 });
     }
-    match stand_above(table, pass, name, round, gate, number) {
+    match stand_above(table, pass, published, name, round, gate, number) {
         Err(refusal) => Err(refusal),
         Ok(stood) => Ok(stood),
     }
@@ -194,6 +241,7 @@ pub fn stand<G: Gate>(
 fn stand_above<G: Gate>(
     table: &MeshTable,
     pass: &mut MeshSeat,
+    published: &mut Vec<Patch>,
     name: ElemName,
     round: u32,
     gate: &G,
@@ -208,10 +256,15 @@ fn stand_above<G: Gate>(
     requires aimed { HasEntry (sight pass.old).work.plan.target (name_code name) }
     requires closed { IsClosed (setup_at table.now.site) (HasEntry (sight pass.old).work.plan.target) }
     requires living { AllLiving (sight pass.old).claims }
+    requires listed { AreListed table.now.site (sight pass.old) (sight pass.old).claims published.old.items }
+    requires room { table.now.site.layout.pool ≤ vec_capacity published.old }
     ensures stays { Stays pass.old pass.new }
     ensures works { Works (sight pass.old) (sight pass.new) }
     ensures stood { IfOk result (λ r. IsStood table.now.site.layout (sight pass.old) (sight pass.new) (name_code name) r × (r.patches < 2 ^ level (shape_of table.now.site.mesh.now) name)) }
     ensures refused { IfErr result (Refused (across_in table.now.site.mesh.now) (λ m. (b : Bool) × (w : List Bool) × (name.1 ≡ b ∷ w) × Has (chain_of (shape_of table.now.site.mesh.now) (across_in table.now.site.mesh.now) (name.0, w)) m) (sight pass.old) (sight pass.new)) }
+    ensures listed { IfOk result (λ r. AreListed table.now.site (sight pass.new) (sight pass.new).claims published.new.items) }
+    ensures kept { IfErr result (λ e. AreKept table.now.site (sight pass.new) published.new.items (failed_by e)) }
+    ensures capacity { vec_capacity published.new ≡ vec_capacity published.old }
 {
     match name.split() {
         None => {
@@ -222,7 +275,7 @@ fn stand_above<G: Gate>(
             })
         }
         Some((parent, side)) => {
-            match make_bisected(table, pass, parent, round, gate, number) {
+            match make_bisected(table, pass, published, parent, round, gate, number) {
                 Err(refusal) => Err(refusal),
                 Ok(made) => Ok(Stood {
                     at: ElemAt::Child {
@@ -241,6 +294,7 @@ fn stand_above<G: Gate>(
 pub fn make_bisected<G: Gate>(
     table: &MeshTable,
     pass: &mut MeshSeat,
+    published: &mut Vec<Patch>,
     name: ElemName,
     round: u32,
     gate: &G,
@@ -255,13 +309,18 @@ pub fn make_bisected<G: Gate>(
     requires aimed { HasEntry (sight pass.old).work.plan.target (name_code name) }
     requires closed { IsClosed (setup_at table.now.site) (HasEntry (sight pass.old).work.plan.target) }
     requires living { AllLiving (sight pass.old).claims }
+    requires listed { AreListed table.now.site (sight pass.old) (sight pass.old).claims published.old.items }
+    requires room { table.now.site.layout.pool ≤ vec_capacity published.old }
     ensures stays { Stays pass.old pass.new }
     ensures works { Works (sight pass.old) (sight pass.new) }
     ensures made { IfOk result (λ r. IsMade (setup_at table.now.site) (sight pass.old) (sight pass.new) (name_code name) r × (r.patches < 2 ^ (level (shape_of table.now.site.mesh.now) name + 1))) }
     ensures refused { IfErr result (Refused (across_in table.now.site.mesh.now) (Has (chain_of (shape_of table.now.site.mesh.now) (across_in table.now.site.mesh.now) name)) (sight pass.old) (sight pass.new)) }
+    ensures listed { IfOk result (λ r. AreListed table.now.site (sight pass.new) (sight pass.new).claims published.new.items) }
+    ensures kept { IfErr result (λ e. AreKept table.now.site (sight pass.new) published.new.items (failed_by e)) }
+    ensures capacity { vec_capacity published.new ≡ vec_capacity published.old }
 {
     let _count = table.mesh().element_count();
-    let stood = match stand(table, pass, name, round, gate, number) {
+    let stood = match stand(table, pass, published, name, round, gate, number) {
         Err(refusal) => return Err(refusal),
         Ok(stood) => stood,
     };
@@ -273,7 +332,7 @@ pub fn make_bisected<G: Gate>(
         });
     }
     let Some(other) = table.mesh().partner(name) else {
-        return match take_alone(table, pass, stood.at, name, round, gate, number) {
+        return match take_alone(table, pass, published, stood.at, name, round, gate, number) {
             Err(refusal) => Err(refusal),
             Ok(made) => Ok(Made {
                 block: made.block,
@@ -282,12 +341,12 @@ pub fn make_bisected<G: Gate>(
             }),
         };
     };
-    let beside = match stand(table, pass, other, round, gate, number) {
+    let beside = match stand(table, pass, published, other, round, gate, number) {
         Err(refusal) => return Err(refusal),
         Ok(beside) => beside,
     };
-    match take_one(
-        table, pass, stood.at, beside.at, name, other, round, gate, number,
+    match take_beside(
+        table, pass, published, stood.at, beside.at, name, other, round, gate, number,
     ) {
         Err(refusal) => Err(refusal),
         Ok(made) => Ok(Made {
@@ -298,10 +357,11 @@ pub fn make_bisected<G: Gate>(
     }
 }
 
-/// Bisects a name with its partner, whichever comes first.
-pub fn take_one<G: Gate>(
+/// Bisects a name with its partner, unless it is bisected by then.
+pub fn take_beside<G: Gate>(
     table: &MeshTable,
     pass: &mut MeshSeat,
+    published: &mut Vec<Patch>,
     at: ElemAt,
     beside: ElemAt,
     name: ElemName,
@@ -320,24 +380,82 @@ pub fn take_one<G: Gate>(
     requires aimed { HasEntry (sight pass.old).work.plan.target (name_code name) }
     requires aims { HasEntry (sight pass.old).work.plan.target (name_code other) }
     requires living { AllLiving (sight pass.old).claims }
+    requires listed { AreListed table.now.site (sight pass.old) (sight pass.old).claims published.old.items }
+    requires room { table.now.site.layout.pool ≤ vec_capacity published.old }
+    requires at { IsElemAt table.now.site.layout at }
+    requires beside { IsElemAt table.now.site.layout beside }
+    requires found { HasEntry (sight pass.old).work.found (place_number table.now.site.layout at, name_code name) }
+    requires mate { HasEntry (sight pass.old).work.found (place_number table.now.site.layout beside, name_code other) }
+    ensures stays { Stays pass.old pass.new }
+    ensures works { Works (sight pass.old) (sight pass.new) }
+    ensures made { IfOk result (λ r. IsMade (setup_at table.now.site) (sight pass.old) (sight pass.new) (name_code name) r × (r.patches ≤ 1)) }
+    ensures refused { IfErr result (Refused (across_in table.now.site.mesh.now) (λ m. m ≡ name) (sight pass.old) (sight pass.new)) }
+    ensures listed { IfOk result (λ r. AreListed table.now.site (sight pass.new) (sight pass.new).claims published.new.items) }
+    ensures kept { IfErr result (λ e. AreKept table.now.site (sight pass.new) published.new.items (failed_by e)) }
+    ensures capacity { vec_capacity published.new ≡ vec_capacity published.old }
+{
+    if let Some((block, second)) = visit(table, pass, at, name, round) {
+        return Ok(Made {
+            block,
+            second,
+            patches: 0,
+        });
+    }
+    match take_one(
+        table, pass, published, at, beside, name, other, round, gate, number,
+    ) {
+        Err(refusal) => Err(refusal),
+        Ok(made) => Ok(made),
+    }
+}
+
+/// Bisects a name with its partner, whichever comes first.
+pub fn take_one<G: Gate>(
+    table: &MeshTable,
+    pass: &mut MeshSeat,
+    published: &mut Vec<Patch>,
+    at: ElemAt,
+    beside: ElemAt,
+    name: ElemName,
+    other: ElemName,
+    round: u32,
+    gate: &G,
+    number: u32,
+) -> Result<Made, ClaimRefusal>
+    requires fit { IsOf table.now.table.shared.table_id pass.old }
+    requires works { (sight pass.old).kind ≡ Worker }
+    requires half { (sight pass.old).work.half ≡ FirstHalf }
+    requires round { (sight pass.old).work.round ≡ round }
+    requires root { name.0 < size (shape_of table.now.site.mesh.now) }
+    requires level { level (shape_of table.now.site.mesh.now) name < 24 }
+    requires partner { Some other ≡ option_map (λ m. m.0) (partner_in (across_in table.now.site.mesh.now) name.0 name.1) }
+    requires aimed { HasEntry (sight pass.old).work.plan.target (name_code name) }
+    requires aims { HasEntry (sight pass.old).work.plan.target (name_code other) }
+    requires living { AllLiving (sight pass.old).claims }
+    requires listed { AreListed table.now.site (sight pass.old) (sight pass.old).claims published.old.items }
+    requires room { table.now.site.layout.pool ≤ vec_capacity published.old }
     requires at { IsElemAt table.now.site.layout at }
     requires beside { IsElemAt table.now.site.layout beside }
     requires found { HasEntry (sight pass.old).work.found (place_number table.now.site.layout at, name_code name) }
     requires mate { HasEntry (sight pass.old).work.found (place_number table.now.site.layout beside, name_code other) }
     requires absent { HasEntry (sight pass.old).work.absent (name_code name) }
+    requires unclaimed { IsUnclaimed (setup_at table.now.site) (sight pass.old) (name_code name) }
     ensures stays { Stays pass.old pass.new }
     ensures works { Works (sight pass.old) (sight pass.new) }
     ensures made { IfOk result (λ r. IsMade (setup_at table.now.site) (sight pass.old) (sight pass.new) (name_code name) r × (r.patches ≤ 1)) }
     ensures refused { IfErr result (Refused (across_in table.now.site.mesh.now) (λ m. m ≡ name) (sight pass.old) (sight pass.new)) }
+    ensures listed { IfOk result (λ r. AreListed table.now.site (sight pass.new) (sight pass.new).claims published.new.items) }
+    ensures kept { IfErr result (λ e. AreKept table.now.site (sight pass.new) published.new.items (failed_by e)) }
+    ensures capacity { vec_capacity published.new ≡ vec_capacity published.old }
 {
     let _count = table.mesh().element_count();
     if name < other {
         take_pair(
-            table, pass, at, beside, name, other, at, name, false, round, gate, number,
+            table, pass, published, at, beside, name, other, at, name, false, round, gate, number,
         )
     } else {
         take_pair(
-            table, pass, beside, at, other, name, at, name, true, round, gate, number,
+            table, pass, published, beside, at, other, name, at, name, true, round, gate, number,
         )
     }
 }

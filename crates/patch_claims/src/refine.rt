@@ -1,5 +1,5 @@
 //! A name is refined.
-ghost use Rattle.std.specs.Prelude.{◌≡◌, ℕ, ◌+◌, ◌^◌, ◌<◌, ◌≤◌, ◌⊎◌, ◌∷◌, Bool, List, Some, None, option_map, true, false, [], IfErr, IfOk};
+ghost use Rattle.std.specs.Prelude.{◌≡◌, ℕ, ◌+◌, ◌^◌, ◌<◌, ◌≤◌, ◌⊎◌, ◌∷◌, Bool, List, Some, None, option_map, true, false, [], IfErr, IfOk, vec_capacity};
 ghost use Rattle.compat_check.specs.Meshes.{shape_of, across_in};
 ghost use Rattle.mesh_names.specs.Chains.{chain_of};
 ghost use Rattle.mesh_names.specs.Forests.{Has};
@@ -16,11 +16,13 @@ ghost use Rattle.table_state.specs.Lists.{IsClosed};
 ghost use Rattle.mesh_table.specs.Sights.{setup_at};
 ghost use Rattle.mesh_table.specs.Told.{IsOf, MayClaim, Stays, sight};
 ghost use Rattle.mesh_table.specs.Lost.{AllLiving};
+ghost use Rattle.patch_claims.specs.Listed.{AreKept, AreListed, failed_by};
 ghost use Rattle.patch_claims.specs.Needs.{Refused};
 ghost use Rattle.patch_claims.specs.Refined.{IsRefined};
 ghost use Rattle.patch_walk.specs.Works.{Works};
 
 use crate::needs::{ClaimRefusal, make_bisected};
+use crate::patch::Patch;
 use mesh_io::Gate;
 use mesh_names::name::ElemName;
 use mesh_table::rule::MeshSeat;
@@ -35,10 +37,11 @@ pub enum Done {
     Already,
 }
 
-/// Refines a name of the round's target: afterwards it is known as bisected in the current round. It never waits.
+/// Refines a name of the round's target: afterwards it is known as bisected in the current round. The patches that it publishes come to the end of the list, which takes no memory. It never waits.
 pub fn refine_name<G: Gate>(
     table: &MeshTable,
     pass: &mut MeshSeat,
+    published: &mut Vec<Patch>,
     name: ElemName,
     round: u32,
     gate: &G,
@@ -53,12 +56,17 @@ pub fn refine_name<G: Gate>(
     requires aimed { HasEntry (sight pass.old).work.plan.target (name_code name) }
     requires closed { IsClosed (setup_at table.now.site) (HasEntry (sight pass.old).work.plan.target) }
     requires living { AllLiving (sight pass.old).claims }
+    requires listed { AreListed table.now.site (sight pass.old) (sight pass.old).claims published.old.items }
+    requires room { table.now.site.layout.pool ≤ vec_capacity published.old }
     ensures stays { Stays pass.old pass.new }
     ensures works { Works (sight pass.old) (sight pass.new) }
     ensures done { IfOk result (IsRefined (sight pass.old) (sight pass.new) (name_code name)) }
     ensures refused { IfErr result (Refused (across_in table.now.site.mesh.now) (Has (chain_of (shape_of table.now.site.mesh.now) (across_in table.now.site.mesh.now) name)) (sight pass.old) (sight pass.new)) }
+    ensures listed { IfOk result (λ r. AreListed table.now.site (sight pass.new) (sight pass.new).claims published.new.items) }
+    ensures kept { IfErr result (λ e. AreKept table.now.site (sight pass.new) published.new.items (failed_by e)) }
+    ensures capacity { vec_capacity published.new ≡ vec_capacity published.old }
 {
-    match make_bisected(table, pass, name, round, gate, number) {
+    match make_bisected(table, pass, published, name, round, gate, number) {
         Err(refusal) => Err(refusal),
         Ok(made) => {
             if made.patches > 0 {

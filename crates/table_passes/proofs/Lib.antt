@@ -3,3 +3,4 @@ pub mod Crews
 pub mod Zips
 pub mod Sharing
 pub mod Making
+pub mod Keeping

@@ -19,6 +19,7 @@ use Rattle.patch_walk.specs.Works.{Works}
 use Rattle.patch_claims.specs.Needs.{Refused}
 use Rattle.patch_claims.specs.Refined.{IsRefined}
 use Rattle.patch_claims.specs.declared.needs.ClaimRefusal.TheVariants.{Deferred, Full}
+use Rattle.patch_claims.specs.declared.patch.Spot.{Spot}
 use Rattle.patch_claims.specs.declared.refine.Done.TheVariants.{Published, Already}
 use Rattle.table_passes.specs.Answers.{Answer, IsAimed, CanRefine, IsAnswer, is_full, HasAnswered, Ran, IsWorked}
 
@@ -32,13 +33,13 @@ module _ (mesh : Shape) (x : Across) (u v : Sight) (n : Name) where
   living_of (Ok (Published k)) h f = h.2
   living_of (Ok Already) h f = h.1
   living_of (Err (Deferred owner word)) h f = h.2
-  living_of (Err (Full drawn free)) h f = absurd (true≢false f)
+  living_of (Err (Full drawn free spot)) h f = absurd (true≢false f)
 
 -- the last of the answers says that there were no free blocks left
-pub full_is : (a : Answer) → is_full a ≡ true → (drawn free : ℕ) × (a ≡ Err (Full drawn free))
+pub full_is : (a : Answer) → is_full a ≡ true → (drawn free : ℕ) × (spot : Spot) × (a ≡ Err (Full drawn free spot))
 full_is (Ok d) f = absurd (true≢false (sym f))
 full_is (Err (Deferred owner word)) f = absurd (true≢false (sym f))
-full_is (Err (Full drawn free)) f = (drawn, free, refl)
+full_is (Err (Full drawn free spot)) f = (drawn, free, spot, refl)
 
 pub can_still : (s : Setup) (u v : Sight) → CanRefine s u → Works u v → AllLiving v.claims → CanRefine s v
 can_still s u v can works living = record {
@@ -74,5 +75,5 @@ module _ (mesh : Shape) (x : Across) where
     worked_full f = let t = full_is a f in record {
       works = works_next;
       ran = subst (λ (k : ℕ). Ran mesh x u (take k names) more w) (sym more_count) ran_next;
-      ends = inr (answers, t.0, t.1, grew ∙ ap (λ (b : Answer). answers ++ b ∷ []) t.2);
+      ends = inr (answers, t.0, t.1, t.2, grew ∙ ap (λ (b : Answer). answers ++ b ∷ []) t.3);
     }

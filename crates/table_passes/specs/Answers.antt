@@ -18,6 +18,7 @@ use Rattle.patch_claims.specs.Needs.{Refused}
 use Rattle.patch_claims.specs.Refined.{IsRefined}
 use Rattle.patch_claims.specs.declared.needs.ClaimRefusal.{ClaimRefusal}
 use Rattle.patch_claims.specs.declared.needs.ClaimRefusal.TheVariants.{Deferred, Full}
+use Rattle.patch_claims.specs.declared.patch.Spot.{Spot}
 use Rattle.patch_claims.specs.declared.refine.Done.{Done}
 
 -- what one call answers
@@ -44,7 +45,7 @@ IsAnswer mesh x u v n (Err refusal) = Refused x (Has (chain_of mesh x n)) u v re
 abbrev pub is_full : Answer → Bool
 is_full (Ok done) = false
 is_full (Err (Deferred owner word)) = false
-is_full (Err (Full drawn free)) = true
+is_full (Err (Full drawn free spot)) = true
 
 -- a call for the name led from the view u to v, and gave this answer
 pub record HasAnswered (mesh : Shape) (x : Across) (u v : Sight) (n : Name) (a : Answer) : Type 0 where
@@ -64,4 +65,5 @@ Ran mesh x u (n ∷ names) (a ∷ answers) v = (w : Sight) × HasAnswered mesh x
 pub record IsWorked (mesh : Shape) (x : Across) (u v : Sight) (names : List Name) (answers : List Answer) : Type 0 where
   pub works : Works u v
   pub ran : Ran mesh x u (take (length answers) names) answers v
-  pub ends : ((length answers ≡ length names) × AllLiving v.claims) ⊎ ((front : List Answer) × (drawn free : ℕ) × (answers ≡ front ++ Err (Full drawn free) ∷ []))
+  pub ends : ((length answers ≡ length names) × AllLiving v.claims) ⊎ ((front : List Answer) × (drawn free : ℕ) × (spot : Spot)
+      × (answers ≡ front ++ Err (Full drawn free spot) ∷ []))

@@ -1,4 +1,5 @@
 pub mod Answers
 pub mod Crew
+pub mod Kept
 pub mod Shares
 pub mod Tasks

@@ -27,21 +27,23 @@ impl OwnerSeat {
         alloc: Global,
         names: &[ElemName],
         workers: usize,
+        pool: u32,
     ) -> Result<Vec<Task>, AllocError>
         requires fit { IsOf table.now.table.shared.table_id self.old.seat }
         requires half { (sight self.old.seat).ruling.phase ≡ FirstHalf }
         requires alone { (sight self.old.seat).ruling.lone ≡ false }
         requires workers { (0 < workers) × (workers ≤ 64) }
+        requires pool { pool ≡ table.now.site.layout.pool }
         requires closed { IsClosed (setup_at table.now.site) (HasEntry (sight self.old.seat).ruling.plan.target) }
         requires aimed { All (IsAimed (shape_of table.now.site.mesh.now) (sight self.old.seat).ruling.plan.target) names.now }
         ensures stays { Stays self.old.seat self.new.seat }
         ensures left { IfOk result (λ tasks. sight self.new.seat ≡ left_by workers (sight self.old.seat)) }
         ensures made { IfOk result (λ tasks. All (IsMade (sight self.old.seat)) tasks.items) }
-        ensures ready { IfOk result (λ tasks. All (IsReady table.now.table.shared.table_id (setup_at table.now.site) (shape_of table.now.site.mesh.now)) tasks.items) }
+        ensures ready { IfOk result (λ tasks. All (IsReady table.now.table.shared.table_id table.now.site) tasks.items) }
         ensures names { IfOk result (λ tasks. map (λ t. t.names.items) tasks.items ≡ map (λ first. every workers first names.now) (range_with_len 0 workers)) }
         ensures none { IfErr result (λ e. sight self.new.seat ≡ sight self.old.seat) }
     {
         let work = shares(alloc, names, workers)?;
-        self.split_tasks(table, alloc, work)
+        self.split_tasks(table, alloc, work, pool)
     }
 }

@@ -2,8 +2,10 @@
 //! The passes of the shared table: the owner's seat, workers' passes with their rounds and numbers, and passes at work in threads.
 
 pub mod dealing;
+pub mod lists;
 pub mod owner;
 pub mod pass;
+pub mod refining;
 pub mod shares;
 pub mod tasks;
 #[cfg(test)]

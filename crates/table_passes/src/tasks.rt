@@ -6,9 +6,11 @@ ghost use Rattle.compat_check.specs.Meshes.{across_in, shape_of};
 ghost use Rattle.mesh_table.specs.Sights.{setup_at};
 ghost use Rattle.mesh_table.specs.Told.{IsOf, Stays, sight};
 ghost use Rattle.table_passes.specs.Answers.{CanRefine, IsAimed, IsWorked};
-ghost use Rattle.table_passes.specs.Tasks.{IsDone, IsReady};
+ghost use Rattle.table_passes.specs.Kept.{HasKept};
+ghost use Rattle.table_passes.specs.Tasks.{IsDone, IsReady, IsWorkers};
 
-use crate::pass::{Pass, is_full};
+use crate::pass::Pass;
+use crate::refining::is_full;
 use crate::work::Task;
 use mesh_io::Gate;
 use mesh_names::name::ElemName;
@@ -30,11 +32,14 @@ pub fn refine_names<G: Gate>(
     requires names { All (IsAimed (shape_of table.now.site.mesh.now) (sight pass.old.seat).work.plan.target) names.now }
     requires empty { answers.old.items ≡ [] }
     requires room { length names.now ≤ vec_capacity answers.old }
+    requires kept { HasKept table.now.site pass.old }
+    requires list { 0 < length names.now → table.now.site.layout.pool ≤ vec_capacity pass.old.lists.published }
     ensures stays { Stays pass.old.seat pass.new.seat }
     ensures round { pass.new.round ≡ pass.old.round }
     ensures number { pass.new.number ≡ pass.old.number }
     ensures worked { IsWorked (shape_of table.now.site.mesh.now) (across_in table.now.site.mesh.now) (sight pass.old.seat) (sight pass.new.seat) names.now answers.new.items }
     ensures capacity { vec_capacity answers.new ≡ vec_capacity answers.old }
+    ensures kept { HasKept table.now.site pass.new }
 {
     for name in names {
         let answer = pass.refine(table, *name, gate);
@@ -48,8 +53,8 @@ pub fn refine_names<G: Gate>(
 
 // One pass works through its names.
 fn work_one<G: Gate>(table: &MeshTable, task: &mut Task, gate: &G)
-    requires ready { IsReady table.now.table.shared.table_id (setup_at table.now.site) (shape_of table.now.site.mesh.now) task.old }
-    ensures done { IsDone (shape_of table.now.site.mesh.now) (across_in table.now.site.mesh.now) task.old task.new }
+    requires ready { IsReady table.now.table.shared.table_id table.now.site task.old }
+    ensures done { IsDone table.now.site task.old task.new }
 {
     refine_names(
         table,
@@ -62,9 +67,9 @@ fn work_one<G: Gate>(table: &MeshTable, task: &mut Task, gate: &G)
 
 // At most one pass.
 fn work_last<G: Gate>(table: &MeshTable, tasks: &mut [Task], gate: &G)
-    requires ready { All (IsReady table.now.table.shared.table_id (setup_at table.now.site) (shape_of table.now.site.mesh.now)) tasks.old }
+    requires ready { All (IsReady table.now.table.shared.table_id table.now.site) tasks.old }
     requires few { length tasks.old < 2 }
-    ensures done { AllZip (IsDone (shape_of table.now.site.mesh.now) (across_in table.now.site.mesh.now)) tasks.old tasks.new }
+    ensures done { AllZip (IsDone table.now.site) tasks.old tasks.new }
 {
     if let [task] = tasks {
         work_one(table, task, gate);
@@ -72,15 +77,29 @@ fn work_last<G: Gate>(table: &MeshTable, tasks: &mut [Task], gate: &G)
 }
 
 /// Each pass works through its names in a thread of its own, nested over the halves of the list. Where no thread can be started the caller does its work.
-#[cycle(works)]
 pub fn work_all<R: Threads + Sync, G: Gate + Sync>(
     rt: &R,
     table: &MeshTable,
     tasks: &mut [Task],
     gate: &G,
 )
-    requires ready { All (IsReady table.now.table.shared.table_id (setup_at table.now.site) (shape_of table.now.site.mesh.now)) tasks.old }
-    ensures done { AllZip (IsDone (shape_of table.now.site.mesh.now) (across_in table.now.site.mesh.now)) tasks.old tasks.new }
+    requires ready { All (IsReady table.now.table.shared.table_id table.now.site) tasks.old }
+    ensures done { AllZip (IsDone table.now.site) tasks.old tasks.new }
+    ensures workers { All (IsWorkers table.now.table.shared.table_id table.now.site) tasks.new }
+{
+    work_nested(rt, table, tasks, gate);
+}
+
+// The passes at work in threads, nested over the halves of the list.
+#[cycle(works)]
+fn work_nested<R: Threads + Sync, G: Gate + Sync>(
+    rt: &R,
+    table: &MeshTable,
+    tasks: &mut [Task],
+    gate: &G,
+)
+    requires ready { All (IsReady table.now.table.shared.table_id table.now.site) tasks.old }
+    ensures done { AllZip (IsDone table.now.site) tasks.old tasks.new }
 {
     if tasks.len() < 2 {
         work_last(table, tasks, gate);
@@ -100,20 +119,20 @@ fn work_halves<R: Threads + Sync, G: Gate + Sync>(
     gate: &G,
 )
     requires some { (0 < length left.old) × (0 < length right.old) }
-    requires left { All (IsReady table.now.table.shared.table_id (setup_at table.now.site) (shape_of table.now.site.mesh.now)) left.old }
-    requires right { All (IsReady table.now.table.shared.table_id (setup_at table.now.site) (shape_of table.now.site.mesh.now)) right.old }
-    ensures left { AllZip (IsDone (shape_of table.now.site.mesh.now) (across_in table.now.site.mesh.now)) left.old left.new }
-    ensures right { AllZip (IsDone (shape_of table.now.site.mesh.now) (across_in table.now.site.mesh.now)) right.old right.new }
+    requires left { All (IsReady table.now.table.shared.table_id table.now.site) left.old }
+    requires right { All (IsReady table.now.table.shared.table_id table.now.site) right.old }
+    ensures left { AllZip (IsDone table.now.site) left.old left.new }
+    ensures right { AllZip (IsDone table.now.site) right.old right.new }
 {
     join_mut(
         rt,
         &mut ||
-            requires { IsSync R.row × IsSync G.row × All (IsReady table.now.table.shared.table_id (setup_at table.now.site) (shape_of table.now.site.mesh.now)) left.now }
-            ensures { AllZip (IsDone (shape_of table.entry.now.site.mesh.now) (across_in table.entry.now.site.mesh.now)) left.entry.now left.exit.now }
-        { work_all(rt, table, left, gate) },
+            requires { IsSync R.row × IsSync G.row × All (IsReady table.now.table.shared.table_id table.now.site) left.now }
+            ensures { AllZip (IsDone table.entry.now.site) left.entry.now left.exit.now }
+        { work_nested(rt, table, left, gate) },
         &mut ||
-            requires { IsSync R.row × IsSync G.row × All (IsReady table.now.table.shared.table_id (setup_at table.now.site) (shape_of table.now.site.mesh.now)) right.now }
-            ensures { AllZip (IsDone (shape_of table.entry.now.site.mesh.now) (across_in table.entry.now.site.mesh.now)) right.entry.now right.exit.now }
-        { work_all(rt, table, right, gate) },
+            requires { IsSync R.row × IsSync G.row × All (IsReady table.now.table.shared.table_id table.now.site) right.now }
+            ensures { AllZip (IsDone table.entry.now.site) right.entry.now right.exit.now }
+        { work_nested(rt, table, right, gate) },
     );
 }

@@ -1,5 +1,5 @@
 //! Worked calls on the square of two elements.
-ghost use Rattle.std.specs.Prelude.{◌≡◌, ◌≤◌, All, IfOk, false};
+ghost use Rattle.std.specs.Prelude.{◌≡◌, ◌≤◌, All, IfOk, false, vec_capacity};
 ghost use Rattle.compat_check.specs.Meshes.{shape_of};
 ghost use Rattle.table_words.specs.Entries.{HasEntry};
 ghost use Rattle.table_words.specs.Views.{FirstHalf};
@@ -7,7 +7,9 @@ ghost use Rattle.table_state.specs.Lists.{IsClosed};
 ghost use Rattle.mesh_table.specs.Sights.{setup_at};
 ghost use Rattle.mesh_table.specs.Told.{IsOf, sight};
 ghost use Rattle.table_passes.specs.Answers.{CanRefine, IsAimed};
+ghost use Rattle.table_passes.specs.Kept.{HasKept};
 
+use crate::lists::Lists;
 use crate::owner::{OwnerSeat, can_bisect, new_table};
 use crate::pass::Pass;
 use crate::tasks::work_all;
@@ -50,6 +52,7 @@ fn begun<'m>(
     ensures alone { IfOk result (λ r. (sight r.1.seat).ruling.lone ≡ false) }
     ensures mesh { IfOk result (λ r. r.0.site.mesh.now ≡ mesh.now) }
     ensures closed { IfOk result (λ r. IsClosed (setup_at r.0.site) (HasEntry (sight r.1.seat).ruling.plan.target)) }
+    ensures pool { IfOk result (λ r. r.0.site.layout.pool ≡ pool) }
     ensures aimed { IfOk result (λ r. All (IsAimed (shape_of mesh.now) (sight r.1.seat).ruling.plan.target) needs.now) }
 {
     if !can_bisect(mesh, needs) {
@@ -77,16 +80,18 @@ fn three_calls<R: Threads + Sync>(
     owner: &mut OwnerSeat,
     first: ElemName,
     second: ElemName,
+    pool: u32,
 ) -> Result<[Option<u32>; 3], AllocError>
     requires fit { IsOf table.now.table.shared.table_id owner.old.seat }
     requires half { (sight owner.old.seat).ruling.phase ≡ FirstHalf }
     requires alone { (sight owner.old.seat).ruling.lone ≡ false }
     requires closed { IsClosed (setup_at table.now.site) (HasEntry (sight owner.old.seat).ruling.plan.target) }
+    requires pool { pool ≡ table.now.site.layout.pool }
     requires first { IsAimed (shape_of table.now.site.mesh.now) (sight owner.old.seat).ruling.plan.target first }
     requires second { IsAimed (shape_of table.now.site.mesh.now) (sight owner.old.seat).ruling.plan.target second }
 {
     let names = vec![in alloc; first, second, first]?;
-    let mut tasks = owner.split_tasks(table, alloc, vec![in alloc; names]?)?;
+    let mut tasks = owner.split_tasks(table, alloc, vec![in alloc; names]?, pool)?;
     work_all(rt, table, tasks.as_mut_slice(), &NoGate);
     let mut answers = [None, None, None];
     for task in tasks.as_slice() {
@@ -107,10 +112,10 @@ fn names_are_refined_with_all_above_them(rt: HostRuntime) -> Result<(), Fail> {
     let low = mesh.element_count() == 2 && mesh.level(far) <= 24;
     assert!(rt; low);
     let (table, mut owner) = begun(alloc, &mesh, 4, &needs)?;
-    let mut scout = owner.split(&table, 2);
+    let mut scout = owner.split(&table, 2, Lists::with_room(alloc, 0)?);
     let round = scout.working();
     assert_eq!(rt; climb(&table, &mut scout.seat, needs[1], round), Some(top));
-    let answers = three_calls(&rt, alloc, &table, &mut owner, needs[1], needs[2])?;
+    let answers = three_calls(&rt, alloc, &table, &mut owner, needs[1], needs[2], 4)?;
     assert_eq!(rt; answers, [Some(2), Some(1), Some(0)]);
     assert_eq!(rt; climb(&table, &mut scout.seat, needs[1], round), None);
     let found = locate(&table, &mut scout.seat, far, round);
@@ -126,10 +131,20 @@ fn a_draw_beyond_the_free_blocks_is_refused(rt: HostRuntime) -> Result<(), Fail>
     let top = ElemName::top(0);
     let needs = [top, top.child_at(false), top.child_at(true)];
     let (table, mut owner) = begun(alloc, &mesh, 1, &needs)?;
-    let mut pass = owner.split(&table, 1);
+    let mut pass = owner.split(&table, 1, Lists::with_room(alloc, 1)?);
     let answer = pass.refine(&table, needs[1], &NoGate);
-    let full = matches!(answer, Err(ClaimRefusal::Full { drawn: 1, free: 1 }));
+    let full = matches!(
+        answer,
+        Err(ClaimRefusal::Full {
+            drawn: 1,
+            free: 1,
+            ..
+        })
+    );
     assert!(rt; full);
+    let blocks = pass.lists.published.as_slice().len();
+    assert_eq!(rt; blocks, 1);
+    assert!(rt; pass.lists.failed.is_some());
     Ok(())
 }
 
@@ -173,6 +188,8 @@ fn call_meanwhile(
     requires fit { IsOf table.now.table.shared.table_id pass.old.seat }
     requires can { CanRefine (setup_at table.now.site) (sight pass.old.seat) }
     requires aimed { IsAimed (shape_of table.now.site.mesh.now) (sight pass.old.seat).work.plan.target name }
+    requires kept { HasKept table.now.site pass.old }
+    requires room { table.now.site.layout.pool ≤ vec_capacity pass.old.lists.published }
 {
     if !comes(&hold.claimed) {
         return None;
@@ -204,7 +221,9 @@ fn call_both<R: Threads + Sync>(
     Option<Result<Done, ClaimRefusal>>,
 )
     requires one { IsOf table.now.table.shared.table_id one.old.seat × CanRefine (setup_at table.now.site) (sight one.old.seat) }
+    requires one_list { HasKept table.now.site one.old × (table.now.site.layout.pool ≤ vec_capacity one.old.lists.published) }
     requires two { IsOf table.now.table.shared.table_id two.old.seat × CanRefine (setup_at table.now.site) (sight two.old.seat) }
+    requires two_list { HasKept table.now.site two.old × (table.now.site.layout.pool ≤ vec_capacity two.old.lists.published) }
     requires first { IsAimed (shape_of table.now.site.mesh.now) (sight one.old.seat).work.plan.target first }
     requires second { IsAimed (shape_of table.now.site.mesh.now) (sight two.old.seat).work.plan.target second }
 {
@@ -223,8 +242,8 @@ fn a_claim_of_another_pass_defers(rt: HostRuntime) -> Result<(), Fail> {
     let beside = ElemName::top(1);
     let needs = [zero, beside];
     let (table, mut owner) = begun(alloc, &mesh, 4, &needs)?;
-    let mut one = owner.split(&table, 1);
-    let mut two = owner.split(&table, 2);
+    let mut one = owner.split(&table, 1, Lists::with_room(alloc, 4)?);
+    let mut two = owner.split(&table, 2, Lists::with_room(alloc, 4)?);
     let hold = Hold {
         claimed: AtomicU64::new(0),
         answered: AtomicU64::new(0),

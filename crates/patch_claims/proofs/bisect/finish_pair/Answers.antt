@@ -1,5 +1,5 @@
-use Rattle.std.proofs.Common.{ℕ, ◌+◌, true, refl, sym, subst, inl, inr, ⊎_elim}
-use Rattle.table_words.specs.Claims.{Drawn, Half, Whole, Living}
+use Rattle.std.proofs.Common.{ℕ, ◌+◌, List, true, refl, sym, ap, ◌∙◌, subst, inl, inr, ⊎_elim}
+use Rattle.table_words.specs.Claims.{Claim, Drawn, Half, Whole, Living, moved_on}
 use Rattle.table_words.specs.Entries.{HasEntry}
 use Rattle.table_words.specs.NameWords.{name_code}
 use Rattle.table_words.specs.Places.{place_number}
@@ -8,6 +8,7 @@ use Rattle.table_state.proofs.HeldClaims.{moved_on_here}
 use Rattle.mesh_table.specs.Told.{sight}
 use Rattle.patch_claims.specs.Claims.{AllLivingBut}
 use Rattle.patch_claims.proofs.Claims.{but_moves, all_lives, linked_half}
+use Rattle.patch_claims.proofs.Listing.{moved_twice}
 use Rattle.patch_claims.proofs.bisect.finish_pair.Goals as goal
 
 pub link_second-requires-clause-may : goal.link_second-requires-clause-may
@@ -47,3 +48,11 @@ returns-clause-others c but =
     let x = place_number c.args.table.now.site.layout c.args.at in
     let b = c.args.block in
     rw (c.publish.ensures.view, c.link_second.ensures.view, (linked_half _ _ (place_number c.args.table.now.site.layout c.args.at) (place_number c.args.table.now.site.layout c.args.other) c.args.block c.link_first.ensures.view)) (all_lives _ x b (but_moves _ x (Whole b) (but_moves _ x (Half b) (subst (AllLivingBut x) (sym c.fill_pair.ensures.same.claims) but))))
+
+pub returns-clause-moved : goal.returns-clause-moved
+returns-clause-moved c =
+    let x = place_number c.args.table.now.site.layout c.args.at in
+    let b = c.args.block in
+    let cs = (sight c.fill_pair.new.pass).claims in
+    rw (c.publish.ensures.view, c.link_second.ensures.view, (linked_half _ _ (place_number c.args.table.now.site.layout c.args.at) (place_number c.args.table.now.site.layout c.args.other) c.args.block c.link_first.ensures.view))
+    (moved_twice (moved_on cs x (Half b)) x (Whole b) (Living b) ∙ moved_twice cs x (Half b) (Living b) ∙ ap (λ (ds : List Claim). moved_on ds x (Living b)) c.fill_pair.ensures.same.claims)

@@ -30,3 +30,6 @@ returns-clause-may c =
     rw (c.fill_history-2.ensures.view, c.fill_history.ensures.view, c.look_link.ensures.view, c.fill_children.ensures.view, c.fill_name-2.ensures.view, c.fill_name.ensures.view, c.fill_died.ensures.view)
     (may_link (setup_at c.args.table.now.site) (sight c.args.pass.now) (place_number c.args.table.now.site.layout c.args.at) c.args.block (name_code c.args.name) (node_of c.look_link.result) (node (after c.past_of-past.result.block) c.past_of-past.result.died) c.past_of-past.ensures.1 c.requires.works c.requires.drew c.requires.found c.requires.leads.0 c.requires.leads.1
     (λ d low e. c.fill_children.ensures.apart (place_number c.args.table.now.site.layout c.args.at) (name_code c.args.name) d (rw (c.fill_name-2.ensures.view, c.fill_name.ensures.view, c.fill_died.ensures.view) c.requires.found) low e))
+
+pub returns-clause-unfound : goal.returns-clause-unfound
+returns-clause-unfound c y a d found low at = c.fill_children.ensures.apart y a d (rw (c.fill_name-2.ensures.view, c.fill_name.ensures.view, c.fill_died.ensures.view) found) low at

@@ -33,3 +33,6 @@ returns-clause-may c =
     c.past_of-past.ensures.1 c.past_of-second.ensures.1 c.requires.apart c.requires.works c.requires.drew c.requires.found c.requires.mate c.requires.leads.0 c.requires.leads.1 (name_code c.args.partner - 1, omega arith)
     (λ d low e. c.fill_children.ensures.apart (place_number c.args.table.now.site.layout c.args.at) (name_code c.args.name) d (rw (c.fill_name-2.ensures.view, c.fill_name.ensures.view, c.fill_died.ensures.view) c.requires.found) low e)
     (λ d low e. c.fill_children.ensures.apart (place_number c.args.table.now.site.layout c.args.other) (name_code c.args.partner) d (rw (c.fill_name-2.ensures.view, c.fill_name.ensures.view, c.fill_died.ensures.view) c.requires.mate) low e))
+
+pub returns-clause-unfound : goal.returns-clause-unfound
+returns-clause-unfound c y a d found low at = c.fill_children.ensures.apart y a d (rw (c.fill_name-2.ensures.view, c.fill_name.ensures.view, c.fill_died.ensures.view) found) low at

@@ -1,4 +1,4 @@
-use Rattle.std.proofs.Common.{◌≡◌, ◌+◌, ◌-◌, ⊎_elim, List, [], ◌∷◌, refl, sym, ap, ◌∙◌, subst, arith, false}
+use Rattle.std.proofs.Common.{◌≡◌, ◌+◌, ◌-◌, ⊎_elim, inl, None, List, [], ◌∷◌, refl, sym, ap, ◌∙◌, subst, arith, false}
 use Rattle.table_words.specs.NameWords.{name_code}
 use Rattle.table_words.specs.Places.{place_number}
 use Rattle.mesh_table.specs.Saw.{Saw, SawClaim, SawDraw, SawFree, SawBirth, SawBisected, SawEnd}
@@ -7,6 +7,7 @@ use Rattle.mesh_table.specs.Told.{sight}
 use Rattle.mesh_table.specs.Lost.{AllLiving}
 use Rattle.patch_claims.proofs.Claims.{anothers_on}
 use Rattle.patch_claims.proofs.Growing.{arrived_knows}
+use Rattle.patch_claims.proofs.Listing.{free_place, kept_failed, listed_own, listed_room, listed_same}
 use Rattle.patch_claims.proofs.needs.take_alone.Goals as goal
 
 pub returns-in-Some-clause-made : goal.returns-in-Some-clause-made
@@ -69,3 +70,40 @@ returns-in-None-clause-refused g c =
       ),
       subst AllLiving (sym claims) c.requires.living,
     )
+
+pub returns-in-Some-clause-listed : goal.returns-in-Some-clause-listed
+returns-in-Some-clause-listed g c =
+    let lost = c.in-Claimed.ensures.ends.1 in
+    let wiser = c.in-Some.ensures.wiser in
+    listed_same c.args.table.now.site (sight c.args.pass.now) (sight c.visit.new.pass) c.args.published.now.items (wiser.claims ∙ lost.claims) (λ a e. wiser.found a (lost.found a e)) (λ a e. wiser.known a (lost.known a e)) c.requires.listed
+
+pub returns-in-None-clause-kept : goal.returns-in-None-clause-kept
+returns-in-None-clause-kept g c =
+    let lost = c.in-Claimed.ensures.ends.1 in
+    let wiser = c.in-None.ensures.wiser in
+    listed_same c.args.table.now.site (sight c.args.pass.now) (sight c.visit.new.pass) c.args.published.now.items (wiser.claims ∙ lost.claims) (λ a e. wiser.found a (lost.found a e)) (λ a e. wiser.known a (lost.known a e)) c.requires.listed
+
+pub returns-in-Full-clause-kept : goal.returns-in-Full-clause-kept
+returns-in-Full-clause-kept g c =
+    let ends = c.in-Full.ensures.ends in
+    kept_failed c.args.table.now.site (sight c.args.pass.now) (sight c.bisect_alone.new.pass) c.args.published.now.items (record { first = c.args.at; second = None })
+    c.requires.listed c.bisect_alone.ensures.works ends.3 (free_place (setup_at c.args.table.now.site) (sight c.args.pass.now) _ _ (name_code c.args.name) c.requires.unclaimed ends.4 c.requires.may.found (inl refl)) (c.requires.place, tt)
+
+pub keep-requires : goal.keep-requires
+keep-requires g c =
+    let ends = c.in-Published.ensures.ends in
+    let none : (setup_at c.args.table.now.site).mate (name_code c.args.name) ≡ 0 = ⊎_elim (λ z. z.1) (λ y. let z = y.2 in absurd (omega arith)) c.requires.may.mates in
+    record {
+      room = listed_room c.args.table.now.site (sight c.args.pass.now) (sight c.bisect_alone.new.pass) c.args.published.now.items (record { block = c.in-Published.block; spot = record { first = c.args.at; second = None }; name = record { first = c.args.name; second = None } })
+          c.requires.listed c.bisect_alone.ensures.works (place_number c.args.table.now.site.layout c.args.at) (name_code c.args.name) false ends.5 (free_place (setup_at c.args.table.now.site) (sight c.args.pass.now) _ _ (name_code c.args.name) c.requires.unclaimed ends.6 c.requires.may.found (inl refl)) ends.7 ends.0 (c.requires.place, tt) c.requires.may.found ends.2
+          (ends.2 (name_code c.args.name) (inl refl), λ i e. absurd (omega arith)) _ c.requires.room;
+    }
+
+pub returns-in-Published-clause-listed : goal.returns-in-Published-clause-listed
+returns-in-Published-clause-listed g c =
+    let ends = c.in-Published.ensures.ends in
+    let none : (setup_at c.args.table.now.site).mate (name_code c.args.name) ≡ 0 = ⊎_elim (λ z. z.1) (λ y. let z = y.2 in absurd (omega arith)) c.requires.may.mates in
+    rw (c.keep.ensures.items, c.walk_own.ensures.view)
+    (listed_own c.args.table.now.site (sight c.args.pass.now) (sight c.bisect_alone.new.pass) c.args.published.now.items (record { block = c.in-Published.block; spot = record { first = c.args.at; second = None }; name = record { first = c.args.name; second = None } })
+    c.requires.listed c.bisect_alone.ensures.works (place_number c.args.table.now.site.layout c.args.at) (name_code c.args.name) false ends.5 (free_place (setup_at c.args.table.now.site) (sight c.args.pass.now) _ _ (name_code c.args.name) c.requires.unclaimed ends.6 c.requires.may.found (inl refl)) ends.7 ends.0 (c.requires.place, tt) c.requires.may.found ends.2
+    (ends.2 (name_code c.args.name) (inl refl), λ i e. absurd (omega arith)))

@@ -1,4 +1,4 @@
-use Rattle.std.proofs.Common.{◌≡◌, ◌+◌, ◌-◌, ⊎_elim, List, [], ◌∷◌, refl, sym, ap, ◌∙◌, subst, arith}
+use Rattle.std.proofs.Common.{◌≡◌, ◌+◌, ◌-◌, ◌⊎◌, ⊎_elim, inl, inr, Some, List, [], ◌∷◌, refl, sym, ap, ◌∙◌, subst, arith}
 use Rattle.mesh_names.specs.Names.{Name}
 use Rattle.table_words.specs.Entries.{HasEntry}
 use Rattle.table_words.specs.NameWords.{name_code}
@@ -9,6 +9,9 @@ use Rattle.mesh_table.specs.Told.{sight}
 use Rattle.mesh_table.specs.Lost.{AllLiving}
 use Rattle.patch_claims.proofs.Claims.{anothers_on}
 use Rattle.patch_claims.proofs.Growing.{arrived_knows}
+use Rattle.patch_claims.specs.Claims.{IsFree}
+use Rattle.patch_claims.specs.Ends.{NamesApart}
+use Rattle.patch_claims.proofs.Listing.{free_place, kept_failed, listed_own, listed_room, listed_same}
 use Rattle.patch_claims.proofs.needs.take_pair.Goals as goal
 
 pub returns-in-Some-clause-made : goal.returns-in-Some-clause-made
@@ -72,3 +75,46 @@ returns-in-None-clause-refused g c =
       ),
       subst AllLiving (sym claims) c.requires.living,
     )
+
+pub returns-in-Some-clause-listed : goal.returns-in-Some-clause-listed
+returns-in-Some-clause-listed g c =
+    let lost = c.in-Claimed.ensures.ends.1 in
+    let wiser = c.in-Some.ensures.wiser in
+    listed_same c.args.table.now.site (sight c.args.pass.now) (sight c.visit.new.pass) c.args.published.now.items (wiser.claims ∙ lost.claims) (λ a e. wiser.found a (lost.found a e)) (λ a e. wiser.known a (lost.known a e)) c.requires.listed
+
+pub returns-in-None-clause-kept : goal.returns-in-None-clause-kept
+returns-in-None-clause-kept g c =
+    let lost = c.in-Claimed.ensures.ends.1 in
+    let wiser = c.in-None.ensures.wiser in
+    listed_same c.args.table.now.site (sight c.args.pass.now) (sight c.visit.new.pass) c.args.published.now.items (wiser.claims ∙ lost.claims) (λ a e. wiser.found a (lost.found a e)) (λ a e. wiser.known a (lost.known a e)) c.requires.listed
+
+pub returns-in-Full-clause-kept : goal.returns-in-Full-clause-kept
+returns-in-Full-clause-kept g c =
+    let ends = c.in-Full.ensures.ends in
+    let which : (name_code c.args.owner ≡ name_code c.args.name) ⊎ ((setup_at c.args.table.now.site).mate (name_code c.args.owner) ≡ name_code c.args.name) = ⊎_elim (λ w. inl (sym (ap name_code w.1))) (λ w. inr (c.requires.seconds ∙ sym (ap name_code w.1))) c.requires.which in
+    let free : NamesApart (sight c.args.pass.now) → IsFree (sight c.args.pass.now).claims (place_number c.args.table.now.site.layout c.args.first) = λ apart. free_place (setup_at c.args.table.now.site) (sight c.args.pass.now) (place_number c.args.table.now.site.layout c.args.first) (name_code c.args.owner) (name_code c.args.name) c.requires.unclaimed apart c.requires.may.found which in
+    kept_failed c.args.table.now.site (sight c.args.pass.now) (sight c.bisect_pair.new.pass) c.args.published.now.items (record { first = c.args.first; second = Some c.args.second })
+    c.requires.listed c.bisect_pair.ensures.works ends.3 (free ends.4) (c.requires.first, c.requires.second)
+
+pub keep-requires : goal.keep-requires
+keep-requires g c =
+    let ends = c.in-Published.ensures.ends in
+    let which : (name_code c.args.owner ≡ name_code c.args.name) ⊎ ((setup_at c.args.table.now.site).mate (name_code c.args.owner) ≡ name_code c.args.name) = ⊎_elim (λ w. inl (sym (ap name_code w.1))) (λ w. inr (c.requires.seconds ∙ sym (ap name_code w.1))) c.requires.which in
+    let free : NamesApart (sight c.args.pass.now) → IsFree (sight c.args.pass.now).claims (place_number c.args.table.now.site.layout c.args.first) = λ apart. free_place (setup_at c.args.table.now.site) (sight c.args.pass.now) (place_number c.args.table.now.site.layout c.args.first) (name_code c.args.owner) (name_code c.args.name) c.requires.unclaimed apart c.requires.may.found which in
+    record {
+      room = listed_room c.args.table.now.site (sight c.args.pass.now) (sight c.bisect_pair.new.pass) c.args.published.now.items
+          (record { block = c.in-Published.block; spot = record { first = c.args.first; second = Some c.args.second }; name = record { first = c.args.owner; second = Some c.args.partner } })
+          c.requires.listed c.bisect_pair.ensures.works (place_number c.args.table.now.site.layout c.args.at) (name_code c.args.name) c.args.side ends.5 (free ends.6) ends.7 ends.0 (c.requires.first, c.requires.second) c.requires.may.found ends.2
+          (ends.2 (name_code c.args.owner) (inl refl), λ i e. ends.2 (i + 1) (inr (inl (sym e ∙ c.requires.seconds)))) _ c.requires.room;
+    }
+
+pub returns-in-Published-clause-listed : goal.returns-in-Published-clause-listed
+returns-in-Published-clause-listed g c =
+    let ends = c.in-Published.ensures.ends in
+    let which : (name_code c.args.owner ≡ name_code c.args.name) ⊎ ((setup_at c.args.table.now.site).mate (name_code c.args.owner) ≡ name_code c.args.name) = ⊎_elim (λ w. inl (sym (ap name_code w.1))) (λ w. inr (c.requires.seconds ∙ sym (ap name_code w.1))) c.requires.which in
+    let free : NamesApart (sight c.args.pass.now) → IsFree (sight c.args.pass.now).claims (place_number c.args.table.now.site.layout c.args.first) = λ apart. free_place (setup_at c.args.table.now.site) (sight c.args.pass.now) (place_number c.args.table.now.site.layout c.args.first) (name_code c.args.owner) (name_code c.args.name) c.requires.unclaimed apart c.requires.may.found which in
+    rw (c.keep.ensures.items, c.walk_own.ensures.view)
+    (listed_own c.args.table.now.site (sight c.args.pass.now) (sight c.bisect_pair.new.pass) c.args.published.now.items
+    (record { block = c.in-Published.block; spot = record { first = c.args.first; second = Some c.args.second }; name = record { first = c.args.owner; second = Some c.args.partner } })
+    c.requires.listed c.bisect_pair.ensures.works (place_number c.args.table.now.site.layout c.args.at) (name_code c.args.name) c.args.side ends.5 (free ends.6) ends.7 ends.0 (c.requires.first, c.requires.second) c.requires.may.found ends.2
+    (ends.2 (name_code c.args.owner) (inl refl), λ i e. ends.2 (i + 1) (inr (inl (sym e ∙ c.requires.seconds)))))

@@ -10,5 +10,5 @@ decreases-work_halves-join_mut+arg3 g l = 3 * length l.right.now + 1
 abbrev pub decreases-work_halves : goal.decreases-work_halves
 decreases-work_halves g l = 3 * (length l.left.now + length l.right.now) - 1
 
-abbrev pub decreases-work_all : goal.decreases-work_all
-decreases-work_all g l = 3 * length l.tasks.now
+abbrev pub decreases-work_nested : goal.decreases-work_nested
+decreases-work_nested g l = 3 * length l.tasks.now

@@ -25,4 +25,6 @@ loop-name-preserved g c = let mesh = shape_of c.args.table.now.site.mesh.now in 
       count = more_count mesh x (sight c.args.pass.now.seat) (sight c.loop-name.pass.seat) (sight c.refine-answer.new.self.seat) c.args.names.now c.loop-name.name-index c.name-item.result c.loop-name.answers.items c.push_reserved.new.self.items c.refine-answer.result c.loop-name-test.true old.count old.works old.ran has c.push_reserved.ensures.items;
       ran = ran_next mesh x (sight c.args.pass.now.seat) (sight c.loop-name.pass.seat) (sight c.refine-answer.new.self.seat) c.args.names.now c.loop-name.name-index c.name-item.result c.loop-name.answers.items c.push_reserved.new.self.items c.refine-answer.result c.loop-name-test.true old.count old.works old.ran has c.push_reserved.ensures.items;
       capacity = c.push_reserved.ensures.capacity ∙ old.capacity;
+      kept = step.kept;
+      list = step.room ∙ old.list;
     }

@@ -5,6 +5,7 @@ use Rattle.mesh_table.specs.Lost.{AllLiving}
 use Rattle.mesh_table.specs.Told.{Stays, sight}
 use Rattle.patch_walk.specs.Works.{Works}
 use Rattle.table_passes.specs.Answers.{Ran}
+use Rattle.table_passes.specs.Kept.{HasKept}
 use Rattle.table_passes.proofs.tasks.refine_names.Given as goal
 
 abbrev pub invariant-loop-name : goal.invariant-loop-name
@@ -17,4 +18,6 @@ invariant-loop-name g l = record {
   count : length l.answers.items ≡ l.name-index;
   ran : Ran (shape_of l.table.site.mesh.now) (across_in l.table.site.mesh.now) (sight l.fn.pass.seat) (take l.name-index l.names) l.answers.items (sight l.pass.seat);
   capacity : vec_capacity l.answers ≡ vec_capacity l.fn.answers;
+  kept : HasKept l.table.site l.pass;
+  list : vec_capacity l.pass.lists.published ≡ vec_capacity l.fn.pass.lists.published;
 }

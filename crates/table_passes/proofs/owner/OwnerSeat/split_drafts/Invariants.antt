@@ -14,7 +14,7 @@ invariant-loop-draft l = record {
   count : length l.yielded ≡ l.number;
   tasks : length l.tasks.items ≡ l.number;
   room : vec_capacity l.tasks ≡ vec_capacity l.initial.tasks;
-  new : All (IsNew l.table.table.shared.table_id (sight l.fn.self.seat)) l.tasks.items;
+  new : All (IsNew l.table.table.shared.table_id l.table.site (sight l.fn.self.seat)) l.tasks.items;
   numbers : map (λ t. t.pass.number) l.tasks.items ≡ map (λ i. i + 1) (range_with_len 0 l.number);
   names : map (λ t. t.names.items) l.tasks.items ≡ map (λ d. d.names.items) l.yielded;
 }
