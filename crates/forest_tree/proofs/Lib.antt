@@ -1,0 +1,5 @@
+pub mod HeldSets
+pub mod ListedSets
+pub mod Beside
+pub mod NewDeltas
+pub mod RowNames
