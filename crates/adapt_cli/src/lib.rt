@@ -15,5 +15,6 @@ pub mod program;
 pub mod reports;
 mod restart_lines;
 pub mod rounds;
+pub mod resuming;
 pub mod saving;
 pub mod soaking;

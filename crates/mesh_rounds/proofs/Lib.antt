@@ -6,6 +6,7 @@ pub mod BornPatches
 pub mod DiedPatches
 pub mod CornerKeys
 pub mod Bisecting
+pub mod Growing
 pub mod LevelRuns
 pub mod RoundLaws
 pub mod Taking
@@ -17,3 +18,5 @@ pub mod ValuesStay
 pub mod Listed
 pub mod States
 pub mod Rounding
+pub mod Resuming
+pub mod OneRound

@@ -17,13 +17,13 @@ use Rattle.dof_transfer.specs.Changes.{AreBisections, AreCoarsenings, IsChange}
 use Rattle.dof_transfer.specs.VertexNames.{AreMakings, IsOwned, IsTransition}
 use Rattle.dof_transfer.proofs.Exchanging.{Misses}
 use Rattle.dof_transfer.proofs.NamedElements.{in-or-misses, less-has, less-member, not-in}
-use Rattle.mesh_rounds.specs.RoundChanges.{IsRoundOn, RoundsAreChanges, RoundsAreTransitions, RoundsCanBeFollowed}
+use Rattle.mesh_rounds.specs.RoundChanges.{BornAreLow, BornArePairs, BornAreRooted, IsRoundOn, RoundsAreChanges, RoundsAreTransitions, RoundsCanBeFollowed}
 use Rattle.mesh_rounds.proofs.NameLists.{Turns, all-in}
-use Rattle.mesh_rounds.proofs.NewOwners.{Encloses, Falls, falling-in, new-name, new-owner, owners-apart, patch-gone, rising-in, rising-turns}
+use Rattle.mesh_rounds.proofs.NewOwners.{Encloses, Falls, falling-in, new-name, new-owner, patch-gone}
 use Rattle.mesh_rounds.proofs.RoundForests.{grew, new_holds_partners, new_is_forest, refined, shrank}
-use Rattle.mesh_rounds.proofs.BornPatches.{born-are, born-new, born_are_low, born_are_pairs, born_are_rooted, born_owners}
+use Rattle.mesh_rounds.proofs.Growing.{grown-bisections, grown-low, grown-makings, grown-pairs, grown-rooted}
 use Rattle.mesh_rounds.proofs.DiedPatches.{died-are, died-new, died-turns, died_are_parents, died_owners, from-members, member-inside, members-from, members-turns, patches}
-use Rattle.mesh_rounds.proofs.Bisecting.{IsBetween, all-bisections, all-makings, owned-owned}
+use Rattle.mesh_rounds.proofs.Bisecting.{owned-owned}
 use Rattle.mesh_rounds.proofs.LevelRuns.{IsLeft, all-coarsenings, fall-by_level, flat-by_level}
 use Rattle.forest_plain.specs.Rounds.{Room}
 
@@ -46,31 +46,11 @@ module _ (mesh : Mesh) (room : Room) (old : Names) (rows : List MarkRow) (new : 
   low : (n : Name) → Has grown n → level shape n < 24
   low n h = let l = more.forest.shallow n h in omega (arith, l)
 
-  abbrev born : List Name
-  born = born_owners mesh room old rows new delta round
-
-  -- the old forest lacks the born patches
-  between : IsBetween mesh round.checked grown old more old born
-  between = record {
-    closed = round.forest.closed;
-    holds = round.partners;
-    within = more.within;
-    out = λ n i. (born-new mesh room old rows new delta round n i).outside;
-    rest = λ q h. ⊎_elim
-        (λ (e : Has old q). inl e)
-        (λ (e : contains old q ≡ false).
-        let r = new-name shape across grown old more round.round.born.list round.round.born.is_list q h e in
-        inr (r.0, rising-in shape 24 _ r.0 r.1 (low r.0 (new-owner shape across grown old more round.round.born.list round.round.born.is_list r.0 r.1).inside), r.2))
-        (is_or_not (contains old q));
-    new = born-new mesh room old rows new delta round;
-    turns = rising-turns shape 24 _ (owners-apart shape across grown old more round.round.born.list round.round.born.is_list);
-  }
-
   bisections : AreBisections shape old delta.born.items grown
-  bisections = subst (λ (ps : List PatchName). AreBisections shape old ps grown) (sym (born-are mesh room old rows new delta round)) (all-bisections mesh round.checked grown old more born old between)
+  bisections = grown-bisections mesh round.checked grown old more delta.born.items round.round.born
 
   makings : AreMakings mesh old delta.born.items grown
-  makings = subst (λ (ps : List PatchName). AreMakings mesh old ps grown) (sym (born-are mesh room old rows new delta round)) (all-makings mesh round.checked grown old more born old between)
+  makings = grown-makings mesh round.checked grown old more delta.born.items round.round.born
 
   abbrev died : List Name
   died = died_owners mesh room old rows new delta round
@@ -133,6 +113,15 @@ module _ (mesh : Mesh) (room : Room) (old : Names) (rows : List MarkRow) (new : 
     owned = all-owned;
     is = subst (λ (ps : List PatchName). new ≡ difference grown (from_list (all_members ps))) (sym is-died) without;
   }
+
+pub born_are_pairs : BornArePairs
+born_are_pairs mesh room old rows new delta round = grown-pairs mesh round.checked (refined mesh room old rows new delta round) old (grew mesh room old rows new delta round) delta.born.items round.round.born
+
+pub born_are_rooted : BornAreRooted
+born_are_rooted mesh room old rows new delta round = grown-rooted mesh round.checked (refined mesh room old rows new delta round) old (grew mesh room old rows new delta round) delta.born.items round.round.born
+
+pub born_are_low : BornAreLow
+born_are_low mesh room old rows new delta round = grown-low mesh round.checked (refined mesh room old rows new delta round) old (grew mesh room old rows new delta round) delta.born.items round.round.born
 
 pub rounds_are_changes : RoundsAreChanges
 rounds_are_changes mesh room old rows new delta round = change mesh room old rows new delta round

@@ -20,10 +20,10 @@ use Rattle.dof_transfer.specs.VertexNames.{IsVertexIn}
 use Rattle.dof_transfer.specs.VertexValues.{value_at}
 use Rattle.mesh_rounds.specs.ForestValues.{ElementsStay, FirstElements, FirstVertices, VerticesStay}
 
-no_member : (n : Name) → Has empty n → ⊥
+pub no_member : (n : Name) → Has empty n → ⊥
 no_member n h = both_sides (contains (empty {R = name_cmp}) n) h (contains-empty name_cmp n)
 
-empty_forest : (mesh : Shape) → IsForest mesh empty
+pub empty_forest : (mesh : Shape) → IsForest mesh empty
 empty_forest mesh = record {
   rooted = λ n h. absurd (no_member n h);
   shallow = λ n h. absurd (no_member n h);

@@ -3,3 +3,5 @@ pub mod Setting
 pub mod Taking
 pub mod State
 pub mod ForestValues
+pub mod Resumed
+pub mod SameRounds

@@ -1,6 +1,7 @@
 //! Laws over the definitions alone. Each function takes nothing and answers nothing: its
 //! contract is the law.
 ghost use Rattle.mesh_rounds.specs.ForestValues.{ElementsStay, FirstElements, FirstVertices, VerticesStay};
+ghost use Rattle.mesh_rounds.specs.SameRounds.{RoundsEndAtOne};
 ghost use Rattle.mesh_rounds.specs.RoundChanges.{BornAreLow, BornArePairs, BornAreRooted, DiedAreParents, NewHoldsPartners, NewIsForest, RoundsAreChanges, RoundsAreTransitions, RoundsCanBeFollowed};
 
 /// A round leads to a forest.
@@ -54,4 +55,9 @@ pub fn first_values()
 pub fn values_stay()
     ensures elements { ElementsStay }
     ensures vertices { VerticesStay }
+{}
+
+/// Rounds whose rows say the same lead from one forest to one forest.
+pub fn rounds_end_at_one()
+    ensures { RoundsEndAtOne }
 {}

@@ -2,6 +2,7 @@
 #![tactic(auto)]
 
 pub mod laws;
+pub mod resuming;
 pub mod round;
 mod rows;
 mod setting;

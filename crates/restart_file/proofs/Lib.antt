@@ -10,3 +10,4 @@ pub mod Searching
 pub mod Files
 pub mod Accepting
 pub mod OneFile
+pub mod LeafCounting

@@ -9,3 +9,4 @@ pub mod Lines
 pub mod Parts
 pub mod OneFile
 pub mod Joined
+pub mod LeafCounts

@@ -4,6 +4,7 @@ ghost use Rattle.mesh_names.specs.LeastForest.{IsLeast};
 ghost use Rattle.compat_check.specs.Meshes.{shape_of};
 ghost use Rattle.restart_file.specs.Kept.{IsKept, set_of};
 ghost use Rattle.restart_file.specs.Joined.{IsJoined, KeepsForest};
+ghost use Rattle.restart_file.specs.LeafCounts.{HasFewLeaves};
 ghost use Rattle.restart_file.specs.Merges.{IsMerge};
 
 use crate::reading::Restart;
@@ -40,7 +41,8 @@ fn merge(
 }
 
 /// The least conforming forest that holds two conforming forests over one mesh: the two together.
-/// All three are lists of members in order. Takes one walk over both lists.
+/// All three are lists of members in order. It has at most as many leaves as both together less the
+/// macro elements. Takes one walk over both lists.
 pub fn overlay(
     alloc: Global,
     mesh: &MacroMesh,
@@ -52,6 +54,7 @@ pub fn overlay(
     ensures kept { IfOk result (λ v. IsKept (shape_of mesh.now) v.items) }
     ensures least { IfOk result (λ v. IsLeast (shape_of mesh.now) (set_of first.now) (set_of second.now) (set_of v.items)) }
     ensures few { IfOk result (λ v. length v.items ≤ length first.now + length second.now) }
+    ensures leaves { IfOk result (λ v. HasFewLeaves (shape_of mesh.now) first.now second.now v.items) }
     ensures err { IfErr result (λ r. r ≡ RestartRefusal.Memory) }
 {
     let _count = mesh.element_count();

@@ -1,4 +1,4 @@
-use Rattle.mesh_rounds.proofs.BornPatches.{born_are_low, born_are_rooted}
+use Rattle.mesh_rounds.proofs.RoundLaws.{born_are_low, born_are_rooted}
 use Rattle.mesh_rounds.proofs.laws.born_are_of_mesh.Goals as goal
 
 pub returns-clause-rooted : goal.returns-clause-rooted
