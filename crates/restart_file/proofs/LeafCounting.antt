@@ -1,5 +1,5 @@
 -- A forest has a leaf for each macro element and one more for each member.
-use Rattle.std.proofs.Common.{◌≡◌, ◌⊎◌, ℕ, zero, suc, ◌+◌, ◌*◌, ◌≤◌, Bool, true, false, cond, not, refl, sym, ap, ◌∙◌, subst, List, [], ◌∷◌, ◌++◌, length, inl, inr, ⊎_elim, arith}
+use Rattle.std.proofs.Common.{◌≡◌, ℕ, zero, suc, ◌+◌, ◌*◌, ◌≤◌, Bool, true, false, cond, not, refl, sym, ap, ◌∙◌, subst, List, [], ◌∷◌, ◌++◌, length, inl, inr, ⊎_elim, arith}
 use Rattle.std.specs.FinSet.{contains, difference, from_list, insert, items, len, len-empty, len-insert}
 use Rattle.std.specs.List.Sorted.{IsStrictlySortedBy}
 use Rattle.std.specs.Cmp.{tied_itself}
@@ -12,7 +12,7 @@ use Rattle.mesh_names.specs.Forests.{Has, Names}
 use Rattle.mesh_names.specs.Leaves.{children, leaves, tops}
 use Rattle.mesh_names.proofs.Booleans.{and_both, and-both, left, not-true, not_true, true-not}
 use Rattle.mesh_names.proofs.Inserting.{has-insert, insert-either, new-insert}
-use Rattle.mesh_names.proofs.Leaving.{IsChildIn, children-in, in-children, in-tops, tops-in}
+use Rattle.mesh_names.proofs.Leaving.{children-in, in-children, in-tops, tops-in}
 use Rattle.mesh_names.proofs.Sets.{In, both_sides, has-in, has-item, in-append, in-first, in-has, in-second, is_or_not, item-has, same-tied, tied-same, within-both}
 use Rattle.std.specs.Ordering.{eq_by_cmp}
 use Rattle.restart_file.specs.Kept.{IsKept, set_of}
@@ -114,15 +114,12 @@ module _ (s : Names) where
       let rest = len-less ns a.1 (λ m i. inside m (inr i)) in
       omega (arith, one, rest)
     where
-      abbrev less : Names
-      less = difference s (from_list (n ∷ ns))
-
-      to : (q : Name) → Has (difference s (from_list ns)) q → Has (insert less n) q
+      to : (q : Name) → Has (difference s (from_list ns)) q → Has (insert (difference s (from_list (n ∷ ns))) n) q
       to q h = ⊎_elim
-          (λ (e : eq_by_cmp name_cmp q n ≡ true). subst (Has (insert less n)) (sym (tied-same q n e)) (new-insert less n))
+          (λ (e : eq_by_cmp name_cmp q n ≡ true). subst (Has (insert (difference s (from_list (n ∷ ns))) n)) (sym (tied-same q n e)) (new-insert (difference s (from_list (n ∷ ns))) n))
           (λ (ne : eq_by_cmp name_cmp q n ≡ false).
           let b = difference-in ns q h in
-          has-insert less n q (in-difference (n ∷ ns) q b.0 (λ i. ⊎_elim (λ (e : q ≡ n). both_sides (eq_by_cmp name_cmp q n) (same-tied q n e) ne) (λ (k : In q ns). b.1 k) i)))
+          has-insert (difference s (from_list (n ∷ ns))) n q (in-difference (n ∷ ns) q b.0 (λ i. ⊎_elim (λ (e : q ≡ n). both_sides (eq_by_cmp name_cmp q n) (same-tied q n e) ne) (λ (k : In q ns). b.1 k) i)))
           (is_or_not (eq_by_cmp name_cmp q n))
 
       from : (q : Name) → Has (insert (difference s (from_list (n ∷ ns))) n) q → Has (difference s (from_list ns)) q
@@ -151,7 +148,7 @@ module _ (mesh : Shape) (members : List Name) (kept : IsKept mesh members) where
   same-children : (ns ms : List Name) → ((n : Name) → In n ns → In n ms) → (n : Name) → In n (children ns) → In n (children ms)
   same-children ns ms f n i = let c = children-in ns n i in subst (λ (m : Name). In m (children ms)) (sym c.is) (in-children n.0 c.side c.word ms (f (n.0, c.word) c.parent))
 
-  same-all : from_list (tops (size mesh) ++ children (items (set_of members))) ≡ from_list all
+  same-all : from_list {R = name_cmp} (tops (size mesh) ++ children (items (set_of members))) ≡ from_list all
   same-all = within-both (from_list (tops (size mesh) ++ children (items (set_of members)))) (from_list all)
       (λ n h. in-has n all (both (items (set_of members)) members (λ m i. has-in m members (item-has (set_of members) m i)) n (has-in n (tops (size mesh) ++ children (items (set_of members))) h)))
       (λ n h. in-has n (tops (size mesh) ++ children (items (set_of members))) (both members (items (set_of members)) (λ m i. has-item (set_of members) m (in-has m members i)) n (has-in n all h)))

@@ -1,25 +1,23 @@
 -- A restart file keeps one macro file, one mesh and one forest.
-use Rattle.std.proofs.Common.{◌≡◌, ℕ, suc, ◌+◌, ◌<◌, ◌≤◌, Bool, true, false, refl, sym, ap, ◌∙◌, subst, List, [], ◌∷◌, ◌++◌, length, map, take, drop, arith, append_assoc, ⊎_elim}
+use Rattle.std.proofs.Common.{◌≡◌, ℕ, suc, ◌<◌, ◌≤◌, true, false, refl, sym, ap, ◌∙◌, subst, List, [], ◌∷◌, ◌++◌, length, map, take, drop, arith, append_assoc, ⊎_elim}
 use Rattle.macro_file.specs.declared.refusal.MacroRefusal.{MacroRefusal}
-use Rattle.std.specs.Prelude.{Result, Ok, codes, slice_index_or, pos, ℤ, decimal}
+use Rattle.std.specs.Prelude.{Result, Ok, slice_index_or, pos, ℤ, decimal}
 use Rattle.std.specs.Str.Parse.{digits_value}
 use Rattle.std.proofs.lemmas.Fmt.{digits_value-decimal}
 use Rattle.std.proofs.Math.Seq.{take-append_seam, drop-append_seam}
-use Rattle.mesh_names.specs.Names.{Name}
 use Rattle.mesh_names.specs.Triangles.{Shape, Triple, size}
 use Rattle.mesh_names.proofs.SpelledNames.{own}
 use Rattle.std.specs.List.{position_or_len}
 use Rattle.mesh_names.specs.Validity.{IsCompatible, across_of}
 use Rattle.mesh_names.proofs.Grades.{grades_are_one}
 use Rattle.mesh_names.proofs.Sets.{is_or_not}
-use Rattle.macro_file.specs.Meaning.{Macro, Vertex, Element, meaning}
+use Rattle.macro_file.specs.Meaning.{Macro, Element, meaning}
 use Rattle.macro_file.specs.Text.{macro_of, vertex_of, element_of}
-use Rattle.macro_file.specs.declared.text.MacroVertex.{MacroVertex}
 use Rattle.macro_file.specs.declared.text.MacroElem.{MacroElem}
 use Rattle.macro_file.specs.declared.text.MacroText.{MacroText}
 use Rattle.compat_check.specs.Meshes.{Mesh, edge_of, shape_of, label_of}
-use Rattle.compat_check.specs.Checks.{IsMeshOf, triples_of, made_label}
-use Rattle.restart_file.specs.Files.{IsPart, IsRestart, with_part, part_limit}
+use Rattle.compat_check.specs.Checks.{IsMeshOf, made_label}
+use Rattle.restart_file.specs.Files.{IsPart, part_limit}
 use Rattle.restart_file.specs.Kept.{IsKept}
 use Rattle.restart_file.specs.Trees.{Tree, Leaf, Bisected, word, lines, members_from}
 use Rattle.restart_file.specs.Heads.{is_newline}

@@ -1,12 +1,10 @@
 -- Laws on restart files over the definitions alone.
-use Rattle.std.specs.Prelude.{◌≡◌, ℕ, ◌<◌, ◌≤◌, ◌+◌, List, length, map}
+use Rattle.std.specs.Prelude.{◌≡◌, ℕ, ◌<◌, List, map}
 use Rattle.mesh_names.specs.Names.{Name}
-use Rattle.mesh_names.specs.Triangles.{Shape, size}
-use Rattle.mesh_names.specs.Forests.{IsListOf}
-use Rattle.mesh_names.specs.Leaves.{leaves}
+use Rattle.mesh_names.specs.Triangles.{size}
 use Rattle.macro_file.specs.Text.{vertex_of}
 use Rattle.compat_check.specs.Meshes.{Mesh, label_of, shape_of}
-use Rattle.restart_file.specs.Kept.{IsKept, set_of}
+use Rattle.restart_file.specs.Kept.{IsKept}
 use Rattle.restart_file.specs.Files.{IsPart, IsRestart}
 
 -- two meshes have the same vertices, elements, grades, labels and values
