@@ -14,7 +14,7 @@ pub mod outcome;
 pub mod program;
 pub mod reports;
 mod restart_lines;
-pub mod rounds;
 pub mod resuming;
+pub mod rounds;
 pub mod saving;
 pub mod soaking;

@@ -4,6 +4,7 @@
 //! at most 16,000, half of them are bisected uniformly to depth 13, and the times and their ratios are
 //! printed too; 64 give a million members.
 #![tactic(auto)]
+
 ghost use Rattle.std.specs.Prelude.{IfOk};
 ghost use Rattle.restart_file.specs.Joined.{KeepsForest};
 

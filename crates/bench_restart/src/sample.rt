@@ -39,7 +39,9 @@ impl Sample {
         let squares = self.squares;
         let vertices = u64::from(squares) * 4;
         let elements = u64::from(squares) * 2;
-        let mut part = format!(in alloc; "number of vertices: {vertices}\nnumber of elements: {elements}\nvertex coordinates:\n")?;
+        let mut part = format!(in alloc;
+            "number of vertices: {vertices}\nnumber of elements: {elements}\nvertex coordinates:\n"
+        )?;
         for square in 0..squares {
             let left = u64::from(square) * 2;
             let right = left + 1;

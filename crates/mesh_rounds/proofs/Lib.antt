@@ -18,5 +18,5 @@ pub mod ValuesStay
 pub mod Listed
 pub mod States
 pub mod Rounding
-pub mod Resuming
+pub mod GivenWhole
 pub mod OneRound

@@ -1,22 +1,20 @@
 -- A round leads to one forest, wherever its rows stand in a file.
-use Rattle.std.proofs.Common.{◌≡◌, ◌<◌, ℤ, Bool, cond, ◌&&◌, refl, sym, subst, List, [], ◌∷◌, length}
-use Rattle.std.specs.Prelude.{Option, Some, None, pos, unwrap_or}
+use Rattle.std.proofs.Common.{◌≡◌, ◌<◌, ℤ, cond, ◌&&◌, refl, sym, subst, List, [], ◌∷◌, length}
+use Rattle.std.specs.Prelude.{Some, None, pos, unwrap_or}
 use Rattle.std.specs.FinSet.{contains}
 use Rattle.mesh_names.specs.Names.{Name}
 use Rattle.mesh_names.specs.Triangles.{Shape}
-use Rattle.mesh_names.specs.Partners.{Across, Tells}
 use Rattle.mesh_names.specs.Forests.{Names}
 use Rattle.mesh_names.specs.Leaves.{leaves}
 use Rattle.mesh_names.specs.LeastForest.{IsLeast}
 use Rattle.mesh_names.specs.Coarsening.{IsCoarsened, IsConforming, MarkedForest, marked_by}
 use Rattle.mesh_names.specs.Marks.{IsNeeded, bisections, effective_mark, is_mark, last_mark, later, names_leaf}
-use Rattle.mesh_names.specs.declared.patch.RoundDelta.{RoundDelta}
 use Rattle.mesh_names.specs.declared.rows.MarkRow.{MarkRow}
 use Rattle.mesh_names.proofs.Closing.{least-same}
 use Rattle.mesh_names.proofs.Coarsening.{steps_end_at_one}
 use Rattle.mesh_names.proofs.Sets.{within-both}
-use Rattle.forest_plain.specs.Rounds.{IsRefined, IsRoundBy, Room}
-use Rattle.mesh_rounds.specs.SameRounds.{AreSameRows, IsSameRow, RoundsEndAtOne}
+use Rattle.forest_plain.specs.Rounds.{IsRefined}
+use Rattle.mesh_rounds.specs.SameRounds.{AreSameRows, RoundsEndAtOne}
 
 -- ---- the same marks
 last-same : (rows same : List MarkRow) → AreSameRows rows same → (n : Name) → last_mark rows n ≡ last_mark same n
@@ -43,8 +41,8 @@ module _ (mesh : Shape) (old : Names) where
   refined-same : (rows same : List MarkRow) → AreSameRows rows same → (a b : Names) → IsRefined mesh old rows a → IsRefined mesh old same b → a ≡ b
   refined-same rows same h a b ha hb =
       let needs : hb.needs ≡ ha.needs = within-both hb.needs ha.needs
-          (λ n i. ha.are_needs.all n (needed-same same rows (λ m. sym (marks-same rows same h m)) n (hb.are_needs.needed n i)))
-          (λ n i. hb.are_needs.all n (needed-same rows same (marks-same rows same h) n (ha.are_needs.needed n i))) in
+      (λ n i. ha.are_needs.all n (needed-same same rows (λ m. sym (marks-same rows same h m)) n (hb.are_needs.needed n i)))
+      (λ n i. hb.are_needs.all n (needed-same rows same (marks-same rows same h) n (ha.are_needs.needed n i))) in
       least-same mesh old ha.needs a b ha.least (subst (λ (s : Names). IsLeast mesh old s b) needs hb.least)
 
   -- with the same marks

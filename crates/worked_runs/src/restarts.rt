@@ -91,7 +91,15 @@ fn a_kept_forest_is_the_mesh_that_was_kept(rt: HostRuntime) -> Result<(), Fail> 
 
 #[test]
 fn a_kept_forest_is_refined_on(rt: HostRuntime) -> Result<(), Fail> {
-    assert!(rt; goes_on(&rt, rt.alloc(), "100\n100\n", "1,mark,0.0,2\n", SQUARE_OF_ELEVEN)?);
+    assert!(rt;
+        goes_on(
+            &rt,
+            rt.alloc(),
+            "100\n100\n",
+            "1,mark,0.0,2\n",
+            SQUARE_OF_ELEVEN
+        )?
+    );
     Ok(())
 }
 

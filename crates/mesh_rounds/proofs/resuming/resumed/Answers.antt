@@ -1,6 +1,5 @@
 use Rattle.std.specs.FinSet.{empty}
-use Rattle.mesh_rounds.specs.State.{with_values}
-use Rattle.mesh_rounds.proofs.Resuming.{is_resumed, resumed-state, whole-follows}
+use Rattle.mesh_rounds.proofs.GivenWhole.{is_resumed, resumed-state, whole-follows}
 use Rattle.mesh_rounds.proofs.resuming.resumed.Goals as goal
 use Rattle.std.proofs.Common.{refl}
 

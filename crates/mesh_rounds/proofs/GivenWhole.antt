@@ -15,7 +15,7 @@ use Rattle.mesh_rounds.specs.declared.values.Values.{Values}
 use Rattle.mesh_rounds.specs.Resumed.{IsResumed, IsWhole}
 use Rattle.mesh_rounds.specs.RoundChanges.{CanFollow}
 use Rattle.mesh_rounds.specs.Setting.{AreSet, Holding}
-use Rattle.mesh_rounds.specs.State.{ElementsFollow, IsElementRound, IsFirst, IsState, IsVertexRound, State, VerticesFollow, with_values}
+use Rattle.mesh_rounds.specs.State.{ElementsFollow, IsElementRound, IsFirst, IsState, IsVertexRound, VerticesFollow, with_values}
 use Rattle.mesh_names.specs.declared.rows.MarkRow.{MarkRow}
 use Rattle.dof_transfer.proofs.NamedElements.{less-has, less-member}
 use Rattle.mesh_rounds.proofs.DiedPatches.{members-parents}
