@@ -12,3 +12,5 @@ pub mod FilesInTurn
 pub mod SoakStops
 pub mod RestartOutcomes
 pub mod FindOutcomes
+pub mod ResumeOutcomes
+pub mod Interrupting

@@ -5,12 +5,13 @@ use Rattle.std.specs.FinMap.{get}
 use Rattle.mesh_io.specs.Faults.{Rose}
 use Rattle.mesh_io.specs.Shelves.{Files}
 use Rattle.adapt_words.specs.Numbers.{Word}
-use Rattle.adapt_words.specs.Words.{CommandWords, find, join, mark, mend, run, save, soak}
+use Rattle.adapt_words.specs.Words.{CommandWords, find, join, mark, mend, resume, run, save, soak}
 use Rattle.adapt_cli.specs.FaultTexts.{End, memory_line, read_fault_line, usage, write_fault_line}
 use Rattle.adapt_cli.specs.Finding.{FindAsks, FindLeads}
 use Rattle.adapt_cli.specs.Marks.{MarkAsks, MarkLeads}
 use Rattle.adapt_cli.specs.Mending.{MendAsks, MendLeads}
 use Rattle.adapt_cli.specs.Outcome.{RunAsks, RunLeads}
+use Rattle.adapt_cli.specs.Resuming.{ResumeAsks, ResumeLeads}
 use Rattle.adapt_cli.specs.Restarts.{JoinAsks, JoinLeads, SaveAsks, SaveLeads}
 use Rattle.adapt_cli.specs.Soaks.{IsSoakOutcome}
 use Rattle.adapt_cli.specs.declared.fault.FileStop.{FileStop}
@@ -62,6 +63,7 @@ IsOutcomeOf files (soak s) end = IsSoakOutcome s end
 IsOutcomeOf files (mark m) end = IfSome files (λ told. MarkLeads m told end)
 IsOutcomeOf files (save s) end = IfSome files (λ told. SaveLeads s told end)
 IsOutcomeOf files (join j) end = IfSome files (λ told. JoinLeads j told end)
+IsOutcomeOf files (resume r) end = IfSome files (λ told. ResumeLeads r told end)
 IsOutcomeOf files (find f) end = IfSome files (λ told. FindLeads f told end)
 IsOutcomeOf files (mend m) end = IfSome files (λ told. MendLeads m told end)
 
@@ -72,6 +74,7 @@ AsksFor (soak s) files name = ⊥
 AsksFor (mark m) files name = MarkAsks m files name
 AsksFor (save s) files name = SaveAsks s files name
 AsksFor (join j) files name = JoinAsks j files name
+AsksFor (resume r) files name = ResumeAsks r files name
 AsksFor (find f) files name = FindAsks f files name
 AsksFor (mend m) files name = MendAsks m files name
 

@@ -96,6 +96,10 @@ round_fault round (PoolFull needed kept pool) = Some (full_pool round needed poo
 round_fault round (RoundsUsedUp rounds) = None
 round_fault round Memory = None
 
+-- the fault of a kept forest that has more patches than the pool
+abbrev pub full_forest : ℕ → ℕ → Fault
+full_forest needed pool = (5, joined (codes "adapt: restart: " ∷ decimal needed ∷ codes " patches needed, pool " ∷ decimal pool ∷ codes "\n" ∷ []))
+
 -- the fault of a marks file that has all rounds already
 abbrev pub no_round_left : Fault
 no_round_left = (4, codes "adapt: marks: no round left\n")
@@ -104,7 +108,7 @@ no_round_left = (4, codes "adapt: marks: no round left\n")
 abbrev pub usage : List ℕ
 usage =
     codes "usage: adapt run MACRO MARKS [--workers N] [--pool P] [--report]\n       adapt soak START GRID ROUNDS [--workers N] [--pool P]\n       adapt mark MACRO MARKS RULE [--workers N] [--pool P]\n"
-    ++ codes "       adapt save MACRO MARKS [--workers N] [--pool P]\n       adapt join FIRST SECOND\n       adapt find MACRO MARKS POINTS [--workers N] [--pool P]\n       adapt mend MACRO\n"
+    ++ codes "       adapt save MACRO MARKS [--workers N] [--pool P]\n       adapt join FIRST SECOND\n       adapt resume RESTART MARKS [--workers N] [--pool P]\n       adapt find MACRO MARKS POINTS [--workers N] [--pool P]\n       adapt mend MACRO\n"
 
 -- the line for want of memory
 abbrev pub memory_line : List ℕ

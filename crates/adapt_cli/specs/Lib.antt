@@ -12,3 +12,5 @@ pub mod Stops
 pub mod Mending
 pub mod Restarts
 pub mod Finding
+pub mod Resuming
+pub mod Continuing

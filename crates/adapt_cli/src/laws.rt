@@ -1,5 +1,6 @@
 //! Laws over the definitions alone. Each function takes nothing and answers nothing: its
 //! contract is the law.
+ghost use Rattle.adapt_cli.specs.Continuing.{InterruptedAsWhole};
 ghost use Rattle.adapt_cli.specs.SoakEnds.{FaultsAreFullPools, SoaksEnd};
 
 /// Each fault of a soak is a full pool.
@@ -10,4 +11,10 @@ pub fn faults_are_full_pools()
 /// A soak ends with status 0, 1, 5 or 7, and with 5 for a full pool.
 pub fn soaks_end()
     ensures { SoaksEnd }
+{}
+
+/// A run that is saved and resumed ends with the forest of the run that is not interrupted, where
+/// none is refused.
+pub fn interrupted_as_whole()
+    ensures { InterruptedAsWhole }
 {}

@@ -14,6 +14,7 @@ pub mod outcome;
 pub mod program;
 pub mod reports;
 mod restart_lines;
+pub mod resuming;
 pub mod rounds;
 pub mod saving;
 pub mod soaking;

@@ -76,8 +76,8 @@ fn next_marks(
     mark_leaves(alloc, mesh, mark, rounds)
 }
 
-// The stop where all rounds are there already; want of memory where there is none for its line.
-fn no_round_left(alloc: Global) -> Stop
+/// The stop where no round is left; want of memory where there is none for its line.
+pub(crate) fn no_round_left(alloc: Global) -> Stop
     ensures { StopsBy IsNoRoundLeft result }
 {
     refused(4, format!(in alloc; "adapt: marks: no round left\n"))

@@ -12,6 +12,7 @@ use crate::joining::join_text;
 use crate::marking::mark_text;
 use crate::mending::mend_text;
 use crate::outcome::run_text;
+use crate::resuming::resume_text;
 use crate::saving::save_text;
 use crate::soaking::soak_text;
 use adapt_words::{Command, Soak, USAGE, WordsRefusal, read_words};
@@ -27,8 +28,11 @@ use std::thread::Threads;
 /// `soak START GRID ROUNDS [--workers N] [--pool P]` makes rounds of marks, drawn from START, on a
 /// grid of GRID squares in a row, and writes one line.
 /// `mark MACRO MARKS RULE [--workers N] [--pool P]` makes the rounds of a run, and writes a marks file
-/// whose one round, the next, marks the leaves that RULE chooses by their values. Out is written only
-/// when its whole text is there.
+/// whose one round, the next, marks the leaves that RULE chooses by their values.
+/// `save MACRO MARKS [--workers N] [--pool P]` writes the restart file of the forest after the last round,
+/// `join FIRST SECOND` that of the least common refinement of two, and
+/// `resume RESTART MARKS [--workers N] [--pool P]` goes on from one with the rounds of a marks file.
+/// Out is written only when its whole text is there.
 ///
 /// | Status | Comes |
 /// |---|---|
@@ -59,6 +63,7 @@ pub fn adapt<R: Threads + Sync, S: Shelf, O: Sink, E: Sink, G: Gate + Sync>(
         Ok(Command::Mend(mend)) => finish(mend_text(alloc, &mend, shelf), out, err),
         Ok(Command::Save(save)) => finish(save_text(alloc, &save, shelf), out, err),
         Ok(Command::Join(join)) => finish(join_text(alloc, &join, shelf), out, err),
+        Ok(Command::Resume(resume)) => finish(resume_text(rt, alloc, &resume, shelf), out, err),
         Err(WordsRefusal::Outside) => write_line(err, USAGE, 2),
         Err(WordsRefusal::Memory) => write_line(err, MEMORY, 1),
     }

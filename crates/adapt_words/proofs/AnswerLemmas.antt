@@ -55,12 +55,12 @@ passed : (word name : Word) (this others : Option CommandWords) → word ≢ nam
 passed word name this others differs rest = ap (λ b. cond b this others) (other_word word name differs) ∙ rest
 
 -- words that begin with the name of no command are outside
-pub command_of-other : (words : List Word) (first : Word) → slice_get words 0 ≡ Some first → first ≢ codes "run" → first ≢ codes "soak" → first ≢ codes "mark" → first ≢ codes "save" → first ≢ codes "join" → first ≢ codes "find" → first ≢ codes "mend" → command_of words ≡ None
-command_of-other [] first e no_run no_soak no_mark no_save no_join no_find no_mend = refl
-command_of-other (word ∷ words) first e no_run no_soak no_mark no_save no_join no_find no_mend =
+pub command_of-other : (words : List Word) (first : Word) → slice_get words 0 ≡ Some first → first ≢ codes "run" → first ≢ codes "soak" → first ≢ codes "mark" → first ≢ codes "save" → first ≢ codes "join" → first ≢ codes "resume" → first ≢ codes "find" → first ≢ codes "mend" → command_of words ≡ None
+command_of-other [] first e no_run no_soak no_mark no_save no_join no_resume no_find no_mend = refl
+command_of-other (word ∷ words) first e no_run no_soak no_mark no_save no_join no_resume no_find no_mend =
     let same : word ≡ first = ap (λ o. unwrap_or o first) e in
     let all = word ∷ words in
-    passed word (codes "run") _ _ (λ h. no_run (sym same ∙ h)) (passed word (codes "soak") _ _ (λ h. no_soak (sym same ∙ h)) (passed word (codes "mark") _ _ (λ h. no_mark (sym same ∙ h)) (passed word (codes "save") _ _ (λ h. no_save (sym same ∙ h)) (passed word (codes "join") _ _ (λ h. no_join (sym same ∙ h)) (passed word (codes "find") _ _ (λ h. no_find (sym same ∙ h)) (passed word (codes "mend") _ _ (λ h. no_mend (sym same ∙ h)) refl))))))
+    passed word (codes "run") _ _ (λ h. no_run (sym same ∙ h)) (passed word (codes "soak") _ _ (λ h. no_soak (sym same ∙ h)) (passed word (codes "mark") _ _ (λ h. no_mark (sym same ∙ h)) (passed word (codes "save") _ _ (λ h. no_save (sym same ∙ h)) (passed word (codes "join") _ _ (λ h. no_join (sym same ∙ h)) (passed word (codes "resume") _ _ (λ h. no_resume (sym same ∙ h)) (passed word (codes "find") _ _ (λ h. no_find (sym same ∙ h)) (passed word (codes "mend") _ _ (λ h. no_mend (sym same ∙ h)) refl)))))))
 
 -- one more word that has to stand
 pub rules-more : {X : Type 0} (f : X → Rule) (app : App) (xs : List X) (i : ℕ) (d : X) → i < length xs →

@@ -46,6 +46,10 @@ save_app = with_limits (taking (codes "save") (codes "macro" ∷ codes "marks" �
 abbrev pub join_app : App
 join_app = taking (codes "join") (codes "first" ∷ codes "second" ∷ [])
 
+-- `resume RESTART MARKS [--workers N] [--pool P]`
+abbrev pub resume_app : App
+resume_app = with_limits (taking (codes "resume") (codes "restart" ∷ codes "marks" ∷ []))
+
 -- `find MACRO MARKS POINTS [--workers N] [--pool P]`
 abbrev pub find_app : App
 find_app = with_limits (taking (codes "find") (codes "macro" ∷ codes "marks" ∷ codes "points" ∷ []))

@@ -3,7 +3,7 @@ use Rattle.std.specs.Prelude.{◌≡◌, ⊤, List, [], ◌∷◌, codes, bytes_
 use Rattle.adapt_words.specs.Finding.{FindWords, IsFindInRange, find_of, find_said}
 use Rattle.adapt_words.specs.Mending.{MendWords, mend_of, mend_said}
 use Rattle.adapt_words.specs.Numbers.{Word}
-use Rattle.adapt_words.specs.Restarts.{IsSaveInRange, JoinWords, SaveWords, join_of, join_said, save_of, save_said}
+use Rattle.adapt_words.specs.Restarts.{IsResumeInRange, IsSaveInRange, JoinWords, ResumeWords, SaveWords, join_of, join_said, resume_of, resume_said, save_of, save_said}
 use Rattle.adapt_words.specs.Rounds.{IsMarkInRange, IsRunInRange, IsSoakInRange, MarkWords, RunWords, SoakWords, mark_of, mark_said, run_of, run_said, soak_of, soak_said}
 use Rattle.adapt_words.specs.declared.words.Command.{Command}
 use Rattle.adapt_words.specs.declared.words.Command.TheVariants as command
@@ -17,6 +17,7 @@ pub data CommandWords : Type 0 where
   mark : MarkWords → CommandWords
   save : SaveWords → CommandWords
   join : JoinWords → CommandWords
+  resume : ResumeWords → CommandWords
   find : FindWords → CommandWords
   mend : MendWords → CommandWords
 
@@ -29,6 +30,7 @@ command_of (first ∷ others) =
     if bytes_eq first (codes "mark") then option_map mark (mark_of (first ∷ others)) else
     if bytes_eq first (codes "save") then option_map save (save_of (first ∷ others)) else
     if bytes_eq first (codes "join") then option_map join (join_of (first ∷ others)) else
+    if bytes_eq first (codes "resume") then option_map resume (resume_of (first ∷ others)) else
     if bytes_eq first (codes "find") then option_map find (find_of (first ∷ others)) else
     if bytes_eq first (codes "mend") then option_map mend (mend_of (first ∷ others)) else None
 
@@ -39,6 +41,7 @@ said (command.Soak c) = soak (soak_said c)
 said (command.Mark c) = mark (mark_said c)
 said (command.Save c) = save (save_said c)
 said (command.Join c) = join (join_said c)
+said (command.Resume c) = resume (resume_said c)
 said (command.Find c) = find (find_said c)
 said (command.Mend c) = mend (mend_said c)
 
@@ -49,6 +52,7 @@ IsInRange (command.Soak c) = IsSoakInRange c
 IsInRange (command.Mark c) = IsMarkInRange c
 IsInRange (command.Save c) = IsSaveInRange c
 IsInRange (command.Join c) = ⊤
+IsInRange (command.Resume c) = IsResumeInRange c
 IsInRange (command.Find c) = IsFindInRange c
 IsInRange (command.Mend c) = ⊤
 

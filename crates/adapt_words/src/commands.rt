@@ -1,7 +1,7 @@
 //! The commands as `clap` has them.
 ghost use Rattle.std.specs.Prelude.{◌≡◌, false, true, fold, map, string_bytes, IfOk};
 ghost use Rattle.clap.specs.Words.{App, app_of, found_of, is_simple_and_free, new_app, rows_of, rule_of, with_rule};
-ghost use Rattle.adapt_words.specs.Commands.{required, option, flag, find_app, found_in, join_app, mark_app, mend_app, run_app, save_app, soak_app, with_limits};
+ghost use Rattle.adapt_words.specs.Commands.{required, option, flag, find_app, found_in, join_app, mark_app, mend_app, resume_app, run_app, save_app, soak_app, with_limits};
 ghost use Rattle.adapt_words.specs.Words.{Answers};
 
 use crate::words::WordsRefusal;
@@ -86,6 +86,13 @@ pub(crate) fn join_command<'a>(alloc: Global) -> Result<Command<'a>, AllocError>
     ensures { IfOk result (λ command. app_of command ≡ join_app) }
 {
     taking(alloc, "join", &["first", "second"])
+}
+
+/// `resume RESTART MARKS [--workers N] [--pool P]`.
+pub(crate) fn resume_command<'a>(alloc: Global) -> Result<Command<'a>, AllocError>
+    ensures { IfOk result (λ command. app_of command ≡ resume_app) }
+{
+    with_limits(alloc, taking(alloc, "resume", &["restart", "marks"])?)
 }
 
 /// `find MACRO MARKS POINTS [--workers N] [--pool P]`.

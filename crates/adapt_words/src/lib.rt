@@ -13,7 +13,7 @@ mod words;
 
 pub use finding::Find;
 pub use mending::Mend;
-pub use restarts::{Join, Save};
+pub use restarts::{Join, Resume, Save};
 pub use rounds::{Mark, Run, Soak};
 pub use rules::Rule;
 pub use words::{Command, USAGE, WordsRefusal, read_words};

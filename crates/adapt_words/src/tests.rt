@@ -1,6 +1,6 @@
 //! Words and what they say, by the rules of the form.
 use crate::{
-    Command, Find, Join, Mark, Mend, Rule, Run, Save, Soak, USAGE, WordsRefusal, read_words,
+    Command, Find, Join, Mark, Mend, Resume, Rule, Run, Save, Soak, USAGE, WordsRefusal, read_words,
 };
 use mark_strategy::Share;
 use std::alloc::{AllocError, Global};
@@ -291,6 +291,17 @@ fn is_join(alloc: Global, line: &str) -> Result<bool, AllocError> {
     Ok(read_words(alloc, words.as_slice()) == Ok(Command::Join(want)))
 }
 
+fn is_resume(alloc: Global, line: &str, workers: u32, pool: u32) -> Result<bool, AllocError> {
+    let words = words_of(alloc, line)?;
+    let want = Resume {
+        restart_file: "r",
+        marks_file: "m",
+        workers,
+        pool,
+    };
+    Ok(read_words(alloc, words.as_slice()) == Ok(Command::Resume(want)))
+}
+
 fn is_find(alloc: Global, line: &str, workers: u32, pool: u32) -> Result<bool, AllocError> {
     let words = words_of(alloc, line)?;
     let want = Find {
@@ -315,6 +326,8 @@ fn other_commands(rt: HostRuntime) -> Result<(), Fail> {
     assert!(rt; is_save(alloc, "save q m --workers 2", 2, 65_536)?);
     assert!(rt; is_save(alloc, "save --pool=9 q m", 4, 9)?);
     assert!(rt; is_join(alloc, "join a b")?);
+    assert!(rt; is_resume(alloc, "resume r m", 4, 65_536)?);
+    assert!(rt; is_resume(alloc, "resume --pool 9 r --workers=64 m", 64, 9)?);
     assert!(rt; is_find(alloc, "find q m p", 4, 65_536)?);
     assert!(rt; is_find(alloc, "find q --pool 9 m --workers=64 p", 64, 9)?);
     assert!(rt; is_mend(alloc, "mend q")?);
@@ -331,7 +344,9 @@ fn other_commands_outside_the_form(rt: HostRuntime) -> Result<(), Fail> {
         "join a b c",
         "join a b --workers 1",
         "join a b --pool 1",
-        "resume r m",
+        "resume r",
+        "resume r m x",
+        "resume r m --report",
         "find q m",
         "find q m p x",
         "find q m p --pool 0",
@@ -369,6 +384,7 @@ fn usage(rt: HostRuntime) -> Result<(), Fail> {
     );
     assert!(rt; lines.next() == Some("       adapt save MACRO MARKS [--workers N] [--pool P]"));
     assert!(rt; lines.next() == Some("       adapt join FIRST SECOND"));
+    assert!(rt; lines.next() == Some("       adapt resume RESTART MARKS [--workers N] [--pool P]"));
     assert!(rt;
         lines.next() == Some("       adapt find MACRO MARKS POINTS [--workers N] [--pool P]")
     );

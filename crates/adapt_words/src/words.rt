@@ -4,13 +4,13 @@ ghost use Rattle.adapt_words.specs.Words.{Answers, IsInRange, command_of, said};
 
 use crate::finding::{Find, read_find};
 use crate::mending::{Mend, read_mend};
-use crate::restarts::{Join, Save, read_join, read_save};
+use crate::restarts::{Join, Resume, Save, read_join, read_resume, read_save};
 use crate::rounds::{Mark, Run, Soak, read_mark, read_run, read_soak};
 use std::alloc::Global;
 
 /// The lines on err for words that are outside the form.
 pub const USAGE: &str =
-    "usage: adapt run MACRO MARKS [--workers N] [--pool P] [--report]\n       adapt soak START GRID ROUNDS [--workers N] [--pool P]\n       adapt mark MACRO MARKS RULE [--workers N] [--pool P]\n       adapt save MACRO MARKS [--workers N] [--pool P]\n       adapt join FIRST SECOND\n       adapt find MACRO MARKS POINTS [--workers N] [--pool P]\n       adapt mend MACRO\n";
+    "usage: adapt run MACRO MARKS [--workers N] [--pool P] [--report]\n       adapt soak START GRID ROUNDS [--workers N] [--pool P]\n       adapt mark MACRO MARKS RULE [--workers N] [--pool P]\n       adapt save MACRO MARKS [--workers N] [--pool P]\n       adapt join FIRST SECOND\n       adapt resume RESTART MARKS [--workers N] [--pool P]\n       adapt find MACRO MARKS POINTS [--workers N] [--pool P]\n       adapt mend MACRO\n";
 
 /// What the words ask for.
 #[derive(Clone, Copy, Debug, PartialEq, Eq)]
@@ -25,6 +25,8 @@ pub enum Command<'a> {
     Save(Save<'a>),
     /// `join FIRST SECOND`.
     Join(Join<'a>),
+    /// `resume RESTART MARKS [--workers N] [--pool P]`.
+    Resume(Resume<'a>),
     /// `find MACRO MARKS POINTS [--workers N] [--pool P]`.
     Find(Find<'a>),
     /// `mend MACRO`.
@@ -57,6 +59,7 @@ pub fn read_words<'a>(alloc: Global, words: &'a [String]) -> Result<Command<'a>,
         },
         "save" => Ok(Command::Save(read_save(alloc, words)?)),
         "join" => Ok(Command::Join(read_join(alloc, words)?)),
+        "resume" => Ok(Command::Resume(read_resume(alloc, words)?)),
         "find" => Ok(Command::Find(read_find(alloc, words)?)),
         "mend" => Ok(Command::Mend(read_mend(alloc, words)?)),
         _ => Err(WordsRefusal::Outside),

@@ -12,6 +12,7 @@ pub const USAGE: &str = "usage: adapt run MACRO MARKS [--workers N] [--pool P] [
        adapt mark MACRO MARKS RULE [--workers N] [--pool P]
        adapt save MACRO MARKS [--workers N] [--pool P]
        adapt join FIRST SECOND
+       adapt resume RESTART MARKS [--workers N] [--pool P]
        adapt find MACRO MARKS POINTS [--workers N] [--pool P]
        adapt mend MACRO
 ";

@@ -15,6 +15,8 @@ mod marks;
 #[cfg(test)]
 mod meshes;
 #[cfg(test)]
+mod restarts;
+#[cfg(test)]
 mod run;
 #[cfg(test)]
 mod soaks;

@@ -2,15 +2,16 @@ use Rattle.std.proofs.Common.{map, refl, subst}
 use Rattle.std.specs.Prelude.{Ok, Err, string_bytes}
 use Rattle.adapt_words.specs.Finding.{find_said}
 use Rattle.adapt_words.specs.Mending.{mend_said}
-use Rattle.adapt_words.specs.Restarts.{join_said, save_said}
+use Rattle.adapt_words.specs.Restarts.{join_said, resume_said, save_said}
 use Rattle.adapt_words.specs.Rounds.{mark_said, run_said}
-use Rattle.adapt_words.specs.Words.{Answers, command_of, find, join, mark, mend, run, said, save}
+use Rattle.adapt_words.specs.Words.{Answers, command_of, find, join, mark, mend, resume, run, said, save}
 use Rattle.adapt_words.specs.declared.words.Command.{Command}
 use Rattle.adapt_words.specs.declared.words.WordsRefusal.{WordsRefusal}
 use Rattle.adapt_cli.specs.Finding.{FindAsks, FindLeads}
 use Rattle.adapt_cli.specs.Marks.{MarkAsks, MarkLeads}
 use Rattle.adapt_cli.specs.Mending.{MendAsks, MendLeads}
 use Rattle.adapt_cli.specs.Outcome.{RunAsks, RunLeads}
+use Rattle.adapt_cli.specs.Resuming.{ResumeAsks, ResumeLeads}
 use Rattle.adapt_cli.specs.Restarts.{JoinAsks, JoinLeads, SaveAsks, SaveLeads}
 use Rattle.adapt_cli.proofs.Parts.{written}
 use Rattle.adapt_cli.proofs.Endings.{ends_outside, ends_wanting, finished}
@@ -69,6 +70,14 @@ returns-in-Ok-Join g c =
     (written (g.O.Sink.holds c.args.out.now) (g.O.Sink.holds c.finish-in-Ok-Join.new.out) (g.O.Sink.faults c.args.out.now) (g.O.Sink.faults c.finish-in-Ok-Join.new.out))
     (written (g.E.Sink.holds c.args.err.now) (g.E.Sink.holds c.finish-in-Ok-Join.new.err) (g.E.Sink.faults c.args.err.now) (g.E.Sink.faults c.finish-in-Ok-Join.new.err))
     c.finish-in-Ok-Join.result c.join_text.ensures.ok c.join_text.ensures.stopped c.finish-in-Ok-Join.ensures
+
+pub returns-in-Ok-Resume : goal.returns-in-Ok-Resume
+returns-in-Ok-Resume g c =
+    let told = command_of (map string_bytes c.args.words.now) in
+    finished (ResumeLeads (resume_said c.in-Ok-Resume.resume)) (ResumeAsks (resume_said c.in-Ok-Resume.resume)) (resume (resume_said c.in-Ok-Resume.resume)) told (subst (λ (x : Command). Answers said told (Ok x)) c.in-Ok-Resume.field-0-is c.in-Ok-Resume.ensures.told) (g.S.Shelf.files c.args.shelf.now) (g.S.Shelf.steady c.args.shelf.now) (g.S.Shelf.faults c.args.shelf.now) (g.S.Shelf.faults c.resume_text.new.shelf) (λ end h. h) (λ name h. h) c.resume_text.result
+    (written (g.O.Sink.holds c.args.out.now) (g.O.Sink.holds c.finish-in-Ok-Resume.new.out) (g.O.Sink.faults c.args.out.now) (g.O.Sink.faults c.finish-in-Ok-Resume.new.out))
+    (written (g.E.Sink.holds c.args.err.now) (g.E.Sink.holds c.finish-in-Ok-Resume.new.err) (g.E.Sink.faults c.args.err.now) (g.E.Sink.faults c.finish-in-Ok-Resume.new.err))
+    c.finish-in-Ok-Resume.result c.resume_text.ensures.ok c.resume_text.ensures.stopped c.finish-in-Ok-Resume.ensures
 
 pub returns-in-Ok-Soak : goal.returns-in-Ok-Soak
 returns-in-Ok-Soak g c =
