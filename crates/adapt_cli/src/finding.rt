@@ -13,7 +13,7 @@ use crate::rounds::run_rounds;
 use adapt_words::Find;
 use compat_check::mesh::MacroMesh;
 use forest_plain::Forest;
-use forest_plain::forest::PlainForest;
+use forest_tree::forest::TreeForest;
 use locate_point::{Point, PointRefusal, put_places, read_points};
 use mesh_io::Shelf;
 use mesh_names::rows::RoundMarks;
@@ -120,7 +120,7 @@ fn places(
     ensures ok { IfOk result (λ text. FindsTo mesh.now (find_said find.now) (rounds_read rounds.now) points.now (Ok text.items)) }
     ensures stopped { IfErr result (StopsBy (FindsTo mesh.now (find_said find.now) (rounds_read rounds.now) points.now)) }
 {
-    let mut forest = PlainForest::new(alloc, mesh, find.pool);
+    let mut forest = TreeForest::new(alloc, mesh, find.pool);
     let Ok(mut values) = Values::new(alloc, mesh) else {
         return Err(Stop::Memory);
     };

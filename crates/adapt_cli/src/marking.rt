@@ -8,7 +8,7 @@ ghost use Rattle.dof_transfer.specs.Held.{worth_of};
 ghost use Rattle.mark_file.specs.Meaning.{rounds_read};
 ghost use Rattle.mark_file.specs.Written.{row_line};
 ghost use Rattle.mark_strategy.specs.Leaves.{AreLeaves};
-ghost use Rattle.forest_plain.specs.Forests.{members_of, mesh_of, pool_of, sides_of};
+ghost use Rattle.forest_tree.specs.Forests.{members_of, mesh_of, pool_of, sides_of};
 ghost use Rattle.mesh_rounds.specs.State.{IsState, with_values};
 ghost use Rattle.adapt_words.specs.Rounds.{IsMarkInRange, mark_said};
 ghost use Rattle.adapt_cli.specs.Marks.{Chooses, IsMarksText, IsNoRoundLeft, MarkAsks, MarkLeads, MarksTo, marking, marks_text};
@@ -21,7 +21,7 @@ use adapt_words::{Mark, Rule};
 use compat_check::mesh::MacroMesh;
 use dof_transfer::ElementValues;
 use forest_plain::Forest;
-use forest_plain::forest::PlainForest;
+use forest_tree::forest::TreeForest;
 use mark_file::refusal::MarkRefusal;
 use mark_file::write::put_row;
 use mark_strategy::{StrategyRefusal, mark_bulk, mark_equal, mark_max};
@@ -96,7 +96,7 @@ fn mark_leaves(
     ensures ok { IfOk result (λ text. MarksTo mesh.now (mark_said mark.now) (rounds_read rounds.now) (Ok text.items)) }
     ensures stopped { IfErr result (StopsBy (MarksTo mesh.now (mark_said mark.now) (rounds_read rounds.now))) }
 {
-    let mut forest = PlainForest::new(alloc, mesh, mark.pool);
+    let mut forest = TreeForest::new(alloc, mesh, mark.pool);
     let Ok(mut values) = Values::new(alloc, mesh) else {
         return Err(Stop::Memory);
     };
@@ -117,7 +117,7 @@ fn mark_leaves(
 fn state_marks(
     alloc: Global,
     mesh: &MacroMesh,
-    forest: &mut PlainForest<'_>,
+    forest: &mut TreeForest<'_>,
     values: &Values,
     rule: &Rule,
     round: u32,

@@ -12,7 +12,7 @@ use crate::reports::report_rounds;
 use crate::rounds::{run_rounds, state_text};
 use adapt_words::Run;
 use compat_check::mesh::MacroMesh;
-use forest_plain::forest::PlainForest;
+use forest_tree::forest::TreeForest;
 use mesh_io::Shelf;
 use mesh_names::rows::RoundMarks;
 use mesh_rounds::values::Values;
@@ -57,7 +57,7 @@ fn make_rounds<R: Threads + Sync>(
     ensures ok { IfOk result (λ text. RunsTo mesh.now (run_said run.now) (rounds_read rounds.now) (Ok text.items)) }
     ensures stopped { IfErr result (StopsBy (RunsTo mesh.now (run_said run.now) (rounds_read rounds.now))) }
 {
-    let mut forest = PlainForest::new(alloc, mesh, run.pool);
+    let mut forest = TreeForest::new(alloc, mesh, run.pool);
     let Ok(mut values) = Values::new(alloc, mesh) else {
         return Err(Stop::Memory);
     };

@@ -3,7 +3,7 @@ ghost use Rattle.std.specs.Prelude.{◌≡◌, ◌+◌, ◌++◌, ◌<◌, ◌^�
 ghost use Rattle.mesh_names.specs.Marks.{IsWellFormed};
 ghost use Rattle.compat_check.specs.Meshes.{across_in, shape_of};
 ghost use Rattle.mark_file.specs.Meaning.{rounds_read};
-ghost use Rattle.forest_plain.specs.Forests.{members_of, mesh_of, pool_of, sides_of};
+ghost use Rattle.forest_tree.specs.Forests.{members_of, mesh_of, pool_of, sides_of};
 ghost use Rattle.mesh_rounds.specs.State.{IsState, with_values};
 ghost use Rattle.adapt_cli.specs.Reports.{IsReport, IsRoundText};
 ghost use Rattle.adapt_cli.specs.Rounds.{LeadTo};
@@ -12,7 +12,7 @@ ghost use Rattle.adapt_cli.specs.Stops.{IsReportedRun, StopsBy};
 use crate::fault::{Stop, round_stop};
 use compat_check::mesh::MacroMesh;
 use forest_plain::Forest;
-use forest_plain::forest::PlainForest;
+use forest_tree::forest::TreeForest;
 use mesh_names::rows::RoundMarks;
 use mesh_rounds::round::round as mesh_round;
 use mesh_rounds::values::Values;
@@ -22,7 +22,7 @@ use std::alloc::Global;
 fn round_text(
     alloc: Global,
     mesh: &MacroMesh,
-    forest: &mut PlainForest<'_>,
+    forest: &mut TreeForest<'_>,
     values: &Values,
     number: usize,
 ) -> Result<String, Stop>
@@ -49,7 +49,7 @@ fn round_text(
 pub fn report_rounds(
     alloc: Global,
     mesh: &MacroMesh,
-    forest: &mut PlainForest<'_>,
+    forest: &mut TreeForest<'_>,
     values: &mut Values,
     rounds: &[RoundMarks],
 ) -> Result<Vec<u8>, Stop>

@@ -14,7 +14,7 @@ use crate::marking::no_round_left;
 use crate::rounds::{run_rounds, state_text};
 use adapt_words::Resume;
 use compat_check::mesh::MacroMesh;
-use forest_plain::forest::PlainForest;
+use forest_tree::forest::TreeForest;
 use mesh_io::Shelf;
 use mesh_names::name::ElemName;
 use mesh_names::rows::RoundMarks;
@@ -103,7 +103,7 @@ fn make_rounds<R: Threads + Sync>(
     ensures stopped { IfErr result (StopsBy (ResumesTo mesh.now members.now (resume_said resume.now) (rounds_read rounds.now))) }
 {
     let _checked = mesh.element_count();
-    let Ok(mut forest) = PlainForest::of_members(alloc, mesh, resume.pool, members) else {
+    let Ok(mut forest) = TreeForest::of_members(alloc, mesh, resume.pool, members) else {
         return Err(Stop::Memory);
     };
     let Ok(delta) = forest.patches_from_nothing() else {

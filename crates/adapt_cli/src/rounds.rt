@@ -3,7 +3,7 @@ ghost use Rattle.std.specs.Prelude.{◌≡◌, false, All, IfErr, IfOk, OnOk};
 ghost use Rattle.mesh_names.specs.Marks.{IsWellFormed};
 ghost use Rattle.compat_check.specs.Meshes.{across_in, shape_of};
 ghost use Rattle.mark_file.specs.Meaning.{rounds_read};
-ghost use Rattle.forest_plain.specs.Forests.{members_of, mesh_of, pool_of, sides_of};
+ghost use Rattle.forest_tree.specs.Forests.{members_of, mesh_of, pool_of, sides_of};
 ghost use Rattle.mesh_rounds.specs.State.{IsState, with_values};
 ghost use Rattle.adapt_cli.specs.Reports.{HasLeaves, IsTextOfState};
 ghost use Rattle.adapt_cli.specs.Rounds.{LeadTo};
@@ -12,7 +12,7 @@ ghost use Rattle.adapt_cli.specs.Stops.{IsRun, StopsBy};
 use crate::fault::{Stop, round_stop};
 use compat_check::mesh::MacroMesh;
 use forest_plain::Forest;
-use forest_plain::forest::PlainForest;
+use forest_tree::forest::TreeForest;
 use mesh_names::rows::RoundMarks;
 use mesh_rounds::round::round as mesh_round;
 use mesh_rounds::values::Values;
@@ -24,7 +24,7 @@ use std::thread::Threads;
 pub fn run_rounds(
     alloc: Global,
     mesh: &MacroMesh,
-    forest: &mut PlainForest<'_>,
+    forest: &mut TreeForest<'_>,
     values: &mut Values,
     rounds: &[RoundMarks],
 ) -> Result<(), Stop>
@@ -50,7 +50,7 @@ pub fn state_text<R: Threads + Sync>(
     rt: &R,
     alloc: Global,
     mesh: &MacroMesh,
-    forest: &mut PlainForest<'_>,
+    forest: &mut TreeForest<'_>,
     values: &Values,
 ) -> Result<(Vec<u8>, usize), Stop>
     requires mesh { mesh_of forest.old ≡ shape_of mesh.now }

@@ -12,7 +12,7 @@ use crate::load::{load_marks, load_part};
 use crate::rounds::run_rounds;
 use adapt_words::Save;
 use compat_check::mesh::MacroMesh;
-use forest_plain::forest::PlainForest;
+use forest_tree::forest::TreeForest;
 use mesh_io::Shelf;
 use mesh_names::rows::RoundMarks;
 use mesh_rounds::values::Values;
@@ -58,7 +58,7 @@ fn saved(
     ensures stopped { IfErr result (StopsBy (SavesTo (part.now, mesh.now) (save_said save.now) (rounds_read rounds.now))) }
 {
     let _checked = mesh.element_count();
-    let mut forest = PlainForest::new(alloc, mesh, save.pool);
+    let mut forest = TreeForest::new(alloc, mesh, save.pool);
     let Ok(mut values) = Values::new(alloc, mesh) else {
         return Err(Stop::Memory);
     };

@@ -1,7 +1,7 @@
 //! Rounds of drawn marks on a grid.
 ghost use Rattle.std.specs.Prelude.{◌≡◌, ◌≤◌, ◌<◌, ℕ, IfErr, IfOk, OnOk, Ok, string_bytes};
 ghost use Rattle.compat_check.specs.Meshes.{across_in, shape_of};
-ghost use Rattle.forest_plain.specs.Forests.{members_of, mesh_of, pool_of, sides_of};
+ghost use Rattle.forest_tree.specs.Forests.{members_of, mesh_of, pool_of, sides_of};
 ghost use Rattle.mesh_rounds.specs.State.{IsState, with_values};
 ghost use Rattle.adapt_words.specs.Rounds.{IsSoakInRange, soak_said};
 ghost use Rattle.adapt_cli.specs.Reports.{HasLeaves};
@@ -14,7 +14,7 @@ use adapt_words::Soak;
 use compat_check::mesh::MacroMesh;
 use compat_check::{CheckRefusal, check};
 use forest_plain::Forest;
-use forest_plain::forest::PlainForest;
+use forest_tree::forest::TreeForest;
 use mesh_rounds::round::round as mesh_round;
 use mesh_rounds::values::Values;
 use soak::laws::grids_pass;
@@ -42,7 +42,7 @@ fn grid_mesh(alloc: Global, side: u32) -> Result<MacroMesh, CheckRefusal>
 fn draw_one(
     alloc: Global,
     mesh: &MacroMesh,
-    forest: &mut PlainForest<'_>,
+    forest: &mut TreeForest<'_>,
     values: &mut Values,
     draws: &mut Draws,
     number: u32,
@@ -72,7 +72,7 @@ fn draw_one(
 fn draw_rounds(
     alloc: Global,
     mesh: &MacroMesh,
-    forest: &mut PlainForest<'_>,
+    forest: &mut TreeForest<'_>,
     values: &mut Values,
     start: u32,
     rounds: u32,
@@ -109,7 +109,7 @@ fn line_text(
     alloc: Global,
     soak: &Soak,
     mesh: &MacroMesh,
-    forest: &PlainForest<'_>,
+    forest: &TreeForest<'_>,
     values: &Values,
     leaves: usize,
     bytes: usize,
@@ -136,7 +136,7 @@ fn tell<R: Threads + Sync>(
     alloc: Global,
     soak: &Soak,
     mesh: &MacroMesh,
-    forest: &mut PlainForest<'_>,
+    forest: &mut TreeForest<'_>,
     values: &Values,
 ) -> Result<Vec<u8>, Stop>
     requires mesh { mesh_of forest.old ≡ shape_of mesh.now }
@@ -163,7 +163,7 @@ pub fn soak_text<R: Threads + Sync>(rt: &R, alloc: Global, soak: &Soak) -> Resul
     let Ok(mesh) = grid_mesh(alloc, soak.grid) else {
         return Err(Stop::Memory);
     };
-    let mut forest = PlainForest::new(alloc, &mesh, soak.pool);
+    let mut forest = TreeForest::new(alloc, &mesh, soak.pool);
     let Ok(mut values) = Values::new(alloc, &mesh) else {
         return Err(Stop::Memory);
     };

@@ -4,7 +4,7 @@ use Rattle.mesh_names.specs.Leaves.{leaves}
 use Rattle.mesh_names.specs.Names.{Name}
 use Rattle.mesh_names.specs.Triangles.{Shape}
 use Rattle.compat_check.specs.Meshes.{shape_of}
-use Rattle.forest_plain.specs.Forests.{members_of}
+use Rattle.forest_tree.specs.Forests.{members_of}
 use Rattle.mark_file.specs.Meaning.{rounds_read}
 use Rattle.locate_point.specs.PlaceTexts.{IsPlacesText}
 use Rattle.mesh_rounds.specs.State.{with_values}

@@ -1,7 +1,7 @@
 use Rattle.std.proofs.Common.{◌<◌, ◌+◌, ℕ, arith, length, subst, sym}
 use Rattle.std.proofs.lemmas.List.{length-map}
 use Rattle.std.proofs.lemmas.Result.{IfOk-weaker}
-use Rattle.forest_plain.specs.Forests.{members_of}
+use Rattle.forest_tree.specs.Forests.{members_of}
 use Rattle.mark_file.specs.Meaning.{round_read, rounds_read}
 use Rattle.adapt_words.specs.Rounds.{mark_said}
 use Rattle.mesh_rounds.specs.State.{with_values}

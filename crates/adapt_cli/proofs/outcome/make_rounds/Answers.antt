@@ -1,6 +1,6 @@
 use Rattle.std.proofs.Common.{ℕ, subst}
 use Rattle.std.proofs.lemmas.Result.{IfErr-weaker, IfOk-weaker}
-use Rattle.forest_plain.specs.Forests.{members_of}
+use Rattle.forest_tree.specs.Forests.{members_of}
 use Rattle.mark_file.specs.Meaning.{rounds_read}
 use Rattle.adapt_words.specs.Rounds.{run_said}
 use Rattle.mesh_rounds.specs.State.{with_values}

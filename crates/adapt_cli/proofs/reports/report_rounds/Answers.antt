@@ -1,7 +1,7 @@
 use Rattle.std.proofs.Common.{ℕ, ◌+◌, ◌++◌, List, refl, sym, ap, ◌∙◌, subst}
 use Rattle.std.specs.Prelude.{string_bytes}
 use Rattle.mesh_names.specs.Forests.{Names}
-use Rattle.forest_plain.specs.Forests.{members_of, pool_of, seen_of}
+use Rattle.forest_tree.specs.Forests.{members_of, pool_of, seen_of}
 use Rattle.mesh_rounds.specs.State.{IsMeshRound, IsState, with_values}
 use Rattle.adapt_cli.specs.Reports.{IsRoundText}
 use Rattle.adapt_cli.specs.Rounds.{whole}

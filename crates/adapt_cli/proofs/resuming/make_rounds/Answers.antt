@@ -1,5 +1,5 @@
 use Rattle.std.proofs.Common.{ℕ, subst}
-use Rattle.forest_plain.specs.Forests.{members_of, mesh_of, sides_of}
+use Rattle.forest_tree.specs.Forests.{members_of, mesh_of, sides_of}
 use Rattle.mark_file.specs.Meaning.{rounds_read}
 use Rattle.restart_file.specs.Kept.{set_of}
 use Rattle.adapt_words.specs.Restarts.{resume_said}

@@ -1,5 +1,5 @@
 use Rattle.std.proofs.Common.{ℕ, refl, ◌∙◌, subst}
-use Rattle.forest_plain.specs.Forests.{members_of, pool_of, seen_of}
+use Rattle.forest_tree.specs.Forests.{members_of, pool_of, seen_of}
 use Rattle.mesh_rounds.specs.State.{IsMeshRound, with_values}
 use Rattle.adapt_cli.specs.Rounds.{whole}
 use Rattle.adapt_cli.proofs.RoundOrder.{end_here, next_round, refused-as, stop_here}

@@ -1,5 +1,5 @@
 use Rattle.std.proofs.Common.{◌≡◌}
-use Rattle.forest_plain.specs.Forests.{members_of, mesh_of, pool_of, sides_of}
+use Rattle.forest_tree.specs.Forests.{members_of, mesh_of, pool_of, sides_of}
 use Rattle.mesh_rounds.specs.State.{IsState, with_values}
 use Rattle.adapt_cli.proofs.RoundOrder.{SoFar}
 use Rattle.adapt_cli.proofs.rounds.run_rounds.Given as goal

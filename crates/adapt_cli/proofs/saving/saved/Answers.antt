@@ -1,7 +1,7 @@
 use Rattle.std.proofs.Common.{ℕ, List, subst, sym}
 use Rattle.mesh_names.specs.Forests.{IsListOf}
 use Rattle.mesh_names.specs.Names.{Name}
-use Rattle.forest_plain.specs.Forests.{members_of}
+use Rattle.forest_tree.specs.Forests.{members_of}
 use Rattle.mark_file.specs.Meaning.{rounds_read}
 use Rattle.restart_file.specs.Files.{IsRestart}
 use Rattle.mesh_rounds.specs.State.{with_values}

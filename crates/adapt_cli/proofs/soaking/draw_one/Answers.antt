@@ -2,7 +2,7 @@ use Rattle.std.proofs.Common.{◌∙◌, ap, refl, sym, subst}
 use Rattle.mesh_names.specs.Forests.{Names}
 use Rattle.compat_check.specs.Meshes.{across_in, shape_of}
 use Rattle.forest_plain.specs.AnyForest.{Seen}
-use Rattle.forest_plain.specs.Forests.{members_of, mesh_of, pool_of, seen_of}
+use Rattle.forest_tree.specs.Forests.{members_of, mesh_of, pool_of, seen_of}
 use Rattle.forest_plain.specs.Rounds.{IsRoundRefusal}
 use Rattle.mesh_rounds.specs.State.{with_values}
 use Rattle.adapt_cli.specs.Rounds.{whole}

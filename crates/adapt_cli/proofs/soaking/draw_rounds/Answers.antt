@@ -1,5 +1,5 @@
 use Rattle.std.proofs.Common.{ℕ, ◌+◌, ◌∙◌, refl, sym, subst}
-use Rattle.forest_plain.specs.Forests.{members_of, pool_of}
+use Rattle.forest_tree.specs.Forests.{members_of, pool_of}
 use Rattle.mesh_rounds.specs.State.{with_values}
 use Rattle.soak.specs.Rows.{Drawing}
 use Rattle.adapt_cli.specs.Soaks.{DrawnTo, DrawsTo}

@@ -1,5 +1,5 @@
 use Rattle.std.proofs.lemmas.Result.{IfErr-weaker, IfOk-weaker}
-use Rattle.forest_plain.specs.Forests.{members_of, pool_of}
+use Rattle.forest_tree.specs.Forests.{members_of, pool_of}
 use Rattle.adapt_words.specs.Rounds.{soak_said}
 use Rattle.mesh_rounds.specs.State.{with_values}
 use Rattle.adapt_cli.proofs.Drawing.{soak-stops, soak-wants, soaks}

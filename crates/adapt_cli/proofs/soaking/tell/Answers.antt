@@ -1,7 +1,7 @@
 use Rattle.std.proofs.Common.{◌≡◌, ℕ, List, length, ap, sym, subst, arith}
 use Rattle.std.specs.Prelude.{string_bytes}
 use Rattle.mesh_names.specs.Forests.{Names}
-use Rattle.forest_plain.specs.Forests.{members_of}
+use Rattle.forest_tree.specs.Forests.{members_of}
 use Rattle.adapt_words.specs.Rounds.{soak_said}
 use Rattle.mesh_rounds.specs.State.{with_values}
 use Rattle.adapt_cli.specs.Soaks.{IsSoakText}
