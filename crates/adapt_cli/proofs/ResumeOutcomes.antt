@@ -1,5 +1,5 @@
 -- From a kept forest and the rounds after it to what going on leads to.
-use Rattle.std.proofs.Common.{◌≡◌, ℕ, ◌<◌, ◌≤◌, ap, ◌∙◌, subst, sym, List, inl, inr, ⊎_elim, arith}
+use Rattle.std.proofs.Common.{◌≡◌, ℕ, ◌<◌, ◌≤◌, ap, ◌∙◌, subst, sym, List, [], inl, inr, ⊎_elim, arith}
 use Rattle.std.specs.Prelude.{Ok, Err, Result, length}
 use Rattle.std.specs.FinSet.{empty, from_list}
 use Rattle.std.proofs.lemmas.List.{length-map}

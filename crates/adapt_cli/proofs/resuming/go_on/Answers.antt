@@ -4,4 +4,4 @@ use Rattle.adapt_cli.proofs.ResumeOutcomes.{can_go_on, resume_full, resume_witho
 use Rattle.adapt_cli.proofs.resuming.go_on.Goals as goal
 
 pub make_rounds-requires-clause-can : goal.make_rounds-requires-clause-can
-make_rounds-requires-clause-can g c = can_go_on c.args.mesh.now c.args.members.now c.args.resume.now.pool c.count_patches-needed.result c.args.rounds.now (omega (arith, c.if-len.false)) c.count_patches-needed.ensures (omega (arith, c.if-needed.false))
+make_rounds-requires-clause-can g c _ _ = can_go_on c.args.mesh.now c.args.members.now c.args.resume.now.pool c.count_patches-needed.result c.args.rounds.now (omega (arith, c.if-rounds-gt-ROUNDS.false)) c.count_patches-needed.ensures (omega (arith, c.if-needed-resume.false))

@@ -20,7 +20,7 @@ pub returns-in-Err-load_marks-clause-stopped : goal.returns-in-Err-load_marks-cl
 returns-in-Err-load_marks-clause-stopped g c = marks-stops (resume_said c.args.resume.now).restart_file (resume_said c.args.resume.now).marks_file RefusesRestart AcceptsRestart (λ (read : Kept) rounds. ResumesTo read.mesh read.members (resume_said c.args.resume.now) rounds) (g.S.Shelf.files c.args.shelf.now) (g.S.Shelf.steady c.args.shelf.now) (g.S.Shelf.faults c.args.shelf.now) (kept_of c.in-Ok.restart) (g.S.Shelf.faults c.load_restart.new.shelf) (g.S.Shelf.files c.load_restart.new.shelf) c.in-Ok.ensures.same (g.S.Shelf.steady c.load_restart.new.shelf) c.in-Ok.ensures.stays c.in-Ok.ensures.ok (g.S.Shelf.faults c.load_marks.new.shelf) c.in-Err-load_marks.stop c.in-Err-load_marks.ensures.stopped
 
 pub go_on-requires-clause-kept : goal.go_on-requires-clause-kept
-go_on-requires-clause-kept g c = subst (λ (l : List Name). IsKept (shape_of c.in-Ok.restart.mesh) l) (sym c.deref.ensures.value) c.in-Ok.ensures.keeps.kept
+go_on-requires-clause-kept g c _ _ = subst (λ (l : List Name). IsKept (shape_of c.in-Ok.restart.mesh) l) (sym c.deref.ensures.value) c.in-Ok.ensures.keeps.kept
 
 pub returns-in-Ok-go_on-clause-ok : goal.returns-in-Ok-go_on-clause-ok
 returns-in-Ok-go_on-clause-ok g c =
