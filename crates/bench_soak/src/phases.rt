@@ -1,7 +1,7 @@
 //! A soak by its phases.
 ghost use Rattle.std.specs.Prelude.{◌≡◌, ◌≤◌};
 ghost use Rattle.compat_check.specs.Meshes.{shape_of};
-ghost use Rattle.forest_plain.specs.Forests.{members_of, mesh_of};
+ghost use Rattle.forest_tree.specs.Forests.{members_of, mesh_of};
 ghost use Rattle.mesh_rounds.specs.State.{IsState, with_values};
 
 use crate::rounds::{draw_rounds, forest_time};
@@ -10,7 +10,7 @@ use anyhow::{Result, anyhow};
 use compat_check::check;
 use compat_check::mesh::MacroMesh;
 use forest_plain::Forest;
-use forest_plain::forest::PlainForest;
+use forest_tree::forest::TreeForest;
 use mesh_rounds::values::Values;
 use mesh_writer::text::mesh_text;
 use soak::grid;
@@ -65,7 +65,7 @@ fn write_text<R: Threads + Clock + Sync>(
     rt: &R,
     alloc: Global,
     mesh: &MacroMesh,
-    forest: &mut PlainForest<'_>,
+    forest: &mut TreeForest<'_>,
     values: &Values,
     times: &mut Times,
 ) -> Result<Counts>
@@ -104,7 +104,7 @@ fn run_on<R: Threads + Clock + Sync>(
 ) -> Result<Counts>
     requires { (soak.start ≤ 65535) × (soak.rounds ≤ 64) }
 {
-    let mut forest = PlainForest::new(alloc, mesh, 1_048_576);
+    let mut forest = TreeForest::new(alloc, mesh, 1_048_576);
     let begun = Instant::now(rt)?;
     let Ok(mut values) = Values::new(alloc, mesh) else {
         return Err(anyhow!("out of memory"));

@@ -2,14 +2,14 @@
 ghost use Rattle.std.specs.Prelude.{◌≡◌, ◌≤◌, All, IfOk, OnOk};
 ghost use Rattle.mesh_names.specs.Marks.{IsWellFormed};
 ghost use Rattle.compat_check.specs.Meshes.{across_in, shape_of};
-ghost use Rattle.forest_plain.specs.Forests.{members_of, mesh_of, sides_of};
+ghost use Rattle.forest_tree.specs.Forests.{members_of, mesh_of, sides_of};
 ghost use Rattle.mesh_rounds.specs.State.{IsState, with_values};
 
 use crate::times::Times;
 use anyhow::{Result, anyhow};
 use compat_check::mesh::MacroMesh;
 use forest_plain::Forest;
-use forest_plain::forest::PlainForest;
+use forest_tree::forest::TreeForest;
 use mesh_names::rows::RoundMarks;
 use mesh_rounds::round::round as mesh_round;
 use mesh_rounds::values::Values;
@@ -22,7 +22,7 @@ fn draw_one<R: Clock>(
     rt: &R,
     alloc: Global,
     mesh: &MacroMesh,
-    forest: &mut PlainForest<'_>,
+    forest: &mut TreeForest<'_>,
     values: &mut Values,
     draws: &mut Draws,
     number: u32,
@@ -57,7 +57,7 @@ pub fn draw_rounds<R: Clock>(
     rt: &R,
     alloc: Global,
     mesh: &MacroMesh,
-    forest: &mut PlainForest<'_>,
+    forest: &mut TreeForest<'_>,
     values: &mut Values,
     start: u32,
     rounds: u32,
@@ -99,7 +99,7 @@ pub fn forest_time<R: Clock>(
 ) -> Result<u128>
     requires { All (λ r. All IsWellFormed r.rows.items) rounds.now }
 {
-    let mut forest = PlainForest::new(alloc, mesh, 1_048_576);
+    let mut forest = TreeForest::new(alloc, mesh, 1_048_576);
     let begun = Instant::now(rt)?;
     for round in rounds {
         if forest.round(round).is_err() {

@@ -6,7 +6,7 @@ ghost use Rattle.mesh_names.specs.Marks.{IsWellFormed};
 ghost use Rattle.mesh_names.specs.Names.{name_cmp};
 ghost use Rattle.compat_check.specs.Meshes.{shape_of};
 ghost use Rattle.dof_transfer.specs.Held.{value_of};
-ghost use Rattle.forest_plain.specs.Forests.{members_of, mesh_of};
+ghost use Rattle.forest_tree.specs.Forests.{members_of, mesh_of};
 ghost use Rattle.mesh_rounds.specs.State.{IsState, with_values};
 ghost use Rattle.mesh_writer.specs.MeshText.{HaveValues};
 
@@ -14,7 +14,7 @@ use adapt_cli::rounds::run_rounds;
 use anyhow::{Result, anyhow};
 use compat_check::mesh::MacroMesh;
 use forest_plain::Forest;
-use forest_plain::forest::PlainForest;
+use forest_tree::forest::TreeForest;
 use mesh_names::name::ElemName;
 use mesh_names::rows::RoundMarks;
 use mesh_rounds::values::Values;
@@ -36,12 +36,12 @@ pub fn grow<'m>(
     alloc: Global,
     mesh: &'m MacroMesh,
     rounds: &[RoundMarks],
-) -> Result<(PlainForest<'m>, Values)>
+) -> Result<(TreeForest<'m>, Values)>
     requires { All (λ r. All IsWellFormed r.rows.items) rounds.now }
     ensures mesh { IfOk result (λ grown. mesh_of grown.0 ≡ shape_of mesh.entry.now) }
     ensures state { IfOk result (λ grown. IsState mesh.entry.now (with_values (members_of grown.0) grown.1)) }
 {
-    let mut forest = PlainForest::new(alloc, mesh, 1_048_576);
+    let mut forest = TreeForest::new(alloc, mesh, 1_048_576);
     let Ok(mut values) = Values::new(alloc, mesh) else {
         return Err(anyhow!("out of memory"));
     };
@@ -95,7 +95,7 @@ pub fn write_times<R: Threads + Clock + Sync>(
     rt: &R,
     alloc: Global,
     mesh: &MacroMesh,
-    forest: &mut PlainForest<'_>,
+    forest: &mut TreeForest<'_>,
     values: &Values,
 ) -> Result<(Vec<ElemName>, Written)>
     requires mesh { mesh_of forest.old ≡ shape_of mesh.now }

@@ -1,4 +1,4 @@
-use Rattle.forest_plain.specs.Forests.{members_of}
+use Rattle.forest_tree.specs.Forests.{members_of}
 use Rattle.mesh_rounds.specs.State.{with_values}
 use Rattle.adapt_cli.proofs.Texts.{first-state}
 use Rattle.bench_soak.proofs.phases.run_on.Goals as goal

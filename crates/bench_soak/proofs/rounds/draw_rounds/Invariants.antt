@@ -1,7 +1,7 @@
 use Rattle.std.proofs.Common.{◌≡◌}
 use Rattle.std.specs.Prelude.{All}
 use Rattle.mesh_names.specs.Marks.{IsWellFormed}
-use Rattle.forest_plain.specs.Forests.{members_of, mesh_of, sides_of}
+use Rattle.forest_tree.specs.Forests.{members_of, mesh_of, sides_of}
 use Rattle.mesh_rounds.specs.State.{IsState, with_values}
 use Rattle.bench_soak.proofs.rounds.draw_rounds.Given as goal
 
