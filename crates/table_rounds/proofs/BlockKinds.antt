@@ -90,6 +90,9 @@ module _ (k : Site) (id i : ℕ) (me : Sat) (rules : me.0.kind ≡ Owner) where
         claimed = λ b y m z a c e.
             let shape = r.claims.shape y 0 m (Living b) (r.claims.held 0 y m (Living b) c) in
             ⊎_elim (λ q. where_placed y m z a (sym shape.0 ∙ q)) (λ q. absurd (placed_not_back y m z a (sym shape.0 ∙ q))) (r.note.placed b z a e);
+        claimed_back = λ b y m c e.
+            let shape = r.claims.shape y 0 m (Living b) (r.claims.held 0 y m (Living b) c) in
+            let t = r.note.rolled_back b e in placed_not_back y m t.0 t.1 (sym shape.0 ∙ t.2);
         rooted = λ b y m x t a c st.
             let u = retired b a in
             let d = r.chains.dieds b u.0 u.1 u.2 (let q = u.3 in omega arith) in

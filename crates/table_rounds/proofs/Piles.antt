@@ -35,7 +35,7 @@ once_list (x ∷ xs) f = (
   once_list xs (λ j k a b e. let q : suc j ≡ suc k = f (suc j) (suc k) (omega arith) (omega arith) e in omega arith),
 )
 
-once_index : (xs : List ℕ) → Once xs → (j k : ℕ) → j < length xs → k < length xs → slice_index xs j ≡ slice_index xs k → j ≡ k
+pub once_index : (xs : List ℕ) → Once xs → (j k : ℕ) → j < length xs → k < length xs → slice_index xs j ≡ slice_index xs k → j ≡ k
 once_index [] o j k a b e = absurd (omega arith)
 once_index (x ∷ xs) o zero zero a b e = refl
 once_index (x ∷ xs) o zero (suc k) a b e = absurd (o.0 (subst (HasEntry xs) (sym e) (index_in xs k (omega arith))))
@@ -78,7 +78,7 @@ block_find [] b h = absurd h
 block_find (p ∷ ps) b (inl e) = (0, omega arith, e)
 block_find (p ∷ ps) b (inr h) = let t = block_find ps b h in let l = t.1 in (suc t.0, omega arith, t.2)
 
-once_blocks : (ps : List Patch) → EachOnce ps → Once (blocks_of ps)
+pub once_blocks : (ps : List Patch) → EachOnce ps → Once (blocks_of ps)
 once_blocks ps o = once_list (blocks_of ps) (λ j k a b e. let n = blocks_length ps in
     o j k (omega arith) (omega arith) (sym (block_at ps j (omega arith)) ∙ e ∙ block_at ps k (omega arith)))
 

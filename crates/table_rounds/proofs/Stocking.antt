@@ -1,19 +1,19 @@
 -- The owner's lists as blocks become free.
-use Rattle.std.proofs.Common.{◌≡◌, ℕ, zero, suc, ◌+◌, ◌<◌, ◌≤◌, Bool, true, List, [], ◌∷◌, ◌++◌, drop, take, length, vec_capacity, inl, inr, refl, sym, ap, ◌∙◌, subst, arith}
+use Rattle.std.proofs.Common.{◌≡◌, ℕ, zero, suc, ◌+◌, ◌<◌, ◌≤◌, Bool, true, List, [], ◌∷◌, ◌++◌, drop, take, length, vec_capacity, ◌⊎◌, inl, inr, ⊎_elim, slice_index, refl, sym, ap, ◌∙◌, subst, arith}
 use Rattle.std.proofs.lemmas.List.{length-append}
 use Rattle.table_words.specs.declared.layout.Layout.{Layout}
 use Rattle.table_words.specs.Entries.{HasEntry}
-use Rattle.table_words.specs.Views.{Owner, Resting}
+use Rattle.table_words.specs.Views.{Owner, Read, Resting}
 use Rattle.mesh_table.specs.Sights.{Sight}
 use Rattle.mesh_table.specs.Rounds.{DrainedTo}
 use Rattle.table_rounds.specs.declared.patch.Patch.{Patch}
 use Rattle.table_rounds.specs.declared.stock.Stock.{Stock}
-use Rattle.table_rounds.specs.Patches.{nth}
+use Rattle.table_rounds.specs.Patches.{nth, spot}
 use Rattle.table_rounds.specs.Drained.{AllDrained, AreLeft, MoreDrained}
 use Rattle.table_rounds.specs.Kinds.{BlocksTold}
 use Rattle.table_rounds.specs.Rows.{IsHand}
 use Rattle.table_rounds.specs.Sweeps.{AreBack, AreFreed, AreOld, ArePlaced, MaySweep}
-use Rattle.table_rounds.specs.Stocks.{AreDrained, EachOnce, IsStock, blocks_of}
+use Rattle.table_rounds.specs.Stocks.{AreDrained, EachOnce, IsRoomy, IsStock, KeepsStock, blocks_of}
 use Rattle.table_rounds.proofs.Piles.{are_kept, are_given_up, blocks_length, hand_after, old_after, back_after, back_stays, placed_after, low_kept, low_both, once_kept, once_both}
 
 -- the blocks of one patch more
@@ -46,8 +46,10 @@ stock_more l u v s more is = subst (λ (z : Sight). IsStock l z s) (sym more.sam
   back_once = is.back_once;
   placed = is.placed;
   few = is.few;
+  table = is.table;
   room = is.room;
   finished = is.finished;
+  readers = is.readers;
   early = is.early;
   left = is.left;
   drained = ((λ q a. more.more q (is.drained.0 q a)), is.drained.1);
@@ -65,8 +67,10 @@ stock_quiet l u v s same is = subst (λ (z : Sight). IsStock l z s) (sym same) r
   back_once = is.back_once;
   placed = is.placed;
   few = is.few;
+  table = is.table;
   room = is.room;
   finished = is.finished;
+  readers = is.readers;
   early = is.early;
   left = is.left;
   drained = is.drained;
@@ -86,7 +90,7 @@ append_none [] = refl
 append_none (x ∷ xs) = ap (λ (r : List ℕ). x ∷ r) (append_none xs)
 
 -- The lists after blocks became free: the same but for the hand, and for those blocks' patches
-module _ (l : Layout) (u w : Sight) (s s' : Stock) (is : IsStock l u s) (told : BlocksTold l.elements u) (places : s'.places.items ≡ s.places.items) (room : vec_capacity s'.hand ≡ vec_capacity s.hand) (finished : s'.finished ≡ s.finished) (early : s'.early ≡ s.early) (left : s'.left.items ≡ s.left.items) (drained : s'.drained ≡ s.drained) (rows : s'.rows ≡ s.rows) where
+module _ (l : Layout) (u w : Sight) (s s' : Stock) (is : IsStock l u s) (told : BlocksTold l.elements u) (places : s'.places.items ≡ s.places.items) (room : (vec_capacity s'.hand ≡ vec_capacity s.hand) × (vec_capacity s'.kept ≡ vec_capacity s.kept) × (vec_capacity s'.rolled_back ≡ vec_capacity s.rolled_back) × (vec_capacity s'.left ≡ vec_capacity s.left)) (finished : s'.finished ≡ s.finished) (early : (s'.early ≡ s.early) × (s'.readers ≡ s.readers)) (left : s'.left.items ≡ s.left.items) (drained : s'.drained ≡ s.drained) (rows : s'.rows ≡ s.rows) where
   others_same : (blocks : List ℕ) → AreFreed u w blocks → IsHand w l.pool s'.hand.items → AreOld l w s'.kept.items → EachOnce s'.kept.items → AreBack l w s'.rolled_back.items → EachOnce s'.rolled_back.items → length s'.hand.items + length s'.kept.items + length s'.rolled_back.items ≤ l.pool → ArePlaced l w s.places.items → IsStock l w s'
   others_same blocks freed hand old old_once back back_once few known = record {
     hand = hand;
@@ -96,9 +100,12 @@ module _ (l : Layout) (u w : Sight) (s s' : Stock) (is : IsStock l u s) (told : 
     back_once = back_once;
     placed = subst (ArePlaced l w) (sym places) known;
     few = few;
-    room = let r = is.room in omega arith;
+    table = ap (λ (ps : List Patch). length ps) places ∙ is.table;
+    room = let r = is.room in let r0 = r.hand in let r1 = r.kept in let r2 = r.back in let r3 = r.left in let c0 = room.0 in let c1 = room.1 in let c2 = room.2 in let c3 = room.3 in
+        record { hand = omega arith; kept = omega arith; back = omega arith; left = omega arith };
     finished = ap (λ (z : Sight). z.ruling.finished) freed ∙ is.finished ∙ sym finished;
-    early = ap (λ (z : Sight). z.ruling.early) freed ∙ is.early ∙ sym early;
+    readers = ap (λ (z : Sight). z.ruling.readers) freed ∙ is.readers ∙ sym early.1;
+    early = ap (λ (z : Sight). z.ruling.early) freed ∙ is.early ∙ sym early.0;
     left = subst (λ (z : Sight × List ℕ × ℕ). AreLeft z.0 z.1 × (length z.1 ≡ z.2)) (λ t. (sym freed t, sym left t, sym finished t)) is.left;
     drained = subst (λ (z : Sight × ℕ × ℕ). AllDrained z.0 z.1 × (z.1 ≤ z.2)) (λ t. (sym freed t, sym drained t, sym finished t)) is.drained;
     rounds = subst (λ (z : ℕ). z ≤ l.rounds) (sym finished) is.rounds;
@@ -156,8 +163,10 @@ stock_drained l u v s d more is all low = let t = stock_more l u v s more is in 
   back_once = t.back_once;
   placed = t.placed;
   few = t.few;
-  room = t.room;
+  table = t.table;
+  room = let r = t.room in record { hand = r.hand; kept = r.kept; back = r.back; left = r.left };
   finished = t.finished;
+  readers = t.readers;
   early = t.early;
   left = t.left;
   drained = (all, low);
@@ -176,12 +185,77 @@ stock_laid l u v s h n is same low empty room = subst (λ (z : Sight). IsStock l
   back_once = is.back_once;
   placed = is.placed;
   few = let e = ap (λ (xs : List ℕ). length xs) empty in let f = is.few in omega arith;
-  room = let f = is.room in omega arith;
+  table = is.table;
+  room = let f = is.room in let g = f.hand in record { hand = omega arith; kept = f.kept; back = f.back; left = f.left };
   finished = is.finished;
+  readers = is.readers;
   early = is.early;
   left = is.left;
   drained = is.drained;
   rounds = is.rounds;
   rows = (refl, low);
   none = omega arith;
+}
+
+-- and they stay where nothing of them changed
+pub stock_keeps : (l : Layout) (u v : Sight) (s : Stock) → KeepsStock u v → IsStock l u s → IsStock l v s
+stock_keeps l u v s keeps is = record {
+  hand = record {
+    held = λ k a. let t = is.hand.held k a in (subst (λ (xs : List ℕ). HasEntry xs (slice_index s.hand.items k)) (sym keeps.hand) t.0, t.1);
+    all = λ b h. is.hand.all b (subst (λ (xs : List ℕ). HasEntry xs b) keeps.hand h);
+    once = is.hand.once;
+  };
+  old = record {
+    each = λ k a. let t = is.old.each k a in record {
+      fits = t.fits;
+      kept = subst (λ (xs : List ℕ). HasEntry xs (nth s.kept.items k).block) (sym keeps.kept) t.kept;
+      placed = subst (λ (xs : List (ℕ × ℕ × ℕ)). HasEntry xs (spot l (nth s.kept.items k))) (sym keeps.placed) t.placed;
+      rooted = λ q x st. ⊎_elim inl (λ z. inr (z.0, z.1, z.2, z.3, z.4, z.5, subst (λ (xs : List (ℕ × ℕ × ℕ)). HasEntry xs (z.0, z.1, z.2)) (sym keeps.placed) z.6)) (t.rooted q x st);
+    };
+    all = λ b h. is.old.all b (subst (λ (xs : List ℕ). HasEntry xs b) keeps.kept h);
+  };
+  old_once = is.old_once;
+  back = record {
+    fits = is.back.fits;
+    each = λ k a. let t = is.back.each k a in (
+      subst (λ (xs : List ℕ). HasEntry xs (nth s.rolled_back.items k).block) (sym keeps.rolled_back) t.0,
+      subst (λ (xs : List (ℕ × ℕ × ℕ)). HasEntry xs (spot l (nth s.rolled_back.items k))) (sym keeps.placed) t.1,
+    );
+    all = λ b h. is.back.all b (subst (λ (xs : List ℕ). HasEntry xs b) keeps.rolled_back h);
+  };
+  back_once = is.back_once;
+  placed = λ b y m h. is.placed b y m (subst (λ (xs : List (ℕ × ℕ × ℕ)). HasEntry xs (b, y, m)) keeps.placed h);
+  few = is.few;
+  table = is.table;
+  room = is.room;
+  finished = keeps.finished ∙ is.finished;
+  readers = keeps.readers ∙ is.readers;
+  early = keeps.early ∙ is.early;
+  left = ((λ q a. subst (λ (xs : List (ℕ × ℕ)). HasEntry xs (q, slice_index s.left.items q)) (sym keeps.left) (is.left.0 q a)), is.left.1);
+  drained = ((λ q a. subst (λ (xs : List ℕ). HasEntry xs q) (sym keeps.drained) (is.drained.0 q a)), is.drained.1);
+  rounds = is.rounds;
+  rows = (keeps.free ∙ is.rows.0, is.rows.1);
+  none = let e = keeps.low in let f = keeps.high in let g = is.none in omega arith;
+}
+
+-- readers' passes were counted
+pub stock_counted : (l : Layout) (u v : Sight) (s : Stock) (r : Read) (n e m f : ℕ) → v ≡ record u { read = r; ruling = record u.ruling { readers = n; early = e } } → n ≡ m → e ≡ f → IsStock l u s → IsStock l v record s { readers = m; early = f }
+stock_counted l u v s r n e m f same a b is = subst (λ (z : Sight). IsStock l z record s { readers = m; early = f }) (sym same) record {
+  hand = record { held = is.hand.held; all = is.hand.all; once = is.hand.once };
+  old = record { each = λ k c. let t = is.old.each k c in record { fits = t.fits; kept = t.kept; placed = t.placed; rooted = t.rooted }; all = is.old.all };
+  old_once = is.old_once;
+  back = record { fits = is.back.fits; each = is.back.each; all = is.back.all };
+  back_once = is.back_once;
+  placed = is.placed;
+  few = is.few;
+  table = is.table;
+  room = let g = is.room in record { hand = g.hand; kept = g.kept; back = g.back; left = g.left };
+  finished = is.finished;
+  readers = a;
+  early = b;
+  left = is.left;
+  drained = is.drained;
+  rounds = is.rounds;
+  rows = is.rows;
+  none = is.none;
 }

@@ -77,6 +77,7 @@ module _ (l : Layout) (u v : Sight) (p : Held) where
     more = λ b h. subst (λ (xs : List ℕ). HasEntry xs b) rolled_back h;
     only = λ b h. inl (subst (λ (xs : List ℕ). HasEntry xs b) (sym rolled_back) h);
     placed = λ a h. subst (λ (xs : List (ℕ × ℕ × ℕ)). HasEntry xs a) placed h;
+    spots = λ a h. inl (subst (λ (xs : List (ℕ × ℕ × ℕ)). HasEntry xs a) (sym placed) h);
     noted = λ b h. absurd (none_some b (sym e ∙ h));
   }
     where
@@ -106,6 +107,7 @@ module _ (l : Layout) (u v : Sight) (p : Held) where
         more = λ c h. subst (λ (xs : List ℕ). HasEntry xs c) (sym rolled_back) (inr h);
         only = λ c h. ⊎_elim (λ q. inr (e ∙ ap Some (sym q))) inl (subst (λ (xs : List ℕ). HasEntry xs c) rolled_back h);
         placed = λ a h. subst (λ (xs : List (ℕ × ℕ × ℕ)). HasEntry xs a) (sym placed) (inr h);
+        spots = λ a h. ⊎_elim (λ q. inr (b, e, q)) inl (subst (λ (xs : List (ℕ × ℕ × ℕ)). HasEntry xs a) placed h);
         noted = λ c h. let q : c ≡ b = some_one c b (sym h ∙ e) in (subst (λ (xs : List ℕ). HasEntry xs c) (sym rolled_back) (inl q), subst (λ (xs : List (ℕ × ℕ × ℕ)). HasEntry xs (c, place_number l p.first, mate_number l p.second)) (sym placed) (inl (λ t. (q t, place_number l p.first, mate_number l p.second))));
       }
     where
@@ -119,7 +121,7 @@ module _ (l : Layout) (u v : Sight) (p : Held) where
 -- all claims of the list
 module _ (l : Layout) (u : Sight) (ps : List Held) where
   pub taking_begins : TakenTo l u u ps 0
-  taking_begins = record { same = refl; left = λ x m p h. (h, λ k a. absurd (omega arith)); still = λ x m p h _. h; more = λ b h. h; only = λ b h. inl h; placed = λ a h. h; noted = λ k b a. absurd (omega arith) }
+  taking_begins = record { same = refl; left = λ x m p h. (h, λ k a. absurd (omega arith)); still = λ x m p h _. h; more = λ b h. h; only = λ b h. inl h; placed = λ a h. h; spots = λ a h. inl h; noted = λ k b a. absurd (omega arith) }
 
   module _ (are : AreHeld l u ps) (v : Sight) (n : ℕ) (so : TakenTo l u v ps n) (room : n < length ps) where
     pub taking_has : HasEntry v.claims (claim (place_of l ps n) (mate_number l (held_at ps n).second) (progress_of (held_at ps n).block))
@@ -135,6 +137,7 @@ module _ (l : Layout) (u : Sight) (ps : List Held) where
           more = λ b h. one.more b (so.more b h);
           only = λ b h. ⊎_elim (λ q. ⊎_elim inl (λ t. let a = t.1 in inr (t.0, omega arith, t.2)) (so.only b q)) (λ q. inr (n, omega arith, q)) (one.only b h);
           placed = λ a h. one.placed a (so.placed a h);
+          spots = λ a h. ⊎_elim (λ q. ⊎_elim inl (λ t. let b = t.1 in inr (t.0, omega arith, t.2)) (so.spots a q)) (λ q. inr (n, omega arith, q)) (one.spots a h);
           noted = λ k b a h. dite (ℕ_discrete k n)
               (λ q. subst (λ (j : ℕ). HasEntry w.ruling.rolled_back b × HasEntry w.ruling.placed (b, place_of l ps j, mate_number l (held_at ps j).second)) (sym q) (one.noted b (sym (ap (λ (j : ℕ). (held_at ps j).block) q) ∙ h)))
               (λ o. let t = so.noted k b (omega arith) h in (one.more b t.0, one.placed _ t.1));
@@ -160,5 +163,6 @@ module _ (l : Layout) (u : Sight) (ps : List Held) where
         more = λ b h. subst (λ (xs : List ℕ). HasEntry xs b) (sym new_rolled_back) (so.more b (subst (λ (xs : List ℕ). HasEntry xs b) old_rolled_back h));
         only = λ b h. ⊎_elim (λ q. inl (subst (λ (xs : List ℕ). HasEntry xs b) (sym old_rolled_back) q)) inr (so.only b (subst (λ (xs : List ℕ). HasEntry xs b) new_rolled_back h));
         placed = λ a h. subst (λ (xs : List (ℕ × ℕ × ℕ)). HasEntry xs a) (sym new_placed) (so.placed a (subst (λ (xs : List (ℕ × ℕ × ℕ)). HasEntry xs a) old_placed h));
+        spots = λ a h. ⊎_elim (λ q. inl (subst (λ (xs : List (ℕ × ℕ × ℕ)). HasEntry xs a) (sym old_placed) q)) inr (so.spots a (subst (λ (xs : List (ℕ × ℕ × ℕ)). HasEntry xs a) new_placed h));
         noted = λ k b a h. let t = so.noted k b a h in (subst (λ (xs : List ℕ). HasEntry xs b) (sym new_rolled_back) t.0, subst (λ (xs : List (ℕ × ℕ × ℕ)). HasEntry xs (b, place_of l ps k, mate_number l (held_at ps k).second)) (sym new_placed) t.1);
       }

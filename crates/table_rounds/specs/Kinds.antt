@@ -21,6 +21,7 @@ pub record BlocksTold (e : ℕ) (v : Sight) : Type 0 where
   pub once : (b y m z i : ℕ) → HasEntry v.ruling.placed (b, y, m) → HasEntry v.ruling.placed (b, z, i) → (y ≡ z) × (m ≡ i)
   -- a claim's block is noted at the claim's places alone, and is in no list
   pub claimed : (b y m z i : ℕ) → HasEntry v.claims (claim y m (Living b)) → HasEntry v.ruling.placed (b, z, i) → (y ≡ z) × (m ≡ i)
+  pub claimed_back : (b y m : ℕ) → HasEntry v.claims (claim y m (Living b)) → HasEntry v.ruling.rolled_back b → ⊥
   -- the places of retired blocks are macro elements' and those of children of noted blocks
   pub rooted : (b y m x : ℕ) (t : Bool) → IsRetired v b → HasEntry v.ruling.placed (b, y, m) → stands (Placed y m) t ≡ x + 1 → IsRooted e v x
 

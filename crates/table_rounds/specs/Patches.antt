@@ -1,5 +1,5 @@
 -- Blocks with their places, and the sweep of claims.
-use Rattle.std.specs.Prelude.{◌≡◌, ℕ, ◌+◌, ◌<◌, Bool, List, [], ◌∷◌, ◌++◌, length, slice_index_or, Option, None, Some, IfSome, false}
+use Rattle.std.specs.Prelude.{◌≡◌, ℕ, ◌+◌, ◌<◌, Bool, List, [], ◌∷◌, ◌++◌, length, slice_index_or, Option, None, Some, IfSome, ◌⊎◌, false}
 use Rattle.table_words.specs.declared.layout.Layout.{Layout}
 use Rattle.table_words.specs.declared.layout.ElemAt.TheVariants.{Macro}
 use Rattle.table_words.specs.Claims.{Progress, Living, claim}
@@ -42,18 +42,24 @@ pub record IsSweepable (l : Layout) (v : Sight) (ps : List Patch) : Type 0 where
   pub apart : (j k : ℕ) → j < length ps → k < length ps → first_of l ps j ≡ first_of l ps k → j ≡ k
   pub all : (x m : ℕ) (p : Progress) → HasEntry v.claims (claim x m p) → (k : ℕ) × (k < length ps) × (x ≡ first_of l ps k)
 
+-- a block and its places are those of one of the first n patches
+abbrev pub IsSpotOf : Layout → List Patch → ℕ → ℕ × ℕ × ℕ → Type 0
+IsSpotOf l ps n a = (k : ℕ) × (k < n) × (a ≡ spot l (nth ps k))
+
 -- the claims of the first n patches have ended, and their blocks are noted with their places; nothing else changed
 pub record SweptTo (l : Layout) (u v : Sight) (ps : List Patch) (n : ℕ) : Type 0 where
   pub same : v ≡ record u { claims = v.claims; ruling = record u.ruling { placed = v.ruling.placed } }
   pub left : (x m : ℕ) (p : Progress) → HasEntry v.claims (claim x m p) → HasEntry u.claims (claim x m p) × ((k : ℕ) → k < n → x ≡ first_of l ps k → ⊥)
   pub still : (x m : ℕ) (p : Progress) → HasEntry u.claims (claim x m p) → ((k : ℕ) → k < n → x ≡ first_of l ps k → ⊥) → HasEntry v.claims (claim x m p)
   pub more : (a : ℕ × ℕ × ℕ) → HasEntry u.ruling.placed a → HasEntry v.ruling.placed a
+  pub only : (a : ℕ × ℕ × ℕ) → HasEntry v.ruling.placed a → HasEntry u.ruling.placed a ⊎ IsSpotOf l ps n a
   pub noted : (k : ℕ) → k < n → HasEntry v.ruling.placed (spot l (nth ps k))
 
 -- no claim is left, and each patch's block is noted with its places; nothing else changed
 pub record Swept (l : Layout) (u v : Sight) (ps : List Patch) : Type 0 where
   pub same : v ≡ record u { claims = []; ruling = record u.ruling { placed = v.ruling.placed } }
   pub more : (a : ℕ × ℕ × ℕ) → HasEntry u.ruling.placed a → HasEntry v.ruling.placed a
+  pub only : (a : ℕ × ℕ × ℕ) → HasEntry v.ruling.placed a → HasEntry u.ruling.placed a ⊎ IsSpotOf l ps (length ps) a
   pub noted : (k : ℕ) → k < length ps → HasEntry v.ruling.placed (spot l (nth ps k))
 
 -- the LINK words of the places of each of the first n patches are stamped, or name other blocks; only what the owner owns changed
@@ -92,8 +98,8 @@ pub record WereRetired (l : Layout) (v : Sight) (ps : List Patch) : Type 0 where
   pub right : (k : ℕ) → k < length ps → HasEntry (v.work.retired ++ v.ruling.retired) (nth ps k).block × HasEntry v.ruling.placed (spot l (nth ps k))
   pub all : (b : ℕ) → HasEntry (v.work.retired ++ v.ruling.retired) b → (k : ℕ) × (k < length ps) × (b ≡ (nth ps k).block)
 
--- The round is finished: the history has one forest more, no claim is left, the blocks of the claims are
--- noted with their places, those that were retired are kept, and the free blocks are as they were
+-- The round is finished: the history has one forest more, no claim is left, the blocks of the claims, and no
+-- others, are noted with their places, those that were retired are kept, and the free blocks are as they were
 pub record Finished (l : Layout) (u v : Sight) (ps : List Patch) (forest : List ℕ) (taken : ℕ) : Type 0 where
   pub kind : v.kind ≡ u.kind
   pub claims : v.claims ≡ []
@@ -110,4 +116,5 @@ pub record Finished (l : Layout) (u v : Sight) (ps : List Patch) (forest : List 
     quiet = false;
   }
   pub more : (a : ℕ × ℕ × ℕ) → HasEntry u.ruling.placed a → HasEntry v.ruling.placed a
+  pub only : (a : ℕ × ℕ × ℕ) → HasEntry v.ruling.placed a → HasEntry u.ruling.placed a ⊎ IsSpotOf l ps (length ps) a
   pub noted : (k : ℕ) → k < length ps → HasEntry v.ruling.placed (spot l (nth ps k))

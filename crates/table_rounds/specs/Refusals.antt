@@ -49,6 +49,10 @@ pub record RolledBackOne (u v : Sight) (x m b round : ℕ) : Type 0 where
   pub claims : v.claims ≡ ended u.claims x
   pub died : Noted v.owned.died b round
 
+-- a block and its places are those of the claim
+abbrev pub IsSpotIn : Layout → Held → ℕ × ℕ × ℕ → Type 0
+IsSpotIn l p a = (b : ℕ) × (p.block ≡ Some b) × (a ≡ (b, place_number l p.first, mate_number l p.second))
+
 -- the claim of one of the list ends
 pub record EndedOne (l : Layout) (u v : Sight) (p : Held) : Type 0 where
   pub same : v ≡ record u {
@@ -59,6 +63,7 @@ pub record EndedOne (l : Layout) (u v : Sight) (p : Held) : Type 0 where
   pub more : (b : ℕ) → HasEntry u.ruling.rolled_back b → HasEntry v.ruling.rolled_back b
   pub only : (b : ℕ) → HasEntry v.ruling.rolled_back b → HasEntry u.ruling.rolled_back b ⊎ (p.block ≡ Some b)
   pub placed : (a : ℕ × ℕ × ℕ) → HasEntry u.ruling.placed a → HasEntry v.ruling.placed a
+  pub spots : (a : ℕ × ℕ × ℕ) → HasEntry v.ruling.placed a → HasEntry u.ruling.placed a ⊎ IsSpotIn l p a
   pub noted : (b : ℕ) → p.block ≡ Some b → HasEntry v.ruling.rolled_back b × HasEntry v.ruling.placed (b, place_number l p.first, mate_number l p.second)
 
 -- the claims of the view are those of the list
@@ -79,6 +84,7 @@ pub record TakenTo (l : Layout) (u v : Sight) (ps : List Held) (n : ℕ) : Type 
   pub more : (b : ℕ) → HasEntry u.ruling.rolled_back b → HasEntry v.ruling.rolled_back b
   pub only : (b : ℕ) → HasEntry v.ruling.rolled_back b → HasEntry u.ruling.rolled_back b ⊎ ((k : ℕ) × (k < n) × ((held_at ps k).block ≡ Some b))
   pub placed : (a : ℕ × ℕ × ℕ) → HasEntry u.ruling.placed a → HasEntry v.ruling.placed a
+  pub spots : (a : ℕ × ℕ × ℕ) → HasEntry v.ruling.placed a → HasEntry u.ruling.placed a ⊎ ((k : ℕ) × (k < n) × IsSpotIn l (held_at ps k) a)
   pub noted : (k b : ℕ) → k < n → (held_at ps k).block ≡ Some b → HasEntry v.ruling.rolled_back b
       × HasEntry v.ruling.placed (b, place_of l ps k, mate_number l (held_at ps k).second)
 
@@ -97,5 +103,6 @@ pub record RolledBackAll (l : Layout) (u v : Sight) (ps : List Held) : Type 0 wh
   pub more : (b : ℕ) → HasEntry u.ruling.rolled_back b → HasEntry v.ruling.rolled_back b
   pub only : (b : ℕ) → HasEntry v.ruling.rolled_back b → HasEntry u.ruling.rolled_back b ⊎ ((k : ℕ) × (k < length ps) × ((held_at ps k).block ≡ Some b))
   pub placed : (a : ℕ × ℕ × ℕ) → HasEntry u.ruling.placed a → HasEntry v.ruling.placed a
+  pub spots : (a : ℕ × ℕ × ℕ) → HasEntry v.ruling.placed a → HasEntry u.ruling.placed a ⊎ ((k : ℕ) × (k < length ps) × IsSpotIn l (held_at ps k) a)
   pub noted : (k b : ℕ) → k < length ps → (held_at ps k).block ≡ Some b → HasEntry v.ruling.rolled_back b
       × HasEntry v.ruling.placed (b, place_of l ps k, mate_number l (held_at ps k).second)

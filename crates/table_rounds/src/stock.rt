@@ -1,8 +1,9 @@
 //! The blocks that the owner has between rounds, and which of them become free.
-ghost use Rattle.std.specs.Prelude.{◌≡◌, ℕ, ◌+◌, ◌++◌, ◌≤◌, ◌⊎◌, [], false, length, map, true, vec_capacity};
+ghost use Rattle.std.specs.Prelude.{IfOk, ◌≡◌, ℕ, ◌+◌, ◌++◌, ◌≤◌, ◌⊎◌, [], false, length, map, true, vec_capacity};
 ghost use Rattle.table_words.specs.Views.{Owner, Resting};
 ghost use Rattle.mesh_table.specs.Rounds.{DrainedTo};
-ghost use Rattle.mesh_table.specs.Sights.{setup_at};
+ghost use Rattle.mesh_table.specs.Sights.{Sight, setup_at};
+ghost use Rattle.table_state.specs.Fresh.{fresh_views};
 ghost use Rattle.mesh_table.specs.Told.{IsOf, Stays, sight};
 ghost use Rattle.table_rounds.specs.Drained.{MoreDrained};
 ghost use Rattle.table_rounds.specs.Stocks.{AreDrained, IsStock, RoomLeft, blocks_of};
@@ -14,6 +15,8 @@ use crate::patch::Patch;
 use crate::rows::lay_rows;
 use mesh_table::rule::MeshSeat;
 use mesh_table::table::MeshTable;
+use std::alloc::{AllocError, Global};
+use table_words::layout::{ElemAt, Layout};
 
 /// The blocks that the owner has: free ones that are in no row, those that were retired and those
 /// that were rolled back and are not free yet, and by block the places of each that is in use; and
@@ -28,12 +31,41 @@ pub struct Stock {
     pub rows: u32,
     /// The last finished round.
     pub finished: u32,
-    /// How many readers' passes are out that were made before that round was finished.
-    pub early: u32,
+    /// How many readers' passes are out.
+    pub readers: u64,
+    /// How many of them were made before that round was finished.
+    pub early: u64,
     /// How many pins were taken in each round before it.
     pub left: Vec<u64>,
     /// No pin is out of a round below this one.
     pub drained: u32,
+}
+
+impl Stock {
+    /// The lists of the owner of a fresh table: all blocks are in rows. There is memory for lists of
+    /// the whole pool and of all rounds.
+    pub fn new(alloc: Global, layout: Layout) -> Result<Stock, AllocError>
+        ensures fresh { IfOk result (λ s. (v : Sight) → v.ruling ≡ (fresh_views layout.pool).ruling → IsStock layout v s) }
+    {
+        let pool = layout.pool as usize;
+        let nowhere = Patch {
+            block: 0,
+            first: ElemAt::Macro(0),
+            second: None,
+        };
+        Ok(Stock {
+            hand: Vec::with_capacity(alloc, pool)?,
+            kept: Vec::with_capacity(alloc, pool)?,
+            rolled_back: Vec::with_capacity(alloc, pool)?,
+            places: vec![in alloc; nowhere; pool]?,
+            rows: layout.pool,
+            finished: 0,
+            readers: 0,
+            early: 0,
+            left: Vec::with_capacity(alloc, layout.rounds as usize)?,
+            drained: 0,
+        })
+    }
 }
 
 /// How many blocks a call freed and kept.

@@ -28,4 +28,4 @@ returns-clause-stock c =
     ∙ append_apart s.hand.items (blocks_of c.deref.result.now) (blocks_of c.deref-2.result.now) ∙ (λ t. s.hand.items ++ (blocks_of (c.deref.ensures.value t) ++ blocks_of (c.deref-2.ensures.value t))) in
     let slice = slice_is c.deref-5.result.now s.hand.items given c.len-start.result (c.deref-5.ensures.value ∙ hand) start in
     let freed : AreFreed (sight c.args.owner.now) (sight c.free_given_up.new.owner) given = subst (λ (z : Sight × List ℕ). AreFreed z.0 (sight c.free_given_up.new.owner) z.1) (λ t. (c.look_blocks.ensures.same t, slice t)) c.free_given_up.ensures.freed in
-    stock_both c.args.table.now.site.layout (sight c.args.owner.now) (sight c.free_given_up.new.owner) s _ c.requires.stock c.look_blocks.ensures.told refl (c.add_blocks-2.ensures.capacity ∙ c.add_blocks.ensures.capacity) refl refl refl refl refl freed hand c.clear.ensures.items c.clear-2.ensures.items
+    stock_both c.args.table.now.site.layout (sight c.args.owner.now) (sight c.free_given_up.new.owner) s _ c.requires.stock c.look_blocks.ensures.told refl (c.add_blocks-2.ensures.capacity ∙ c.add_blocks.ensures.capacity, c.clear.ensures.capacity, c.clear-2.ensures.capacity, refl) refl (refl, refl) refl refl refl freed hand c.clear.ensures.items c.clear-2.ensures.items

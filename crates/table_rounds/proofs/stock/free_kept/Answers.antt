@@ -24,4 +24,4 @@ returns-clause-stock c =
     let hand : c.add_blocks.new.hand.items ≡ s.hand.items ++ blocks_of s.kept.items = c.add_blocks.ensures.items ∙ (λ t. s.hand.items ++ blocks_of (c.deref.ensures.value t)) in
     let slice = slice_is c.deref-5.result.now s.hand.items (blocks_of s.kept.items) c.len-start.result (c.deref-5.ensures.value ∙ hand) start in
     let freed : AreFreed (sight c.args.owner.now) (sight c.free_retired.new.owner) (blocks_of s.kept.items) = subst (λ (z : Sight × List ℕ). AreFreed z.0 (sight c.free_retired.new.owner) z.1) (λ t. (c.look_blocks.ensures.same t, slice t)) c.free_retired.ensures.freed in
-    stock_kept c.args.table.now.site.layout (sight c.args.owner.now) (sight c.free_retired.new.owner) s _ c.requires.stock c.look_blocks.ensures.told refl c.add_blocks.ensures.capacity refl refl refl refl refl freed hand c.clear.ensures.items refl
+    stock_kept c.args.table.now.site.layout (sight c.args.owner.now) (sight c.free_retired.new.owner) s _ c.requires.stock c.look_blocks.ensures.told refl (c.add_blocks.ensures.capacity, c.clear.ensures.capacity, refl, refl) refl (refl, refl) refl refl refl freed hand c.clear.ensures.items refl
