@@ -1,0 +1,6 @@
+pub mod WrittenVertices
+pub mod LeafNames
+pub mod Moved
+pub mod Renaming
+pub mod RenamedLeast
+pub mod RenamedSteps

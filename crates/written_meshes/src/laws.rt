@@ -1,0 +1,19 @@
+//! Laws over the definitions alone. Each function takes nothing and answers nothing: its contract is
+//! the law.
+ghost use Rattle.written_meshes.specs.ForestRenaming.{CoarsenedStandsFor, LeastStandsFor, WrittenIsRenaming};
+
+/// The names of a written mesh stand for the names at and below the leaves that were written, partner
+/// for partner.
+pub fn written_is_renaming()
+    ensures { WrittenIsRenaming }
+{}
+
+/// The least forest of names that stand for names stands for the least forest of these.
+pub fn least_stands_for()
+    ensures { LeastStandsFor }
+{}
+
+/// The coarsened forest of names that stand for names stands for the coarsened forest of these.
+pub fn coarsened_stands_for()
+    ensures { CoarsenedStandsFor }
+{}
