@@ -17,13 +17,13 @@ use Rattle.mesh_names.proofs.Sets.{In, has-in, in-has, item-in, is_or_not, both_
 use Rattle.written_meshes.specs.Renaming.{leaf_at, renamed}
 
 -- ---- lists in order
-sorted_pair : (ks : List Name) → IsStrictlySortedBy name_cmp ks → (i j : ℕ) (d : Name) → i < j → j < length ks → name_cmp (slice_index_or ks i d) (slice_index_or ks j d) ≡ Less
+pub sorted_pair : (ks : List Name) → IsStrictlySortedBy name_cmp ks → (i j : ℕ) (d : Name) → i < j → j < length ks → name_cmp (slice_index_or ks i d) (slice_index_or ks j d) ≡ Less
 sorted_pair [] h i j d l inside = absurd (omega (arith, inside))
 sorted_pair (k ∷ ks) h i zero d l inside = absurd (omega (arith, l))
 sorted_pair (k ∷ ks) h zero (suc j) d l inside = All-after_first name_cmp k ks h j d (omega (arith, inside))
 sorted_pair (k ∷ ks) h (suc i) (suc j) d l inside = sorted_pair ks (sorted_tail name_cmp k ks h) i j d (omega (arith, l)) (omega (arith, inside))
 
-never_before_itself : (n : Name) → name_cmp n n ≡ Less → ⊥
+pub never_before_itself : (n : Name) → name_cmp n n ≡ Less → ⊥
 never_before_itself n h = true≢false (sym (same-tied n n refl) ∙ ap is_eq h)
 
 -- two places of a list in order that have one name are one
@@ -53,7 +53,7 @@ module _ (mesh : Shape) (members : Names) (forest : IsForest mesh members) where
   up r (b ∷ u) w h = up r u w (forest.closed r b (u ++ w) h)
 
   -- a name is below one leaf
-  one_leaf : (r : ℕ) (u v w z : List Bool) → u ++ w ≡ v ++ z → IsLeaf mesh members (r, w) → IsLeaf mesh members (r, z) → (u ≡ v) × (w ≡ z)
+  pub one_leaf : (r : ℕ) (u v w z : List Bool) → u ++ w ≡ v ++ z → IsLeaf mesh members (r, w) → IsLeaf mesh members (r, z) → (u ≡ v) × (w ≡ z)
   one_leaf r [] [] w z e a b = (refl, e)
   one_leaf r [] (c ∷ v) w z e a b = absurd (both_sides (contains members (r, z)) (up r v z (a.born c (v ++ z) e)) b.unsplit)
   one_leaf r (c ∷ u) [] w z e a b = absurd (both_sides (contains members (r, w)) (up r u w (b.born c (u ++ w) (sym e))) a.unsplit)

@@ -16,6 +16,7 @@ use Rattle.mesh_names.proofs.Pairs.{partners_pair}
 use Rattle.written_meshes.specs.Renaming.{IsWrittenFrom, leaf_at, renamed}
 use Rattle.written_meshes.specs.ForestRenaming.{IsRenaming, WrittenIsRenaming}
 use Rattle.written_meshes.proofs.LeafNames.{all, one}
+use Rattle.written_meshes.proofs.LeafOrder.{order}
 use Rattle.written_meshes.proofs.Moved.{inside, outside, leaf_of, not_member, moved, midpoint-moved, one_middle}
 
 -- a shared edge has one middle
@@ -118,6 +119,7 @@ module _ (mesh other : Shape) (x : Across) (count : ℕ) (members : Names) (list
     all = λ n h. ⊎_elim (λ a. inl a) (λ (m : (m : Name) × (m.0 < length list) × (name m ≡ n)). inr (m.0, outside mesh other x count members list is m.0.0 m.1, m.2)) (all mesh members is.forest list is.is_list n.0 n.1 h);
     partners = partners;
     back = back;
+    order = λ m n hm hn. order mesh members is.forest list is.is_list m n (inside mesh other x count members list is m.0 hm) (inside mesh other x count members list is n.0 hn);
     levels = levels;
   }
 

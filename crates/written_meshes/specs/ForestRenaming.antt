@@ -1,17 +1,18 @@
 -- Forests under a renaming: the names of one mesh stand for the names at and below the leaves of a forest of another.
-use Rattle.std.specs.Prelude.{◌≡◌, ◌+◌, ◌<◌, ℕ, Bool, List, [], ◌∷◌, Some, ◌⊎◌}
+use Rattle.std.specs.Prelude.{◌≡◌, ◌+◌, ◌<◌, ◌≤◌, ℕ, Bool, List, [], ◌∷◌, Some, ◌⊎◌}
 use Rattle.std.specs.FinSet.{contains}
-use Rattle.mesh_names.specs.Names.{Name}
+use Rattle.mesh_names.specs.Names.{Name, name_cmp}
 use Rattle.mesh_names.specs.Triangles.{Shape, size, level}
 use Rattle.mesh_names.specs.Forests.{Names, Has, Within, IsForest, IsLeaf}
 use Rattle.mesh_names.specs.Conformity.{HoldsPartners}
 use Rattle.mesh_names.specs.Partners.{Across, Tells, partner}
 use Rattle.mesh_names.specs.LeastForest.{IsLeast}
 use Rattle.mesh_names.specs.Coarsening.{IsCoarsened, IsConforming, MarkedForest, child_at}
+use Rattle.mesh_names.specs.Patches.{patch_count}
 use Rattle.mesh_names.specs.Validity.{across_of}
 use Rattle.written_meshes.specs.Renaming.{IsWrittenFrom, renamed}
 
--- another name for each name of one mesh, one at or below a leaf of a forest of the other mesh: each name there that is no member is meant by exactly one. A macro element stands for a leaf, a child for a child, a partner for a partner, and the levels below one leaf differ by one number
+-- another name for each name of one mesh, one at or below a leaf of a forest of the other mesh: each name there that is no member is meant by exactly one. A macro element stands for a leaf, a child for a child, a partner for a partner, the order is kept, and the levels below one leaf differ by one number
 pub record IsRenaming (mesh other : Shape) (x y : Across) (members : Names) (rename : Name → Name) : Type 0 where
   pub tells : Tells mesh x
   pub tells_other : Tells other y
@@ -24,6 +25,7 @@ pub record IsRenaming (mesh other : Shape) (x y : Across) (members : Names) (ren
   pub all : (n : Name) → n.0 < size mesh → Has members n ⊎ ((m : Name) × (m.0 < size other) × (rename m ≡ n))
   pub partners : (n m : Name) (t : Bool) → n.0 < size other → partner y n.0 n.1 ≡ Some (m, t) → (s : Bool) × (partner x (rename n).0 (rename n).1 ≡ Some (rename m, s))
   pub back : (n m : Name) (t : Bool) → n.0 < size other → partner x (rename n).0 (rename n).1 ≡ Some (m, t) → (k : Name) × ((s : Bool) × (partner y n.0 n.1 ≡ Some (k, s)) × (rename k ≡ m))
+  pub order : (m n : Name) → m.0 < size other → n.0 < size other → name_cmp (rename m) (rename n) ≡ name_cmp m n
   pub levels : (r : ℕ) → r < size other → (c : ℕ) × ((w : List Bool) → level mesh (rename (r, w)) ≡ level other (r, w) + c)
 
 -- the law that a written mesh's names stand so for those of the mesh that it was written from
@@ -52,3 +54,8 @@ abbrev pub CoarsenedStandsFor : Type 0
 CoarsenedStandsFor = (mesh other : Shape) (x y : Across) (members : Names) (rename : Name → Name) → IsRenaming mesh other x y members rename →
     (s new_s : MarkedForest) (coarsened new_coarsened : Names) → IsConforming mesh x s → IsConforming other y new_s → MarksStandFor other rename new_s s →
     IsCoarsened x s coarsened → Within members coarsened → IsCoarsened y new_s new_coarsened → StandsFor other rename new_coarsened coarsened
+
+-- the law that names that stand for names have no more patches than these
+abbrev pub PatchesAreFewer : Type 0
+PatchesAreFewer = (mesh other : Shape) (x y : Across) (members : Names) (rename : Name → Name) → IsRenaming mesh other x y members rename →
+    (new old : Names) → StandsFor other rename new old → patch_count y new ≤ patch_count x old

@@ -1,6 +1,6 @@
 //! Laws over the definitions alone. Each function takes nothing and answers nothing: its contract is
 //! the law.
-ghost use Rattle.written_meshes.specs.ForestRenaming.{CoarsenedStandsFor, LeastStandsFor, WrittenIsRenaming};
+ghost use Rattle.written_meshes.specs.ForestRenaming.{CoarsenedStandsFor, LeastStandsFor, PatchesAreFewer, WrittenIsRenaming};
 
 /// The names of a written mesh stand for the names at and below the leaves that were written, partner
 /// for partner.
@@ -16,4 +16,9 @@ pub fn least_stands_for()
 /// The coarsened forest of names that stand for names stands for the coarsened forest of these.
 pub fn coarsened_stands_for()
     ensures { CoarsenedStandsFor }
+{}
+
+/// A forest of names that stand for names has no more patches than theirs.
+pub fn patches_are_fewer()
+    ensures { PatchesAreFewer }
 {}
