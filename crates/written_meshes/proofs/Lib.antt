@@ -6,3 +6,4 @@ pub mod Renaming
 pub mod RenamedLeast
 pub mod RenamedSteps
 pub mod FewerPatches
+pub mod RenamedRounds
