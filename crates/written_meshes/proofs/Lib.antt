@@ -1,9 +1,13 @@
 pub mod WrittenVertices
 pub mod LeafNames
 pub mod LeafOrder
+pub mod SharedEdges
 pub mod Moved
+pub mod WrittenFits
 pub mod Renaming
 pub mod RenamedLeast
 pub mod RenamedSteps
 pub mod FewerPatches
 pub mod RenamedRounds
+pub mod ReadAgain
+pub mod FlatNames

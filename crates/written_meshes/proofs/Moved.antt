@@ -12,15 +12,15 @@ use Rattle.mesh_names.proofs.Only.{partner_is_only}
 use Rattle.mesh_writer.specs.Numbering.{vertices, number_of}
 use Rattle.mesh_writer.specs.Numbers.{IsWritten}
 use Rattle.mesh_writer.specs.Triples.{numbers}
-use Rattle.written_meshes.specs.Renaming.{IsWrittenFrom, leaf_at, renamed, renamed_vertex}
+use Rattle.written_meshes.specs.Renaming.{AreWritten, leaf_at, renamed, renamed_vertex}
 use Rattle.written_meshes.proofs.WrittenVertices.{vertex_at, at_number, all_own, own_place, vertices_all, all_written}
 use Rattle.written_meshes.proofs.LeafNames.{leaf, each, below}
 
 tail_is : {a b : Bool} {v w : List Bool} → a ∷ v ≡ b ∷ w → v ≡ w
 tail_is e = cc
 
-module _ (mesh other : Shape) (x : Across) (count : ℕ) (members : Names) (list : List Name) (is : IsWrittenFrom mesh x count members list other) where
-  abbrev written : List Vertex
+module _ (mesh other : Shape) (x : Across) (count : ℕ) (members : Names) (list : List Name) (is : AreWritten mesh x count members list other) where
+  abbrev pub written : List Vertex
   written = vertices mesh count list
 
   abbrev pub moved : Vertex → Vertex
@@ -51,13 +51,13 @@ module _ (mesh other : Shape) (x : Across) (count : ℕ) (members : Names) (list
   in_written r h = all_written mesh count list r (0, []) (inside r h)
 
   -- a corner of a macro element of the written mesh has the number of a vertex, which it stands for
-  first : (r : ℕ) → r < size other → (corner_of (triple_of other r) 0 < length written) × (vertex_at written (corner_of (triple_of other r) 0) ≡ (triangle mesh (leaf_at list r)).0)
+  pub first : (r : ℕ) → r < size other → (corner_of (triple_of other r) 0 < length written) × (vertex_at written (corner_of (triple_of other r) 0) ≡ (triangle mesh (leaf_at list r)).0)
   first r h = let t = ap (λ (u : Triple). corner_of u 0) (triple r h) in let a = at_number (triangle mesh (leaf_at list r)).0 written (in_written r h).first in (omega (arith, t, a.0), ap (vertex_at written) t ∙ a.1)
 
-  second : (r : ℕ) → r < size other → (corner_of (triple_of other r) 1 < length written) × (vertex_at written (corner_of (triple_of other r) 1) ≡ (triangle mesh (leaf_at list r)).1)
+  pub second : (r : ℕ) → r < size other → (corner_of (triple_of other r) 1 < length written) × (vertex_at written (corner_of (triple_of other r) 1) ≡ (triangle mesh (leaf_at list r)).1)
   second r h = let t = ap (λ (u : Triple). corner_of u 1) (triple r h) in let a = at_number (triangle mesh (leaf_at list r)).1 written (in_written r h).second in (omega (arith, t, a.0), ap (vertex_at written) t ∙ a.1)
 
-  third : (r : ℕ) → r < size other → (corner_of (triple_of other r) 2 < length written) × (vertex_at written (corner_of (triple_of other r) 2) ≡ (triangle mesh (leaf_at list r)).2)
+  pub third : (r : ℕ) → r < size other → (corner_of (triple_of other r) 2 < length written) × (vertex_at written (corner_of (triple_of other r) 2) ≡ (triangle mesh (leaf_at list r)).2)
   third r h = let t = ap (λ (u : Triple). corner_of u 2) (triple r h) in let a = at_number (triangle mesh (leaf_at list r)).2 written (in_written r h).third in (omega (arith, t, a.0), ap (vertex_at written) t ∙ a.1)
 
   -- ---- triangles

@@ -13,28 +13,18 @@ use Rattle.mesh_names.proofs.Levels.{levels_apart}
 use Rattle.mesh_names.proofs.Partners.{partners_share}
 use Rattle.mesh_names.proofs.Only.{partner_is_only}
 use Rattle.mesh_names.proofs.Pairs.{partners_pair}
-use Rattle.written_meshes.specs.Renaming.{IsWrittenFrom, leaf_at, renamed}
+use Rattle.written_meshes.specs.Renaming.{AreWritten, IsWrittenFrom, GradesAreLow, GradesDiffer, leaf_at, renamed}
 use Rattle.written_meshes.specs.ForestRenaming.{IsRenaming, WrittenIsRenaming}
 use Rattle.written_meshes.proofs.LeafNames.{all, one}
 use Rattle.written_meshes.proofs.LeafOrder.{order}
 use Rattle.written_meshes.proofs.Moved.{inside, outside, leaf_of, not_member, moved, midpoint-moved, one_middle}
+use Rattle.written_meshes.proofs.SharedEdges.{shared_middle}
+use Rattle.written_meshes.proofs.WrittenFits.{written_fits}
 
--- a shared edge has one middle
-pair_middle : (p q : ℕ × ℕ) → IsSamePair p q → middle (Corner p.0) (Corner p.1) ≡ middle (Corner q.0) (Corner q.1)
-pair_middle p q s = ⊎_elim
-    (λ (a : (p.0 ≡ q.0) × (p.1 ≡ q.1)). (λ i. middle (Corner (a.0 i)) (Corner (a.1 i))))
-    (λ (a : (p.0 ≡ q.1) × (p.1 ≡ q.0)). (λ i. middle (Corner (a.0 i)) (Corner (a.1 i))) ∙ middle-swap (Corner q.1) (Corner q.0))
-    s
+module _ (mesh other : Shape) (x : Across) (count : ℕ) (members : Names) (list : List Name) (from : IsWrittenFrom mesh x count members list other) where
+  abbrev is : AreWritten mesh x count members list other
+  is = from.written
 
-edge_ends : (mesh : Shape) (r : ℕ) (e : Edge) → edge_middle mesh r e ≡ middle (Corner (ends_of (triple_of mesh r) e).0) (Corner (ends_of (triple_of mesh r) e).1)
-edge_ends mesh r Edge0 = refl
-edge_ends mesh r Edge1 = refl
-edge_ends mesh r Edge2 = refl
-
-pub shared_middle : (mesh : Shape) (r s : ℕ) (e f : Edge) → Shares mesh r e s f → edge_middle mesh r e ≡ edge_middle mesh s f
-shared_middle mesh r s e f h = edge_ends mesh r e ∙ pair_middle (ends_of (triple_of mesh r) e) (ends_of (triple_of mesh s) f) h ∙ sym (edge_ends mesh s f)
-
-module _ (mesh other : Shape) (x : Across) (count : ℕ) (members : Names) (list : List Name) (is : IsWrittenFrom mesh x count members list other) where
   abbrev name : Name → Name
   name = renamed list
 
@@ -42,7 +32,7 @@ module _ (mesh other : Shape) (x : Across) (count : ℕ) (members : Names) (list
   y = across_of other
 
   pub tells : Tells other y
-  tells = valid_tells other is.valid is.compatible.graded
+  tells = valid_tells other (written_fits mesh x count members list other is).0 from.compatible.graded
 
   rooted : (n : Name) → n.0 < size other → (name n).0 < size mesh
   rooted n h = (leaf_of mesh other x count members list is n.0 h).rooted
@@ -84,7 +74,7 @@ module _ (mesh other : Shape) (x : Across) (count : ℕ) (members : Names) (list
   level_of : (r : ℕ) (w : List Bool) → level mesh (name (r, w)) ≡ top r + length w
   level_of r w = ap (λ (k : ℕ). grade_of mesh (leaf_at list r).0 + k) (length-append w (leaf_at list r).1) ∙ omega arith
 
-  across : (r q : ℕ) (e f : Edge) → r < size other → q < size other → Shares other r e q f → top r + grade_of other q ≡ top q + grade_of other r
+  pub across : (r q : ℕ) (e f : Edge) → r < size other → q < size other → Shares other r e q f → top r + grade_of other q ≡ top q + grade_of other r
   across r q e f hr hq h =
       let mid = shared_middle other r q e f h in
       let here : level other (r, edge_word e) ≡ level other (q, edge_word f) = tells.graded r q e f hr hq mid in
@@ -100,9 +90,9 @@ module _ (mesh other : Shape) (x : Across) (count : ℕ) (members : Names) (list
       let rest = walked q qs s w.0 w.2 in
       omega (arith, one_step, rest)
 
-  levels : (r : ℕ) → r < size other → (c : ℕ) × ((w : List Bool) → level mesh (name (r, w)) ≡ level other (r, w) + c)
+  pub levels : (r : ℕ) → r < size other → (c : ℕ) × ((w : List Bool) → level mesh (name (r, w)) ≡ level other (r, w) + c)
   levels r h =
-      let l = is.compatible.least r h in
+      let l = from.compatible.least r h in
       let far = walked r l.0 l.1 h l.3 in
       (top l.1, λ w. let a = level_of r w in omega (arith, far, l.4, a))
 
@@ -125,3 +115,9 @@ module _ (mesh other : Shape) (x : Across) (count : ℕ) (members : Names) (list
 
 pub written_is_renaming : WrittenIsRenaming
 written_is_renaming mesh x count members list other is = renaming mesh other x count members list is
+
+pub grades_differ : GradesDiffer
+grades_differ mesh x count members list other is r s e f hr hs h = across mesh other x count members list is r s e f hr hs h
+
+pub grades_are_low : GradesAreLow
+grades_are_low mesh x count members list other is r h = let l = levels mesh other x count members list is r h in let e = l.1 [] in omega (arith, e)

@@ -1,3 +1,4 @@
 pub mod Renaming
 pub mod ForestRenaming
 pub mod RoundRenaming
+pub mod WrittenTexts

@@ -1,7 +1,26 @@
 //! Laws over the definitions alone. Each function takes nothing and answers nothing: its contract is
 //! the law.
 ghost use Rattle.written_meshes.specs.ForestRenaming.{CoarsenedStandsFor, LeastStandsFor, PatchesAreFewer, WrittenIsRenaming};
+ghost use Rattle.written_meshes.specs.Renaming.{GradesAreLow, GradesDiffer, WrittenFits};
 ghost use Rattle.written_meshes.specs.RoundRenaming.{NoRefusal, RoundStandsFor};
+ghost use Rattle.written_meshes.specs.WrittenTexts.{NoNameIsFlat, PointsAndLabelsStand, ReadAgainIsWritten};
+
+use compat_check::laws;
+
+/// The elements of a written mesh are valid, and the levels of its leaves fit as their grades.
+pub fn written_fits()
+    ensures { WrittenFits }
+{}
+
+/// Grades differ across a shared edge as the leaves' levels do.
+pub fn grades_differ()
+    ensures { GradesDiffer }
+{}
+
+/// No grade is above the leaf's level.
+pub fn grades_are_low()
+    ensures { GradesAreLow }
+{}
 
 /// The names of a written mesh stand for the names at and below the leaves that were written, partner
 /// for partner.
@@ -34,3 +53,21 @@ pub fn no_refusal()
 pub fn round_stands_for()
     ensures { RoundStandsFor }
 {}
+
+/// What the check makes of a written text has the leaves as its elements.
+pub fn read_again_is_written()
+    ensures { ReadAgainIsWritten }
+{}
+
+/// Its names lie where those lie that they stand for, and have their labels.
+pub fn points_and_labels_stand()
+    ensures { PointsAndLabelsStand }
+{}
+
+/// Where all macro coordinates have at most ten decimals and no macro element is flat, no name of at
+/// most 24 letters is flat.
+pub fn no_name_is_flat()
+    ensures { NoNameIsFlat }
+{
+    laws::midpoints_exact();
+}

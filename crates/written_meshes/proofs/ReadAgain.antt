@@ -1,0 +1,155 @@
+-- What the check makes of a written text has the leaves as its elements, where they lie, with their labels.
+use Rattle.std.proofs.Common.{◌≡◌, ℕ, zero, suc, ◌<◌, Bool, true, false, cond, refl, sym, ap, subst, ◌∙◌, List, [], ◌∷◌, ◌++◌, map, length, arith}
+use Rattle.std.specs.Prelude.{ℤ, pos, ◌+ℤ◌, slice_index_or, zip}
+use Rattle.std.proofs.lemmas.Int.{ints}
+use Rattle.std.proofs.lemmas.List.{get_or-map, length-map}
+use Rattle.macro_file.specs.declared.text.MacroText.{MacroText}
+use Rattle.macro_file.specs.declared.text.MacroElem.{MacroElem}
+use Rattle.macro_file.specs.declared.text.MacroVertex.{MacroVertex}
+use Rattle.macro_file.specs.Meaning.{Element, Macro, Vertex as Placed}
+use Rattle.macro_file.specs.Text.{element_of, vertex_of}
+use Rattle.mesh_names.specs.Names.{Name}
+use Rattle.mesh_names.specs.Triangles.{Triple, Triangle, Vertex, Corner, Mid, before, middle, size, triple_of, corner_of, triangle}
+use Rattle.mesh_names.specs.Forests.{Names}
+use Rattle.compat_check.specs.Faults.{point_at}
+use Rattle.compat_check.specs.Meshes.{Mesh, across_in, label_of, shape_of}
+use Rattle.compat_check.specs.Points.{Labels, Point, between, child_labels, half, labels, labels_below, point, points}
+use Rattle.mesh_writer.specs.MeshText.{macro_element, macro_vertex}
+use Rattle.mesh_writer.specs.Numbering.{vertices}
+use Rattle.mesh_writer.specs.Triples.{numbers}
+use Rattle.written_meshes.specs.Renaming.{AreWritten, IsWrittenFrom, leaf_at, renamed}
+use Rattle.written_meshes.specs.WrittenTexts.{IsReadAgain, IsWrittenText, PointsAndLabelsStand, ReadAgainIsWritten}
+use Rattle.written_meshes.proofs.WrittenVertices.{vertex_at}
+use Rattle.written_meshes.proofs.Moved.{first, second, third, inside}
+
+-- ---- lists
+map-twice : {A B C : Type 0} (f : B → C) (g : A → B) (xs : List A) → map f (map g xs) ≡ map (λ (a : A). f (g a)) xs
+map-twice f g [] = refl
+map-twice f g (x ∷ xs) = ap (λ l. f (g x) ∷ l) (map-twice f g xs)
+
+zip-first : {A B C : Type 0} (f : A → C) (xs : List A) (ys : List B) → length ys ≡ length xs → map (λ (p : A × B). f p.0) (zip xs ys) ≡ map f xs
+zip-first f [] ys e = nothing ys
+  where
+    nothing : {A B C : Type 0} {f : A → C} (ys : List B) → map (λ (p : A × B). f p.0) (zip [] ys) ≡ []
+    nothing [] = refl
+    nothing (y ∷ ys) = refl
+zip-first f (x ∷ xs) [] e = absurd (omega (arith, e))
+zip-first f (x ∷ xs) (y ∷ ys) e = ap (λ l. f x ∷ l) (zip-first f xs ys (omega (arith, e)))
+
+-- ---- points of written vertices
+spots : (items : List MacroVertex) (ps : List Point) → map (λ (v : MacroVertex). (v.x, v.y)) items ≡ ps → (j : ℕ) (d : Point) → j < length ps → point_at items j ≡ slice_index_or ps j d
+spots [] [] e j d h = absurd (omega (arith, h))
+spots [] (p ∷ ps) e j d h = absurd (cc)
+spots (v ∷ items) [] e j d h = absurd (cc)
+spots (v ∷ items) (p ∷ ps) e zero d h = ap (λ (l : List Point). slice_index_or l 0 d) e
+spots (v ∷ items) (p ∷ ps) e (suc j) d h = spots items ps (rest e) j d (omega (arith, h))
+  where
+    rest : {a b : Point} {l m : List Point} → a ∷ l ≡ b ∷ m → l ≡ m
+    rest e = cc
+
+plus_turned : (x y : ℤ) → x +ℤ y ≡ y +ℤ x
+plus_turned x y = omega (arith, ints)
+
+between_turned : (p q : Point) → between p q ≡ between q p
+between_turned p q = λ i. (half (plus_turned p.0 q.0 i), half (plus_turned p.1 q.1 i))
+
+middle_lies : (vertices : List MacroVertex) (a b : Vertex) → point vertices (middle a b) ≡ between (point vertices a) (point vertices b)
+middle_lies vertices a b = by_order (before b a)
+  where
+    by_order : (o : Bool) → point vertices (cond o (Mid b a) (Mid a b)) ≡ between (point vertices a) (point vertices b)
+    by_order true = between_turned (point vertices b) (point vertices a)
+    by_order false = refl
+
+-- ---- labels
+labels-after : (top : Labels) (w u : List Bool) → labels_below top (w ++ u) ≡ labels_below (labels_below top u) w
+labels-after top [] u = refl
+labels-after top (b ∷ w) u = ap (λ (l : Labels). child_labels l b) (labels-after top w u)
+
+module _ (mesh other : Mesh) (members : Names) (list : List Name) (vertex_values element_values : List ℤ) (again : IsReadAgain mesh members list vertex_values element_values other) where
+  abbrev count : ℕ
+  count = length mesh.vertices
+
+  abbrev written : List Vertex
+  written = vertices (shape_of mesh) count list
+
+  abbrev text : MacroText
+  text = again.text
+
+  elements : map element_of text.elements.items ≡ map (macro_element mesh written list) (zip list element_values)
+  elements = ap (λ (m : Macro). m.elements) again.written.is
+
+  of_elements : {A : Type 0} (f : Element → A) (g : Name → A) → ((p : Name × ℤ) → f (macro_element mesh written list p) ≡ g p.0) → map (λ (e : MacroElem). f (element_of e)) text.elements.items ≡ map g list
+  of_elements f g h =
+      sym (map-twice f element_of text.elements.items) ∙ ap (map f) elements ∙ map-twice f (macro_element mesh written list) (zip list element_values)
+      ∙ (λ i. map (λ (p : Name × ℤ). h p i) (zip list element_values)) ∙ zip-first g list element_values again.written.of_leaves
+
+  triples : other.shape.triples ≡ map (numbers (shape_of mesh) written) list
+  triples = again.made.triples ∙ of_elements (λ (e : Element). e.corners) (numbers (shape_of mesh) written) (λ p. refl)
+
+  pub are_written : AreWritten (shape_of mesh) (across_in mesh) count members list (shape_of other)
+  are_written = record {
+    tells = again.written.checked.tells;
+    forest = again.written.forest;
+    partners = again.written.partners;
+    is_list = again.written.is_list;
+    triples = triples;
+  }
+
+  pub from : IsWrittenFrom (shape_of mesh) (across_in mesh) count members list (shape_of other)
+  from = record { written = are_written; compatible = again.made.compatible }
+
+  -- ---- points
+  all_spots : map (λ (v : MacroVertex). (v.x, v.y)) other.vertices ≡ map (point mesh.vertices) written
+  all_spots =
+      ap (map (λ (v : MacroVertex). (v.x, v.y))) again.made.vertices
+      ∙ sym (map-twice (λ (v : Placed). (v.x, v.y)) vertex_of text.vertices.items)
+      ∙ ap (λ (m : Macro). map (λ (v : Placed). (v.x, v.y)) m.vertices) again.written.is
+      ∙ map-twice (λ (v : Placed). (v.x, v.y)) (macro_vertex mesh) (zip written vertex_values)
+      ∙ zip-first (point mesh.vertices) written vertex_values again.written.of_vertices
+
+  spot_at : (j : ℕ) (v : Vertex) → j < length written → vertex_at written j ≡ v → point other.vertices (Corner j) ≡ point mesh.vertices v
+  spot_at j v h e =
+      spots other.vertices (map (point mesh.vertices) written) all_spots j (pos 0, pos 0) (subst (λ (n : ℕ). j < n) (sym (length-map written (point mesh.vertices))) h)
+      ∙ get_or-map (point mesh.vertices) written j (Corner 0) (pos 0, pos 0) h ∙ ap (point mesh.vertices) e
+
+  abbrev LiesAs : Triangle → Triangle → Type 0
+  LiesAs t u = (point other.vertices t.0 ≡ point mesh.vertices u.0) × (point other.vertices t.1 ≡ point mesh.vertices u.1) × (point other.vertices t.2 ≡ point mesh.vertices u.2)
+
+  middle_as : (t u : Triangle) → LiesAs t u → point other.vertices (middle t.0 t.1) ≡ point mesh.vertices (middle u.0 u.1)
+  middle_as t u e = middle_lies other.vertices t.0 t.1 ∙ (λ i. between (e.0 i) (e.1 i)) ∙ sym (middle_lies mesh.vertices u.0 u.1)
+
+  lies : (r : ℕ) (w : List Bool) → r < size (shape_of other) → LiesAs (triangle (shape_of other) (r, w)) (triangle (shape_of mesh) (renamed list (r, w)))
+  lies r [] h =
+      let a = first (shape_of mesh) (shape_of other) (across_in mesh) count members list are_written r h in
+      let b = second (shape_of mesh) (shape_of other) (across_in mesh) count members list are_written r h in
+      let c = third (shape_of mesh) (shape_of other) (across_in mesh) count members list are_written r h in
+      (spot_at _ _ a.0 a.1, spot_at _ _ b.0 b.1, spot_at _ _ c.0 c.1)
+  lies r (false ∷ w) h = let e = lies r w h in (e.2, e.0, middle_as (triangle (shape_of other) (r, w)) (triangle (shape_of mesh) (renamed list (r, w))) e)
+  lies r (true ∷ w) h = let e = lies r w h in (e.1, e.2, middle_as (triangle (shape_of other) (r, w)) (triangle (shape_of mesh) (renamed list (r, w))) e)
+
+  points_stand : (n : Name) → n.0 < size (shape_of other) → points other n ≡ points mesh (renamed list n)
+  points_stand n h = let e = lies n.0 n.1 h in λ i. e.0 i ∷ e.1 i ∷ e.2 i ∷ []
+
+  -- ---- labels
+  all_labels : other.labels ≡ map (labels mesh) list
+  all_labels = again.made.given (ap (λ (m : Macro). m.labels_given) again.written.is) ∙ of_elements (λ (e : Element). e.labels) (labels mesh) (λ p. refl)
+
+  abbrev top_labels : Mesh → ℕ → Labels
+  top_labels m r = (label_of m r 0, label_of m r 1, label_of m r 2)
+
+  leaf_labels : (r : ℕ) → r < size (shape_of other) → top_labels other r ≡ labels_below (top_labels mesh (leaf_at list r).0) (leaf_at list r).1
+  leaf_labels r h =
+      let row : slice_index_or other.labels r [] ≡ labels mesh (leaf_at list r) = ap (λ (l : List (List ℤ)). slice_index_or l r []) all_labels ∙ get_or-map (labels mesh) list r (0, []) [] (inside (shape_of mesh) (shape_of other) (across_in mesh) count members list are_written r h) in
+      λ i. (slice_index_or (row i) 0 (pos 0), slice_index_or (row i) 1 (pos 0), slice_index_or (row i) 2 (pos 0))
+
+  labels_stand : (n : Name) → n.0 < size (shape_of other) → labels other n ≡ labels mesh (renamed list n)
+  labels_stand n h =
+      let l = leaf_at list n.0 in
+      let below : labels_below (top_labels other n.0) n.1 ≡ labels_below (top_labels mesh l.0) (n.1 ++ l.1) = ap (λ (t : Labels). labels_below t n.1) (leaf_labels n.0 h) ∙ sym (labels-after (top_labels mesh l.0) n.1 l.1) in
+      λ i. (below i).0 ∷ (below i).1 ∷ (below i).2 ∷ []
+
+pub read_again_is_written : ReadAgainIsWritten
+read_again_is_written mesh members list vertex_values element_values other again = from mesh other members list vertex_values element_values again
+
+pub points_and_labels_stand : PointsAndLabelsStand
+points_and_labels_stand mesh members list vertex_values element_values other again n h = (points_stand mesh other members list vertex_values element_values again n h, labels_stand mesh other members list vertex_values element_values again n h)
