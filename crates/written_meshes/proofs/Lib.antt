@@ -9,5 +9,7 @@ pub mod RenamedLeast
 pub mod RenamedSteps
 pub mod FewerPatches
 pub mod RenamedRounds
+pub mod TextFacts
 pub mod ReadAgain
 pub mod FlatNames
+pub mod Passing

@@ -20,45 +20,8 @@ use Rattle.mesh_writer.specs.Triples.{numbers}
 use Rattle.written_meshes.specs.Renaming.{AreWritten, IsWrittenFrom, leaf_at, renamed}
 use Rattle.written_meshes.specs.WrittenTexts.{IsReadAgain, IsWrittenText, PointsAndLabelsStand, ReadAgainIsWritten}
 use Rattle.written_meshes.proofs.WrittenVertices.{vertex_at}
+use Rattle.written_meshes.proofs.TextFacts.{labels_given, middle_lies, spot_at, text_labels, text_triples}
 use Rattle.written_meshes.proofs.Moved.{first, second, third, inside}
-
--- ---- lists
-map-twice : {A B C : Type 0} (f : B → C) (g : A → B) (xs : List A) → map f (map g xs) ≡ map (λ (a : A). f (g a)) xs
-map-twice f g [] = refl
-map-twice f g (x ∷ xs) = ap (λ l. f (g x) ∷ l) (map-twice f g xs)
-
-zip-first : {A B C : Type 0} (f : A → C) (xs : List A) (ys : List B) → length ys ≡ length xs → map (λ (p : A × B). f p.0) (zip xs ys) ≡ map f xs
-zip-first f [] ys e = nothing ys
-  where
-    nothing : {A B C : Type 0} {f : A → C} (ys : List B) → map (λ (p : A × B). f p.0) (zip [] ys) ≡ []
-    nothing [] = refl
-    nothing (y ∷ ys) = refl
-zip-first f (x ∷ xs) [] e = absurd (omega (arith, e))
-zip-first f (x ∷ xs) (y ∷ ys) e = ap (λ l. f x ∷ l) (zip-first f xs ys (omega (arith, e)))
-
--- ---- points of written vertices
-spots : (items : List MacroVertex) (ps : List Point) → map (λ (v : MacroVertex). (v.x, v.y)) items ≡ ps → (j : ℕ) (d : Point) → j < length ps → point_at items j ≡ slice_index_or ps j d
-spots [] [] e j d h = absurd (omega (arith, h))
-spots [] (p ∷ ps) e j d h = absurd (cc)
-spots (v ∷ items) [] e j d h = absurd (cc)
-spots (v ∷ items) (p ∷ ps) e zero d h = ap (λ (l : List Point). slice_index_or l 0 d) e
-spots (v ∷ items) (p ∷ ps) e (suc j) d h = spots items ps (rest e) j d (omega (arith, h))
-  where
-    rest : {a b : Point} {l m : List Point} → a ∷ l ≡ b ∷ m → l ≡ m
-    rest e = cc
-
-plus_turned : (x y : ℤ) → x +ℤ y ≡ y +ℤ x
-plus_turned x y = omega (arith, ints)
-
-between_turned : (p q : Point) → between p q ≡ between q p
-between_turned p q = λ i. (half (plus_turned p.0 q.0 i), half (plus_turned p.1 q.1 i))
-
-middle_lies : (vertices : List MacroVertex) (a b : Vertex) → point vertices (middle a b) ≡ between (point vertices a) (point vertices b)
-middle_lies vertices a b = by_order (before b a)
-  where
-    by_order : (o : Bool) → point vertices (cond o (Mid b a) (Mid a b)) ≡ between (point vertices a) (point vertices b)
-    by_order true = between_turned (point vertices b) (point vertices a)
-    by_order false = refl
 
 -- ---- labels
 labels-after : (top : Labels) (w u : List Bool) → labels_below top (w ++ u) ≡ labels_below (labels_below top u) w
@@ -72,19 +35,8 @@ module _ (mesh other : Mesh) (members : Names) (list : List Name) (vertex_values
   abbrev written : List Vertex
   written = vertices (shape_of mesh) count list
 
-  abbrev text : MacroText
-  text = again.text
-
-  elements : map element_of text.elements.items ≡ map (macro_element mesh written list) (zip list element_values)
-  elements = ap (λ (m : Macro). m.elements) again.written.is
-
-  of_elements : {A : Type 0} (f : Element → A) (g : Name → A) → ((p : Name × ℤ) → f (macro_element mesh written list p) ≡ g p.0) → map (λ (e : MacroElem). f (element_of e)) text.elements.items ≡ map g list
-  of_elements f g h =
-      sym (map-twice f element_of text.elements.items) ∙ ap (map f) elements ∙ map-twice f (macro_element mesh written list) (zip list element_values)
-      ∙ (λ i. map (λ (p : Name × ℤ). h p i) (zip list element_values)) ∙ zip-first g list element_values again.written.of_leaves
-
   triples : other.shape.triples ≡ map (numbers (shape_of mesh) written) list
-  triples = again.made.triples ∙ of_elements (λ (e : Element). e.corners) (numbers (shape_of mesh) written) (λ p. refl)
+  triples = again.made.triples ∙ text_triples mesh members list vertex_values element_values again.text again.written
 
   pub are_written : AreWritten (shape_of mesh) (across_in mesh) count members list (shape_of other)
   are_written = record {
@@ -99,18 +51,8 @@ module _ (mesh other : Mesh) (members : Names) (list : List Name) (vertex_values
   from = record { written = are_written; compatible = again.made.compatible }
 
   -- ---- points
-  all_spots : map (λ (v : MacroVertex). (v.x, v.y)) other.vertices ≡ map (point mesh.vertices) written
-  all_spots =
-      ap (map (λ (v : MacroVertex). (v.x, v.y))) again.made.vertices
-      ∙ sym (map-twice (λ (v : Placed). (v.x, v.y)) vertex_of text.vertices.items)
-      ∙ ap (λ (m : Macro). map (λ (v : Placed). (v.x, v.y)) m.vertices) again.written.is
-      ∙ map-twice (λ (v : Placed). (v.x, v.y)) (macro_vertex mesh) (zip written vertex_values)
-      ∙ zip-first (point mesh.vertices) written vertex_values again.written.of_vertices
-
-  spot_at : (j : ℕ) (v : Vertex) → j < length written → vertex_at written j ≡ v → point other.vertices (Corner j) ≡ point mesh.vertices v
-  spot_at j v h e =
-      spots other.vertices (map (point mesh.vertices) written) all_spots j (pos 0, pos 0) (subst (λ (n : ℕ). j < n) (sym (length-map written (point mesh.vertices))) h)
-      ∙ get_or-map (point mesh.vertices) written j (Corner 0) (pos 0, pos 0) h ∙ ap (point mesh.vertices) e
+  place_at : (j : ℕ) (v : Vertex) → j < length written → vertex_at written j ≡ v → point other.vertices (Corner j) ≡ point mesh.vertices v
+  place_at j v h e = ap (λ (l : List MacroVertex). point_at l j) again.made.vertices ∙ spot_at mesh members list vertex_values element_values again.text again.written j v h e
 
   abbrev LiesAs : Triangle → Triangle → Type 0
   LiesAs t u = (point other.vertices t.0 ≡ point mesh.vertices u.0) × (point other.vertices t.1 ≡ point mesh.vertices u.1) × (point other.vertices t.2 ≡ point mesh.vertices u.2)
@@ -123,7 +65,7 @@ module _ (mesh other : Mesh) (members : Names) (list : List Name) (vertex_values
       let a = first (shape_of mesh) (shape_of other) (across_in mesh) count members list are_written r h in
       let b = second (shape_of mesh) (shape_of other) (across_in mesh) count members list are_written r h in
       let c = third (shape_of mesh) (shape_of other) (across_in mesh) count members list are_written r h in
-      (spot_at _ _ a.0 a.1, spot_at _ _ b.0 b.1, spot_at _ _ c.0 c.1)
+      (place_at _ _ a.0 a.1, place_at _ _ b.0 b.1, place_at _ _ c.0 c.1)
   lies r (false ∷ w) h = let e = lies r w h in (e.2, e.0, middle_as (triangle (shape_of other) (r, w)) (triangle (shape_of mesh) (renamed list (r, w))) e)
   lies r (true ∷ w) h = let e = lies r w h in (e.1, e.2, middle_as (triangle (shape_of other) (r, w)) (triangle (shape_of mesh) (renamed list (r, w))) e)
 
@@ -132,7 +74,7 @@ module _ (mesh other : Mesh) (members : Names) (list : List Name) (vertex_values
 
   -- ---- labels
   all_labels : other.labels ≡ map (labels mesh) list
-  all_labels = again.made.given (ap (λ (m : Macro). m.labels_given) again.written.is) ∙ of_elements (λ (e : Element). e.labels) (labels mesh) (λ p. refl)
+  all_labels = again.made.given (labels_given mesh members list vertex_values element_values again.text again.written) ∙ text_labels mesh members list vertex_values element_values again.text again.written
 
   abbrev top_labels : Mesh → ℕ → Labels
   top_labels m r = (label_of m r 0, label_of m r 1, label_of m r 2)

@@ -70,7 +70,7 @@ module _ (mesh other : Shape) (x : Across) (count : ℕ) (members : Names) (list
   same_edge r s e f hr hs h =
       sym (midpoint-moved mesh other x count members list is (r, edge_word e) hr) ∙ ap (moved mesh other x count members list is) (shared_middle other r s e f h) ∙ midpoint-moved mesh other x count members list is (s, edge_word f) hs
 
-  heights : (r s : ℕ) (e f : Edge) → r < size other → s < size other → Shares other r e s f → top r + length (edge_word e) ≡ top s + length (edge_word f)
+  pub heights : (r s : ℕ) (e f : Edge) → r < size other → s < size other → Shares other r e s f → top r + length (edge_word e) ≡ top s + length (edge_word f)
   heights r s e f hr hs h =
       let same = levels_apart mesh x is.tells (name (r, edge_word e)) (name (s, edge_word f)) (rooted r (edge_word e) hr) (rooted s (edge_word f) hs) (same_edge r s e f hr hs h) in
       let a = deep r e in
@@ -145,7 +145,7 @@ module _ (mesh other : Shape) (x : Across) (count : ℕ) (members : Names) (list
         let k = which b (corner_of a 2) t.2 in
         clash i.0 j.0 k.0 i.1 j.1 k.1
 
-  valid : IsValid other
+  pub valid : IsValid other
   valid = record {
     distinct = apart;
     no_twins = λ r s hr hs n t. no_twins r s hr hs n t;

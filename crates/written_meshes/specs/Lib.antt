@@ -2,3 +2,4 @@ pub mod Renaming
 pub mod ForestRenaming
 pub mod RoundRenaming
 pub mod WrittenTexts
+pub mod Passing
