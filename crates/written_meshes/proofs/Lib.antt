@@ -12,4 +12,5 @@ pub mod RenamedRounds
 pub mod TextFacts
 pub mod ReadAgain
 pub mod FlatNames
+pub mod Beside
 pub mod Passing

@@ -27,6 +27,7 @@ use Rattle.written_meshes.specs.WrittenTexts.{IsWrittenText, area}
 use Rattle.written_meshes.specs.Passing.{NoLeafIsFlat, WrittenPasses}
 use Rattle.written_meshes.proofs.WrittenVertices.{vertex_at}
 use Rattle.written_meshes.proofs.TextFacts.{spot_at, text_neighbours, text_written, vertex_count}
+use Rattle.written_meshes.proofs.Beside.{beside}
 use Rattle.written_meshes.proofs.SharedEdges.{shared_middle}
 use Rattle.written_meshes.proofs.Moved.{first, second, third, inside, leaf_of}
 use Rattle.written_meshes.proofs.WrittenFits.{heights, valid}
@@ -91,16 +92,6 @@ module _ (mesh other : Shape) (x : Across) (count : ℕ) (members : Names) (list
     -- no grade is above the leaf's level
     pub low : (r : ℕ) → r < size other → slice_index_or grades r 0 ≤ top r
     low r h = let l = are.least r h in let far = walked r l.0 l.1 h l.3 in let none = l.4 in omega (arith, far, none)
-
--- ---- neighbours
-first_is : {X : Type 0} → (p : X → Bool) (start : ℕ) (xs : List X) (i : ℕ) (d : X) → i < length xs → p (slice_index_or xs i d) ≡ true → ((k : ℕ) → k < i → p (slice_index_or xs k d) ≡ false) → position_from p start xs ≡ Some (start + i)
-first_is p start [] i d inside h none = absurd (omega (arith, inside))
-first_is p start (x ∷ xs) zero d inside h none = ap (λ (b : Bool). cond b (Some start) (position_from p (start + 1) xs)) h ∙ ap Some (omega arith)
-first_is p start (x ∷ xs) (suc i) d inside h none = ap (λ (b : Bool). cond b (Some start) (position_from p (start + 1) xs)) (none zero (omega arith)) ∙ first_is p (start + 1) xs i d (omega (arith, inside)) h (λ k l. none (suc k) (omega (arith, l))) ∙ ap Some (omega arith)
-
-nowhere : {X : Type 0} → (p : X → Bool) (start : ℕ) (xs : List X) (d : X) → ((k : ℕ) → k < length xs → p (slice_index_or xs k d) ≡ false) → position_from p start xs ≡ None
-nowhere p start [] d none = refl
-nowhere p start (x ∷ xs) d none = ap (λ (b : Bool). cond b (Some start) (position_from p (start + 1) xs)) (none zero (omega arith)) ∙ nowhere p (start + 1) xs d (λ k l. none (suc k) (omega (arith, l)))
 
 module _ (mesh : Mesh) (members : Names) (list : List Name) (vertex_values element_values : List ℤ) (text : MacroText) (is : IsWrittenText mesh members list vertex_values element_values text) where
   abbrev other : Shape
@@ -183,12 +174,15 @@ module _ (mesh : Mesh) (members : Names) (list : List Name) (vertex_values eleme
       omega (arith, up, l, top)
 
   passes : NoLeafIsFlat mesh list → ((r k : ℕ) → r < size other → k < 3 → NeighbourDiffers text.elements.items (triples_of text) r k → ⊥) → (refusal : CheckRefusal) → IsCheckRefusal text refusal → refusal ≡ Memory
-  passes thick beside (VertexRange r) h = absurd (none_outside r h.0 h.1)
-  passes thick beside (RepeatedVertex r) h = absurd (none_repeated r h.1.0 h.1.1)
-  passes thick beside (Flat r) h = absurd (none_flat thick r h.2.0 h.2.1)
-  passes thick beside (TwinElements a b) h = absurd (none_twin b h.1.second.0 h.1.second.1)
-  passes thick beside (EdgeOfThree r k) h = absurd (none_third r k h.2.element h.2.holds)
-  passes thick beside (NeighboursDiffer r k) h = absurd (beside r k h.2.element h.2.edge h.2.holds)
-  passes thick beside (Incompatible r k) h = absurd (some_grades r k h.1.holds)
-  passes thick beside (GradeTooHigh r grade) h = absurd (none_high r grade h.1)
-  passes thick beside Memory h = refl
+  passes thick others (VertexRange r) h = absurd (none_outside r h.0 h.1)
+  passes thick others (RepeatedVertex r) h = absurd (none_repeated r h.1.0 h.1.1)
+  passes thick others (Flat r) h = absurd (none_flat thick r h.2.0 h.2.1)
+  passes thick others (TwinElements a b) h = absurd (none_twin b h.1.second.0 h.1.second.1)
+  passes thick others (EdgeOfThree r k) h = absurd (none_third r k h.2.element h.2.holds)
+  passes thick others (NeighboursDiffer r k) h = absurd (others r k h.2.element h.2.edge h.2.holds)
+  passes thick others (Incompatible r k) h = absurd (some_grades r k h.1.holds)
+  passes thick others (GradeTooHigh r grade) h = absurd (none_high r grade h.1)
+  passes thick others Memory h = refl
+
+pub written_passes : WrittenPasses
+written_passes mesh members list vertex_values element_values text is thick refusal h = passes mesh members list vertex_values element_values text is thick (beside mesh members list vertex_values element_values text is) refusal h

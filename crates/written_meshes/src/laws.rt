@@ -1,6 +1,7 @@
 //! Laws over the definitions alone. Each function takes nothing and answers nothing: its contract is
 //! the law.
 ghost use Rattle.written_meshes.specs.ForestRenaming.{CoarsenedStandsFor, LeastStandsFor, PatchesAreFewer, WrittenIsRenaming};
+ghost use Rattle.written_meshes.specs.Passing.{WrittenPasses};
 ghost use Rattle.written_meshes.specs.Renaming.{GradesAreLow, GradesDiffer, WrittenFits};
 ghost use Rattle.written_meshes.specs.RoundRenaming.{NoRefusal, RoundStandsFor};
 ghost use Rattle.written_meshes.specs.WrittenTexts.{NoNameIsFlat, PointsAndLabelsStand, ReadAgainIsWritten};
@@ -71,3 +72,8 @@ pub fn no_name_is_flat()
 {
     laws::midpoints_exact();
 }
+
+/// The check refuses a written text in which no leaf is flat for nothing but want of memory.
+pub fn written_passes()
+    ensures { WrittenPasses }
+{}
