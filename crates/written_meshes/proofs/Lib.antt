@@ -14,3 +14,4 @@ pub mod ReadAgain
 pub mod FlatNames
 pub mod Beside
 pub mod Passing
+pub mod RenamedValues

@@ -40,7 +40,7 @@ module _ (mesh other : Shape) (x y : Across) (members : Names) (rename : Name �
   rooted : (n : Name) → n.0 < size other → (rename n).0 < size mesh
   rooted n h = subst (λ (k : ℕ). k < size mesh) (sym (same_root n.0 n.1)) (r.tops n.0 h).rooted
 
-  deeper : (k : ℕ) (u w : List Bool) → rename (k, u ++ w) ≡ ((rename (k, w)).0, u ++ (rename (k, w)).1)
+  pub deeper : (k : ℕ) (u w : List Bool) → rename (k, u ++ w) ≡ ((rename (k, w)).0, u ++ (rename (k, w)).1)
   deeper k [] w = refl
   deeper k (b ∷ u) w = r.children k b (u ++ w) ∙ (λ i. ((deeper k u w i).0, b ∷ (deeper k u w i).1))
 
@@ -68,7 +68,7 @@ module _ (mesh other : Shape) (x y : Across) (members : Names) (rename : Name �
         partners_rooted k w m t h e = (partners_pair other y r.tells_other (k, w) m t h e).rooted
 
     -- leaves stand for leaves
-    leaf_to : (n : Name) → n.0 < size other → IsLeaf other new n → IsLeaf mesh old (rename n)
+    pub leaf_to : (n : Name) → n.0 < size other → IsLeaf other new n → IsLeaf mesh old (rename n)
     leaf_to n h l = record {
       rooted = rooted n h;
       unsplit = sym (stands.same n h) ∙ l.unsplit;
@@ -85,7 +85,7 @@ module _ (mesh other : Shape) (x y : Across) (members : Names) (rename : Name �
             let roots : (rename (n.0, u)).0 ≡ (rename n).0 = ap (λ (q : Name). q.0) (sym here) in
             subst (Has old) (λ i. (roots i, words i)) (held (n.0, u) (l.born c u z))
 
-    leaf_back : (n : Name) → n.0 < size other → IsLeaf mesh old (rename n) → IsLeaf other new n
+    pub leaf_back : (n : Name) → n.0 < size other → IsLeaf mesh old (rename n) → IsLeaf other new n
     leaf_back n h l = record {
       rooted = h;
       unsplit = stands.same n h ∙ l.unsplit;

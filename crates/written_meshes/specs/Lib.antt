@@ -3,3 +3,4 @@ pub mod ForestRenaming
 pub mod RoundRenaming
 pub mod WrittenTexts
 pub mod Passing
+pub mod ValueRenaming

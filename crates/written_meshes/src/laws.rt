@@ -4,6 +4,7 @@ ghost use Rattle.written_meshes.specs.ForestRenaming.{CoarsenedStandsFor, LeastS
 ghost use Rattle.written_meshes.specs.Passing.{WrittenPasses};
 ghost use Rattle.written_meshes.specs.Renaming.{GradesAreLow, GradesDiffer, WrittenFits};
 ghost use Rattle.written_meshes.specs.RoundRenaming.{NoRefusal, RoundStandsFor};
+ghost use Rattle.written_meshes.specs.ValueRenaming.{ElementValuesStand};
 ghost use Rattle.written_meshes.specs.WrittenTexts.{NoNameIsFlat, PointsAndLabelsStand, ReadAgainIsWritten};
 
 use compat_check::laws;
@@ -76,4 +77,9 @@ pub fn no_name_is_flat()
 /// The check refuses a written text in which no leaf is flat for nothing but want of memory.
 pub fn written_passes()
     ensures { WrittenPasses }
+{}
+
+/// Where leaves have the values of those that they stand for, they have them after a round too.
+pub fn element_values_stand()
+    ensures { ElementValuesStand }
 {}
