@@ -1,5 +1,5 @@
 -- The written neighbours of a leaf are what lies across its edges.
-use Rattle.std.proofs.Common.{◌≡◌, ◌⊎◌, ℕ, zero, suc, ◌+◌, ◌<◌, ◌≤◌, Bool, true, false, cond, not, ◌&&◌, ◌||◌, eqb, eqb-true, refl, sym, ap, subst, ◌∙◌, List, [], ◌∷◌, map, length, arith, inl, inr, ⊎_elim, true≢false}
+use Rattle.std.proofs.Common.{◌≡◌, ◌⊎◌, ℕ, zero, suc, ◌+◌, ◌<◌, Bool, true, false, cond, not, ◌&&◌, ◌||◌, eqb, eqb-true, refl, sym, ap, subst, ◌∙◌, List, [], ◌∷◌, map, length, arith, inl, inr, ⊎_elim, true≢false}
 use Rattle.std.specs.Prelude.{ℤ, pos, Option, Some, None, slice_get, slice_index_or}
 use Rattle.std.specs.List.{position_from}
 use Rattle.std.proofs.lemmas.Bool.{false_from_ne_true}
@@ -7,17 +7,17 @@ use Rattle.std.proofs.lemmas.List.{get_or-map, length-map}
 use Rattle.macro_file.specs.declared.text.MacroText.{MacroText}
 use Rattle.macro_file.specs.declared.text.MacroElem.{MacroElem}
 use Rattle.mesh_names.specs.Names.{Name, name_eq}
-use Rattle.mesh_names.specs.Triangles.{Shape, Triple, Triangle, Vertex, Corner, same, size, triple_of, corner_of, triangle}
+use Rattle.mesh_names.specs.Triangles.{Shape, Triple, Triangle, Vertex, same, size, triple_of, corner_of, triangle}
 use Rattle.mesh_names.specs.Forests.{Names}
 use Rattle.mesh_names.specs.Partners.{Edge, Edge0, Edge1, Edge2, edge_at}
-use Rattle.mesh_names.specs.Validity.{HasCorner, IsSamePair, IsValid, Shares, across_before, across_of, ends_of, match_pair}
+use Rattle.mesh_names.specs.Validity.{HasCorner, IsSamePair, IsValid, Shares, across_of, ends_of, match_pair}
 use Rattle.mesh_names.proofs.Middles.{same_self, same-is}
 use Rattle.mesh_names.proofs.Neighbours.{found, none_some, there}
 use Rattle.mesh_names.proofs.Booleans.{and_both}
 use Rattle.mesh_names.proofs.Sets.{or_either, or-left, or-right, same-tied, tied-same}
 use Rattle.compat_check.specs.Checks.{NeighbourDiffers, bare, neighbour_number, neighbours_of, triples_of}
 use Rattle.compat_check.specs.Meshes.{Mesh, across_in, edge_of, shape_of}
-use Rattle.mesh_writer.specs.Neighbours.{has_corner, is_across, neighbour, neighbours, number_or_none}
+use Rattle.mesh_writer.specs.Neighbours.{has_corner, is_across, neighbours, number_or_none}
 use Rattle.mesh_writer.specs.Numbering.{vertices}
 use Rattle.written_meshes.specs.Renaming.{AreWritten, leaf_at}
 use Rattle.written_meshes.specs.WrittenTexts.{IsWrittenText}

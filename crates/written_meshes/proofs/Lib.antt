@@ -15,3 +15,4 @@ pub mod FlatNames
 pub mod Beside
 pub mod Passing
 pub mod RenamedValues
+pub mod RenamedRows

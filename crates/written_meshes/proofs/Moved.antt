@@ -1,5 +1,5 @@
 -- The triangles of a written mesh are those of the mesh that it was written from, with every vertex renamed; and vertices of edges that differ stay different.
-use Rattle.std.proofs.Common.{◌≡◌, ◌⊎◌, ℕ, zero, suc, ◌+◌, ◌<◌, ◌≤◌, Bool, true, false, cond, refl, sym, ap, subst, ◌∙◌, List, [], ◌∷◌, ◌++◌, map, length, arith, inl, inr, ⊎_elim}
+use Rattle.std.proofs.Common.{◌≡◌, ◌⊎◌, ℕ, zero, suc, ◌<◌, ◌≤◌, Bool, true, false, cond, refl, sym, ap, subst, ◌∙◌, List, [], ◌∷◌, length, arith, inl, inr, ⊎_elim}
 use Rattle.std.specs.Prelude.{All, Some, slice_index_or}
 use Rattle.std.proofs.lemmas.List.{get_or-map, length-map}
 use Rattle.mesh_names.specs.Names.{Name}
@@ -9,7 +9,7 @@ use Rattle.mesh_names.specs.Partners.{Across, partner}
 use Rattle.mesh_names.proofs.Middles.{middle-swap}
 use Rattle.mesh_names.proofs.Levels.{middle-same, not_mid}
 use Rattle.mesh_names.proofs.Only.{partner_is_only}
-use Rattle.mesh_writer.specs.Numbering.{vertices, number_of}
+use Rattle.mesh_writer.specs.Numbering.{vertices}
 use Rattle.mesh_writer.specs.Numbers.{IsWritten}
 use Rattle.mesh_writer.specs.Triples.{numbers}
 use Rattle.written_meshes.specs.Renaming.{AreWritten, leaf_at, renamed, renamed_vertex}

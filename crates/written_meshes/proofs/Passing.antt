@@ -1,32 +1,24 @@
 -- The check refuses no written text in which no leaf is flat.
-use Rattle.std.proofs.Common.{◌≡◌, ◌⊎◌, ℕ, zero, suc, ◌+◌, ◌<◌, ◌≤◌, Bool, true, false, cond, not, ◌&&◌, ◌||◌, eqb, refl, sym, ap, subst, ◌∙◌, List, [], ◌∷◌, ◌++◌, map, length, arith, inl, inr, ⊎_elim, true≢false}
-use Rattle.std.specs.Prelude.{ℤ, pos, ◌+ℤ◌, Option, Some, None, option_map, slice_get, slice_index_or, zip}
-use Rattle.std.specs.List.{position_from}
-use Rattle.std.proofs.lemmas.Bool.{cases_eq, false_from_ne_true}
-use Rattle.std.proofs.lemmas.List.{get_or-map, length-map}
+use Rattle.std.proofs.Common.{◌≡◌, ℕ, ◌+◌, ◌<◌, ◌≤◌, Bool, true, false, refl, sym, ap, ◌∙◌, List, [], ◌∷◌, length, arith, ⊎_elim, true≢false}
+use Rattle.std.specs.Prelude.{ℤ, pos, slice_index_or}
 use Rattle.macro_file.specs.declared.text.MacroText.{MacroText}
-use Rattle.macro_file.specs.declared.text.MacroElem.{MacroElem}
-use Rattle.macro_file.specs.declared.text.MacroVertex.{MacroVertex}
-use Rattle.macro_file.specs.Meaning.{Element, Macro}
-use Rattle.macro_file.specs.Text.{element_of, vertex_of}
-use Rattle.mesh_names.specs.Names.{Name, name_eq}
-use Rattle.mesh_names.specs.Triangles.{Shape, Triple, Triangle, Vertex, Corner, same, size, level, grade_of, triple_of, corner_of, triangle}
+use Rattle.mesh_names.specs.Names.{Name}
+use Rattle.mesh_names.specs.Triangles.{Shape, Vertex, size, level, grade_of, triple_of, corner_of, triangle}
 use Rattle.mesh_names.specs.Forests.{Names, IsLeaf}
 use Rattle.mesh_names.specs.Partners.{Across, Edge, Edge0, Edge1, Edge2, Tells, edge_word}
-use Rattle.mesh_names.specs.Validity.{IsGraded, IsSamePair, IsTwin, IsValid, IsWalk, Shares, across_of, ends_of, is_refined}
+use Rattle.mesh_names.specs.Validity.{IsValid, IsWalk, Shares, across_of, is_refined}
 use Rattle.mesh_names.proofs.Neighbours.{valid_tells}
-use Rattle.compat_check.specs.Checks.{AreGradesOf, Fits, HasNoArea, HasOutside, HasRepeated, HasTwinBefore, IsCheckRefusal, IsEdgeOfThree, IsTooHigh, IsUngradable, NeighbourDiffers, bare, neighbour_number, triples_of}
+use Rattle.compat_check.specs.Checks.{AreGradesOf, Fits, HasNoArea, HasOutside, HasRepeated, HasTwinBefore, IsCheckRefusal, IsEdgeOfThree, IsTooHigh, IsUngradable, NeighbourDiffers, bare, triples_of}
 use Rattle.compat_check.specs.declared.refusal.CheckRefusal.{CheckRefusal}
 use Rattle.compat_check.specs.declared.refusal.CheckRefusal.TheVariants.{VertexRange, RepeatedVertex, Flat, TwinElements, EdgeOfThree, NeighboursDiffer, Incompatible, GradeTooHigh, Memory}
 use Rattle.compat_check.specs.Faults.{doubled_area, point_at}
 use Rattle.compat_check.specs.Meshes.{Mesh, across_in, edge_of, shape_of}
-use Rattle.compat_check.specs.Points.{point}
 use Rattle.mesh_writer.specs.Numbering.{vertices}
 use Rattle.written_meshes.specs.Renaming.{AreWritten, leaf_at}
 use Rattle.written_meshes.specs.WrittenTexts.{IsWrittenText, area}
 use Rattle.written_meshes.specs.Passing.{NoLeafIsFlat, WrittenPasses}
 use Rattle.written_meshes.proofs.WrittenVertices.{vertex_at}
-use Rattle.written_meshes.proofs.TextFacts.{spot_at, text_neighbours, text_written, vertex_count}
+use Rattle.written_meshes.proofs.TextFacts.{spot_at, text_written, vertex_count}
 use Rattle.written_meshes.proofs.Beside.{beside}
 use Rattle.written_meshes.proofs.SharedEdges.{shared_middle}
 use Rattle.written_meshes.proofs.Moved.{first, second, third, inside, leaf_of}

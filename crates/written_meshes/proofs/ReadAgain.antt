@@ -1,24 +1,18 @@
 -- What the check makes of a written text has the leaves as its elements, where they lie, with their labels.
-use Rattle.std.proofs.Common.{◌≡◌, ℕ, zero, suc, ◌<◌, Bool, true, false, cond, refl, sym, ap, subst, ◌∙◌, List, [], ◌∷◌, ◌++◌, map, length, arith}
-use Rattle.std.specs.Prelude.{ℤ, pos, ◌+ℤ◌, slice_index_or, zip}
-use Rattle.std.proofs.lemmas.Int.{ints}
-use Rattle.std.proofs.lemmas.List.{get_or-map, length-map}
-use Rattle.macro_file.specs.declared.text.MacroText.{MacroText}
-use Rattle.macro_file.specs.declared.text.MacroElem.{MacroElem}
+use Rattle.std.proofs.Common.{◌≡◌, ℕ, ◌<◌, Bool, true, false, refl, sym, ap, ◌∙◌, List, [], ◌∷◌, ◌++◌, map, length}
+use Rattle.std.specs.Prelude.{ℤ, pos, slice_index_or}
+use Rattle.std.proofs.lemmas.List.{get_or-map}
 use Rattle.macro_file.specs.declared.text.MacroVertex.{MacroVertex}
-use Rattle.macro_file.specs.Meaning.{Element, Macro, Vertex as Placed}
-use Rattle.macro_file.specs.Text.{element_of, vertex_of}
 use Rattle.mesh_names.specs.Names.{Name}
-use Rattle.mesh_names.specs.Triangles.{Triple, Triangle, Vertex, Corner, Mid, before, middle, size, triple_of, corner_of, triangle}
+use Rattle.mesh_names.specs.Triangles.{Triangle, Vertex, Corner, middle, size, triangle}
 use Rattle.mesh_names.specs.Forests.{Names}
 use Rattle.compat_check.specs.Faults.{point_at}
 use Rattle.compat_check.specs.Meshes.{Mesh, across_in, label_of, shape_of}
-use Rattle.compat_check.specs.Points.{Labels, Point, between, child_labels, half, labels, labels_below, point, points}
-use Rattle.mesh_writer.specs.MeshText.{macro_element, macro_vertex}
+use Rattle.compat_check.specs.Points.{Labels, between, child_labels, labels, labels_below, point, points}
 use Rattle.mesh_writer.specs.Numbering.{vertices}
 use Rattle.mesh_writer.specs.Triples.{numbers}
 use Rattle.written_meshes.specs.Renaming.{AreWritten, IsWrittenFrom, leaf_at, renamed}
-use Rattle.written_meshes.specs.WrittenTexts.{IsReadAgain, IsWrittenText, PointsAndLabelsStand, ReadAgainIsWritten}
+use Rattle.written_meshes.specs.WrittenTexts.{IsReadAgain, PointsAndLabelsStand, ReadAgainIsWritten}
 use Rattle.written_meshes.proofs.WrittenVertices.{vertex_at}
 use Rattle.written_meshes.proofs.TextFacts.{labels_given, middle_lies, spot_at, text_labels, text_triples}
 use Rattle.written_meshes.proofs.Moved.{first, second, third, inside}

@@ -1,6 +1,5 @@
 -- The least forest, under a renaming.
-use Rattle.std.proofs.Common.{◌≡◌, ◌⊎◌, ℕ, ◌<◌, Bool, ◌&&◌, refl, sym, ap, subst, ◌∙◌, List, [], ◌∷◌, map, inl, inr, ⊎_elim}
-use Rattle.std.specs.Prelude.{Some}
+use Rattle.std.proofs.Common.{◌≡◌, ◌⊎◌, ℕ, ◌<◌, Bool, refl, sym, ap, subst, ◌∙◌, List, [], ◌∷◌, map, inl, inr, ⊎_elim}
 use Rattle.std.specs.FinSet.{contains, retain, union, from_list, items}
 use Rattle.mesh_names.specs.Names.{Name}
 use Rattle.mesh_names.specs.Triangles.{Shape, size}
@@ -132,9 +131,9 @@ module _ (mesh other : Shape) (x y : Across) (members : Names) (rename : Name �
     back : (n : Name) → n.0 < size other → Has least (rename n) → Has new_least n
     back n hn h =
         let l = is.least part part_forest ((conforms_by_partners mesh x r.tells part part_forest).1 part_holds)
-            (λ q k. in_part q (is.holds_old q k) (found old new_old olds new.holds_old q k (is.holds_old q k)))
-            (λ q k. in_part q (is.holds_needs q k) (found needs new_needs asked new.holds_needs q k (is.holds_needs q k)))
-            (rename n) h in
+        (λ q k. in_part q (is.holds_old q k) (found old new_old olds new.holds_old q k (is.holds_old q k)))
+        (λ q k. in_part q (is.holds_needs q k) (found needs new_needs asked new.holds_needs q k (is.holds_needs q k)))
+        (rename n) h in
         ⊎_elim
         (λ has. absurd (r.below n hn has))
         (λ (k : (k : Name) × Has new_least k × (rename k ≡ rename n)). subst (Has new_least) (r.one k.0 n (new.forest.rooted k.0 k.1) hn k.2) k.1)

@@ -1,29 +1,28 @@
 -- Rounds under a renaming.
-use Rattle.std.proofs.Common.{◌≡◌, ◌⊎◌, ℕ, zero, suc, ◌+◌, ◌<◌, ◌≤◌, ℤ, pos, Bool, true, false, cond, ◌&&◌, refl, sym, ap, subst, ◌∙◌, List, [], ◌∷◌, ◌++◌, length, arith, inl, inr, ⊎_elim}
-use Rattle.std.specs.Prelude.{All, IfSome, Option, Some, None, unwrap_or, slice_index_or}
+use Rattle.std.proofs.Common.{◌≡◌, ℕ, zero, suc, ◌<◌, ◌≤◌, ℤ, pos, Bool, cond, ◌&&◌, refl, sym, ap, subst, ◌∙◌, List, [], ◌∷◌, ◌++◌, length, arith, ⊎_elim}
+use Rattle.std.specs.Prelude.{All, IfSome, Option, Some, None, unwrap_or}
 use Rattle.std.proofs.lemmas.List.{get_or_at}
 use Rattle.std.proofs.lemmas.List.Elements.{All-nil, All-cons}
 use Rattle.std.specs.FinSet.{contains}
 use Rattle.mesh_names.specs.Names.{Name, name_eq}
 use Rattle.mesh_names.specs.Triangles.{Shape, size, level}
-use Rattle.mesh_names.specs.Forests.{Names, Has, Within, IsForest, IsLeaf, Conforms}
+use Rattle.mesh_names.specs.Forests.{Names, Has, Within, IsForest, IsLeaf}
 use Rattle.mesh_names.specs.Leaves.{leaves}
 use Rattle.mesh_names.specs.Conformity.{HoldsPartners}
 use Rattle.mesh_names.specs.Partners.{Across, partner}
-use Rattle.mesh_names.specs.Marks.{AreNeeds, IsNeeded, bisections, effective_mark, is_mark, last_mark, later, marks_leaf, names_leaf}
-use Rattle.mesh_names.specs.Coarsening.{IsConforming, child_at, mark_of_old, marked_by}
+use Rattle.mesh_names.specs.Marks.{AreNeeds, bisections, effective_mark, is_mark, last_mark, later, names_leaf}
+use Rattle.mesh_names.specs.Coarsening.{child_at, marked_by}
 use Rattle.mesh_names.specs.declared.rows.MarkRow.{MarkRow}
 use Rattle.mesh_names.specs.declared.rows.Place.{Place}
 use Rattle.mesh_names.specs.declared.rows.Place.TheVariants.{EveryLeaf, Elem, Corner}
 use Rattle.mesh_names.proofs.Leaving.{leaves_are}
-use Rattle.mesh_names.proofs.Conforming.{conforms_by_partners}
 use Rattle.mesh_names.proofs.Pairs.{partners_pair}
-use Rattle.mesh_names.proofs.Sets.{both_sides, both_ways, is_or_not, same-tied, tied-same}
-use Rattle.forest_plain.specs.Rounds.{IsFine, IsFirstFault, IsRefined, IsRound, IsRoundRefusal, IsRowFault, NamesLeaf, Room, named}
+use Rattle.mesh_names.proofs.Sets.{both_sides, both_ways, same-tied, tied-same}
+use Rattle.forest_plain.specs.Rounds.{IsFine, IsFirstFault, IsRefined, IsRound, IsRoundRefusal, IsRowFault, Room, named}
 use Rattle.forest_plain.specs.declared.refusal.RoundRefusal.{RoundRefusal}
 use Rattle.forest_plain.specs.declared.refusal.RoundRefusal.TheVariants.{RoundsUsedUp, NotALeaf, LevelTooDeep, PoolFull, Memory}
-use Rattle.written_meshes.specs.ForestRenaming.{IsRenaming, StandsFor, MarksStandFor}
-use Rattle.written_meshes.specs.RoundRenaming.{AreRowsFor, IsNameFor, IsPlaceFor, IsRoundFor, IsRowFor, NoRefusal, RoundStandsFor}
+use Rattle.written_meshes.specs.ForestRenaming.{IsRenaming, StandsFor}
+use Rattle.written_meshes.specs.RoundRenaming.{AreRowsFor, IsPlaceFor, IsRoundFor, IsRowFor, NoRefusal, RoundStandsFor}
 use Rattle.written_meshes.proofs.RenamedLeast.{least_stands_for}
 use Rattle.written_meshes.proofs.RenamedSteps.{coarsened_stands_for}
 use Rattle.written_meshes.proofs.FewerPatches.{patches_are_fewer}
@@ -105,7 +104,7 @@ module _ (mesh other : Shape) (x y : Across) (members : Names) (rename : Name �
         (λ e. (leaves_are other new new_forest n).1 (leaf_back n h ((leaves_are mesh old forest (rename n)).0 e)))
 
     -- ---- rows
-    places : (p q : Place) (n : Name) → n.0 < size other → IsPlaceFor other rename p q → names_leaf p n ≡ names_leaf q (rename n)
+    pub places : (p q : Place) (n : Name) → n.0 < size other → IsPlaceFor other rename p q → names_leaf p n ≡ names_leaf q (rename n)
     places EveryLeaf EveryLeaf n h f = refl
     places EveryLeaf (Elem q) n h f = absurd f
     places EveryLeaf (Corner q k) n h f = absurd f

@@ -1,6 +1,6 @@
 -- Values of leaves, under a renaming.
-use Rattle.std.proofs.Common.{◌≡◌, ◌⊎◌, ℕ, ◌<◌, Bool, true, false, refl, sym, ap, subst, ◌∙◌, List, [], ◌∷◌, ◌++◌, arith, inl, inr, ⊎_elim, true≢false}
-use Rattle.std.specs.Prelude.{ℤ, ◌+ℤ◌, ◌-ℤ◌, Some, None, Option, IsSome}
+use Rattle.std.proofs.Common.{◌≡◌, ℕ, ◌<◌, Bool, true, false, refl, sym, ap, subst, ◌∙◌, List, ◌∷◌, ◌++◌, arith, ⊎_elim}
+use Rattle.std.specs.Prelude.{ℤ, ◌+ℤ◌, ◌-ℤ◌, Some, IsSome}
 use Rattle.std.proofs.lemmas.Int.{ints}
 use Rattle.std.specs.FinSet.{contains}
 use Rattle.mesh_names.specs.Names.{Name}
@@ -11,11 +11,11 @@ use Rattle.mesh_names.specs.Partners.{Across}
 use Rattle.mesh_names.proofs.Leaving.{leaves_are}
 use Rattle.mesh_names.proofs.Neighbours.{some_inj}
 use Rattle.mesh_names.proofs.Sets.{is_or_not, both_sides}
-use Rattle.dof_transfer.specs.ByName.{AreElementValues, HasValue, IsSplit, split, sum, split_value}
+use Rattle.dof_transfer.specs.ByName.{AreElementValues, HasValue, split, sum, split_value}
 use Rattle.dof_transfer.specs.Changes.{AreOfForest}
 use Rattle.dof_transfer.specs.Exchanges.{child, floor_half, part}
 use Rattle.dof_transfer.specs.Held.{Held, value_of}
-use Rattle.written_meshes.specs.ForestRenaming.{IsRenaming, StandsFor}
+use Rattle.written_meshes.specs.ForestRenaming.{IsRenaming}
 use Rattle.written_meshes.specs.ValueRenaming.{ElementValuesStand, ForestStandsFor, ValuesStandFor}
 use Rattle.written_meshes.proofs.LeafNames.{one_leaf}
 use Rattle.written_meshes.proofs.RenamedRounds.{deeper, leaf_to, leaf_back, new_forest}

@@ -1,13 +1,12 @@
 -- A written mesh's names stand for the names at and below the leaves that were written.
-use Rattle.std.proofs.Common.{◌≡◌, ◌⊎◌, ℕ, suc, ◌+◌, ◌<◌, ◌≤◌, Bool, refl, sym, ap, subst, ◌∙◌, List, [], ◌∷◌, ◌++◌, length, arith, inl, inr, ⊎_elim}
+use Rattle.std.proofs.Common.{◌≡◌, ℕ, ◌+◌, ◌<◌, Bool, refl, sym, ap, ◌∙◌, List, [], ◌∷◌, length, arith, inl, inr, ⊎_elim}
 use Rattle.std.specs.Prelude.{Some}
 use Rattle.std.proofs.lemmas.List.{length-append}
 use Rattle.mesh_names.specs.Names.{Name}
-use Rattle.mesh_names.specs.Triangles.{Shape, Corner, size, level, grade_of, triangle, triple_of, middle, midpoint}
+use Rattle.mesh_names.specs.Triangles.{Shape, size, level, grade_of, triangle, midpoint}
 use Rattle.mesh_names.specs.Forests.{Names, Has}
-use Rattle.mesh_names.specs.Partners.{Across, Edge, Edge0, Edge1, Edge2, Tells, partner, edge_word, edge_middle}
-use Rattle.mesh_names.specs.Validity.{IsSamePair, IsWalk, Shares, across_of, ends_of}
-use Rattle.mesh_names.proofs.Middles.{middle-swap}
+use Rattle.mesh_names.specs.Partners.{Across, Edge, Tells, partner, edge_word}
+use Rattle.mesh_names.specs.Validity.{IsWalk, Shares, across_of}
 use Rattle.mesh_names.proofs.Neighbours.{valid_tells}
 use Rattle.mesh_names.proofs.Levels.{levels_apart}
 use Rattle.mesh_names.proofs.Partners.{partners_share}

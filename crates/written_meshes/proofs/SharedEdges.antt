@@ -1,5 +1,5 @@
 -- A shared edge has one middle.
-use Rattle.std.proofs.Common.{◌≡◌, ◌⊎◌, ℕ, refl, sym, ◌∙◌, ⊎_elim}
+use Rattle.std.proofs.Common.{◌≡◌, ℕ, refl, sym, ◌∙◌, ⊎_elim}
 use Rattle.mesh_names.specs.Triangles.{Shape, Corner, triple_of, middle}
 use Rattle.mesh_names.specs.Partners.{Edge, Edge0, Edge1, Edge2, edge_middle}
 use Rattle.mesh_names.specs.Validity.{IsSamePair, Shares, ends_of}

@@ -1,15 +1,15 @@
 -- The elements of a written mesh are valid, and the levels of its leaves fit as their grades.
-use Rattle.std.proofs.Common.{◌≡◌, ◌⊎◌, ℕ, suc, ◌+◌, ◌<◌, Bool, true, false, refl, sym, ap, subst, ◌∙◌, List, [], ◌∷◌, map, length, arith, inl, inr, ⊎_elim, true≢false}
-use Rattle.std.specs.Prelude.{Option, Some, None, slice_index_or}
+use Rattle.std.proofs.Common.{◌≡◌, ℕ, ◌+◌, ◌<◌, Bool, true, false, refl, sym, ap, subst, ◌∙◌, List, [], ◌∷◌, map, length, arith, inl, inr, ⊎_elim, true≢false}
+use Rattle.std.specs.Prelude.{Some}
 use Rattle.std.proofs.lemmas.List.{get_or-map}
 use Rattle.mesh_names.specs.Names.{Name}
-use Rattle.mesh_names.specs.Triangles.{Shape, Triple, Triangle, Vertex, Corner, size, level, grade_of, triple_of, corner_of, triangle, middle, midpoint}
-use Rattle.mesh_names.specs.Forests.{Names, Has}
+use Rattle.mesh_names.specs.Triangles.{Shape, Triple, Triangle, Vertex, Corner, size, level, grade_of, triple_of, corner_of, triangle, midpoint}
+use Rattle.mesh_names.specs.Forests.{Names}
 use Rattle.mesh_names.specs.Partners.{Across, Distinct, Edge, Edge0, Edge1, Edge2, Tells, edge_word, partner}
-use Rattle.mesh_names.specs.Validity.{HasCorner, IsGraded, IsSamePair, IsTwin, IsValid, Shares, is_refined}
+use Rattle.mesh_names.specs.Validity.{HasCorner, IsGraded, IsTwin, IsValid, Shares, is_refined}
 use Rattle.mesh_names.proofs.Levels.{From, corners-from, levels_apart, not_mid}
 use Rattle.mesh_names.proofs.Only.{Far, far, partner_is_only}
-use Rattle.mesh_names.proofs.Neighbours.{none_some, some_inj}
+use Rattle.mesh_names.proofs.Neighbours.{some_inj}
 use Rattle.written_meshes.specs.Renaming.{AreWritten, WrittenFits, leaf_at, renamed}
 use Rattle.written_meshes.proofs.LeafNames.{one}
 use Rattle.written_meshes.proofs.WrittenVertices.{vertex_at}

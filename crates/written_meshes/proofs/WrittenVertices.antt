@@ -1,5 +1,5 @@
 -- Written vertices: each stands at its number, and each corner of a leaf is among them.
-use Rattle.std.proofs.Common.{◌≡◌, ◌⊎◌, ℕ, zero, suc, ◌+◌, ◌<◌, ◌≤◌, Bool, true, false, cond, ◌||◌, refl, sym, ap, subst, ◌∙◌, List, [], ◌∷◌, ◌++◌, length, arith, true≢false, inl, inr, ⊎_elim}
+use Rattle.std.proofs.Common.{◌≡◌, ℕ, zero, suc, ◌+◌, ◌<◌, Bool, true, false, cond, ◌||◌, refl, sym, ap, ◌∙◌, List, [], ◌∷◌, ◌++◌, length, arith, true≢false, ⊎_elim}
 use Rattle.std.specs.Prelude.{All, slice_index_or}
 use Rattle.std.proofs.lemmas.Bool.{cases_eq}
 use Rattle.std.proofs.lemmas.List.{get_or_append_left, get_or_push, length-append}
@@ -8,7 +8,7 @@ use Rattle.mesh_names.specs.Names.{Name}
 use Rattle.mesh_names.specs.Triangles.{Shape, Vertex, Corner, same, triangle}
 use Rattle.mesh_names.proofs.Middles.{same_self, same-is}
 use Rattle.mesh_names.proofs.Neighbours.{corner-inj}
-use Rattle.mesh_names.proofs.Sets.{is_or_not, or_either, or-left, or-right}
+use Rattle.mesh_names.proofs.Sets.{or_either, or-left, or-right}
 use Rattle.mesh_writer.specs.Numbering.{is_among, corners_of, with_new, vertices, macro_vertices, number_of}
 use Rattle.mesh_writer.specs.Numbers.{IsWritten}
 

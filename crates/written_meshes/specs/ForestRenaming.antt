@@ -12,7 +12,8 @@ use Rattle.mesh_names.specs.Patches.{patch_count}
 use Rattle.mesh_names.specs.Validity.{across_of}
 use Rattle.written_meshes.specs.Renaming.{IsWrittenFrom, renamed}
 
--- another name for each name of one mesh, one at or below a leaf of a forest of the other mesh: each name there that is no member is meant by exactly one. A macro element stands for a leaf, a child for a child, a partner for a partner, the order is kept, and the levels below one leaf differ by one number
+-- each name of the other mesh stands for one at or below a leaf of a forest of the mesh, and each name there for which none stands is a member
+-- a macro element stands for a leaf, a child for a child, a partner for a partner, the order is kept, and the levels below one leaf differ by one number
 pub record IsRenaming (mesh other : Shape) (x y : Across) (members : Names) (rename : Name → Name) : Type 0 where
   pub tells : Tells mesh x
   pub tells_other : Tells other y
@@ -23,8 +24,10 @@ pub record IsRenaming (mesh other : Shape) (x y : Across) (members : Names) (ren
   pub below : (n : Name) → n.0 < size other → Has members (rename n) → ⊥
   pub one : (m n : Name) → m.0 < size other → n.0 < size other → rename m ≡ rename n → m ≡ n
   pub all : (n : Name) → n.0 < size mesh → Has members n ⊎ ((m : Name) × (m.0 < size other) × (rename m ≡ n))
-  pub partners : (n m : Name) (t : Bool) → n.0 < size other → partner y n.0 n.1 ≡ Some (m, t) → (s : Bool) × (partner x (rename n).0 (rename n).1 ≡ Some (rename m, s))
-  pub back : (n m : Name) (t : Bool) → n.0 < size other → partner x (rename n).0 (rename n).1 ≡ Some (m, t) → (k : Name) × ((s : Bool) × (partner y n.0 n.1 ≡ Some (k, s)) × (rename k ≡ m))
+  pub partners : (n m : Name) (t : Bool) → n.0 < size other → partner y n.0 n.1 ≡ Some (m, t) →
+      (s : Bool) × (partner x (rename n).0 (rename n).1 ≡ Some (rename m, s))
+  pub back : (n m : Name) (t : Bool) → n.0 < size other → partner x (rename n).0 (rename n).1 ≡ Some (m, t) →
+      (k : Name) × ((s : Bool) × (partner y n.0 n.1 ≡ Some (k, s)) × (rename k ≡ m))
   pub order : (m n : Name) → m.0 < size other → n.0 < size other → name_cmp (rename m) (rename n) ≡ name_cmp m n
   pub levels : (r : ℕ) → r < size other → (c : ℕ) × ((w : List Bool) → level mesh (rename (r, w)) ≡ level other (r, w) + c)
 

@@ -16,5 +16,6 @@ NoLeafIsFlat mesh list = (i : ℕ) → i < length list → area mesh (leaf_at li
 
 -- the law that the check refuses a written text in which no leaf is flat for nothing but want of memory
 abbrev pub WrittenPasses : Type 0
-WrittenPasses = (mesh : Mesh) (members : Names) (list : List Name) (vertex_values element_values : List ℤ) (text : MacroText) → IsWrittenText mesh members list vertex_values element_values text →
+WrittenPasses = (mesh : Mesh) (members : Names) (list : List Name) (vertex_values element_values : List ℤ) (text : MacroText) →
+    IsWrittenText mesh members list vertex_values element_values text →
     NoLeafIsFlat mesh list → (refusal : CheckRefusal) → IsCheckRefusal text refusal → refusal ≡ Memory

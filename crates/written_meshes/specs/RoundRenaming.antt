@@ -1,5 +1,5 @@
 -- Rounds under a renaming: rows whose places are renamed, and what the rounds make.
-use Rattle.std.specs.Prelude.{◌≡◌, ◌<◌, ℕ, List, [], ◌∷◌}
+use Rattle.std.specs.Prelude.{◌≡◌, ◌<◌, List, [], ◌∷◌}
 use Rattle.mesh_names.specs.Names.{Name}
 use Rattle.mesh_names.specs.Triangles.{Shape, size}
 use Rattle.mesh_names.specs.Forests.{Names, Within, IsForest}
@@ -36,7 +36,7 @@ AreRowsFor other rename [] [] = Unit {0}
 AreRowsFor other rename (new ∷ news) (old ∷ olds) = IsRowFor other rename new old × AreRowsFor other rename news olds
 AreRowsFor other rename news olds = ⊥
 
--- a round that was done on a conforming forest, from which no patch of the written forest was coarsened, and its rows with their places named anew, on the forest of the names that stand for its members
+-- a round on a conforming forest that kept the members of the written one; and its rows with their places named anew, on the forest that stands for it
 pub record IsRoundFor (mesh other : Shape) (x y : Across) (members : Names) (rename : Name → Name) (room : Room) (old new_old : Names) (rows new_rows : List MarkRow) (new : Names) : Type 0 where
   pub forest : IsForest mesh old
   pub partners : HoldsPartners x old
@@ -49,11 +49,13 @@ pub record IsRoundFor (mesh other : Shape) (x y : Across) (members : Names) (ren
 -- the law that these rows are refused for nothing but want of memory, with the same pool
 abbrev pub NoRefusal : Type 0
 NoRefusal = (mesh other : Shape) (x y : Across) (members : Names) (rename : Name → Name) → IsRenaming mesh other x y members rename →
-    (room : Room) (old new_old : Names) (rows new_rows : List MarkRow) (new : Names) → IsRoundFor mesh other x y members rename room old new_old rows new_rows new →
+    (room : Room) (old new_old : Names) (rows new_rows : List MarkRow) (new : Names) →
+    IsRoundFor mesh other x y members rename room old new_old rows new_rows new →
     (refusal : RoundRefusal) → IsRoundRefusal other y room new_old new_rows refusal → refusal ≡ Memory
 
 -- the law that their round leads to the forest of the names that stand for the new members
 abbrev pub RoundStandsFor : Type 0
 RoundStandsFor = (mesh other : Shape) (x y : Across) (members : Names) (rename : Name → Name) → IsRenaming mesh other x y members rename →
-    (room : Room) (old new_old : Names) (rows new_rows : List MarkRow) (new new_new : Names) → IsRoundFor mesh other x y members rename room old new_old rows new_rows new →
+    (room : Room) (old new_old : Names) (rows new_rows : List MarkRow) (new new_new : Names) →
+    IsRoundFor mesh other x y members rename room old new_old rows new_rows new →
     IsRound other y room new_old new_rows new_new → StandsFor other rename new_new new

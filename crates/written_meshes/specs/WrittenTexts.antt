@@ -34,12 +34,14 @@ pub record IsReadAgain (mesh : Mesh) (members : Names) (list : List Name) (verte
 
 -- the law that it has the leaves as its elements
 abbrev pub ReadAgainIsWritten : Type 0
-ReadAgainIsWritten = (mesh : Mesh) (members : Names) (list : List Name) (vertex_values element_values : List ℤ) (other : Mesh) → IsReadAgain mesh members list vertex_values element_values other →
+ReadAgainIsWritten = (mesh : Mesh) (members : Names) (list : List Name) (vertex_values element_values : List ℤ) (other : Mesh) →
+    IsReadAgain mesh members list vertex_values element_values other →
     IsWrittenFrom (shape_of mesh) (across_in mesh) (length mesh.vertices) members list (shape_of other)
 
 -- the law that each of its names lies where the name lies that it stands for, and has its labels
 abbrev pub PointsAndLabelsStand : Type 0
-PointsAndLabelsStand = (mesh : Mesh) (members : Names) (list : List Name) (vertex_values element_values : List ℤ) (other : Mesh) → IsReadAgain mesh members list vertex_values element_values other →
+PointsAndLabelsStand = (mesh : Mesh) (members : Names) (list : List Name) (vertex_values element_values : List ℤ) (other : Mesh) →
+    IsReadAgain mesh members list vertex_values element_values other →
     (n : Name) → n.0 < size (shape_of other) → (points other n ≡ points mesh (renamed list n)) × (labels other n ≡ labels mesh (renamed list n))
 
 -- twice the area of a name

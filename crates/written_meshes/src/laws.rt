@@ -4,7 +4,7 @@ ghost use Rattle.written_meshes.specs.ForestRenaming.{CoarsenedStandsFor, LeastS
 ghost use Rattle.written_meshes.specs.Passing.{WrittenPasses};
 ghost use Rattle.written_meshes.specs.Renaming.{GradesAreLow, GradesDiffer, WrittenFits};
 ghost use Rattle.written_meshes.specs.RoundRenaming.{NoRefusal, RoundStandsFor};
-ghost use Rattle.written_meshes.specs.ValueRenaming.{ElementValuesStand};
+ghost use Rattle.written_meshes.specs.ValueRenaming.{ElementValuesStand, SetValuesStand};
 ghost use Rattle.written_meshes.specs.WrittenTexts.{NoNameIsFlat, PointsAndLabelsStand, ReadAgainIsWritten};
 
 use compat_check::laws;
@@ -82,4 +82,10 @@ pub fn written_passes()
 /// Where leaves have the values of those that they stand for, they have them after a round too.
 pub fn element_values_stand()
     ensures { ElementValuesStand }
+{}
+
+/// Where leaves have the values of those that they stand for, they have them too after rows have set
+/// some.
+pub fn set_values_stand()
+    ensures { SetValuesStand }
 {}
