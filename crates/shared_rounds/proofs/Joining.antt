@@ -32,7 +32,7 @@ use Rattle.table_passes.specs.Tasks.{IsDone, IsReady}
 use Rattle.table_passes.specs.declared.lists.Lists.{Lists}
 use Rattle.table_passes.specs.declared.work.Joined.{Joined}
 use Rattle.table_passes.specs.declared.work.Task.{Task}
-use Rattle.shared_rounds.specs.Reached.{HasJoined, IsReached, NoneFull, Reaches}
+use Rattle.shared_rounds.specs.Reached.{HasJoined, IsReached, NoneFull, Reaches, put_off}
 
 -- v knows as bisected what u does
 abbrev KnowsMore : Sight → Sight → Type 0
@@ -140,21 +140,70 @@ map_reversed : {A B : Type 0} (f : A → B) (xs : List A) → map f (reverse xs)
 map_reversed f [] = refl
 map_reversed f (x ∷ xs) = ap (map f) (reversed x xs) ∙ map-append f (reverse xs) (x ∷ []) ∙ (λ i. map_reversed f xs i ++ f x ∷ []) ∙ sym (reversed (f x) (map f xs))
 
--- the joined passes are those of the tasks
-same_reached : (v : Sight) (ds : List Joined) (us : List Task) → map (λ (d : Joined). d.names.items) ds ≡ map (λ (t : Task). t.names.items) us
-    → map (λ (d : Joined). d.answers.items) ds ≡ map (λ (t : Task). t.answers.items) us → map (λ (d : Joined). d.lists) ds ≡ map (λ (t : Task). t.pass.lists) us
-    → All (IsTaskReached v) us → All (IsReached v) ds
-same_reached v [] us en ea el h = All-nil (IsReached v)
-same_reached v (d ∷ ds) [] en ea el h = absurd (let e = ap length en in omega arith)
-same_reached v (d ∷ ds) (u ∷ us) en ea el h = All-cons (IsReached v) d ds
-    (subst (λ (a : List Name × List Answer × Lists). NoneFull a.1 → Reaches v a.0 a.1 × (a.2.failed ≡ None)) (sym (λ i. (first_same en i, first_same ea i, first_same el i))) (All-head (IsTaskReached v) u us h))
-    (same_reached v ds us (rest_same en) (rest_same ea) (rest_same el) (All-tail (IsTaskReached v) u us h))
-  where
-    first_same : {A : Type 0} {a b : A} {xs ys : List A} → a ∷ xs ≡ b ∷ ys → a ≡ b
-    first_same e = cc
+-- what was done by a task, and by a joined pass
+abbrev Deeds : Type 0
+Deeds = List Name × List Answer × Lists
 
-    rest_same : {A : Type 0} {a b : A} {xs ys : List A} → a ∷ xs ≡ b ∷ ys → xs ≡ ys
-    rest_same e = cc
+abbrev deeds_of : Task → Deeds
+deeds_of t = (t.names.items, t.answers.items, t.pass.lists)
+
+abbrev told_of : Joined → Deeds
+told_of d = (d.names.items, d.answers.items, d.lists)
+
+first_same : {A : Type 0} {a b : A} {xs ys : List A} → a ∷ xs ≡ b ∷ ys → a ≡ b
+first_same e = cc
+
+rest_same : {A : Type 0} {a b : A} {xs ys : List A} → a ∷ xs ≡ b ∷ ys → xs ≡ ys
+rest_same e = cc
+
+-- the joined passes are those of the tasks
+same_deeds : (P : Deeds → Type 0) (ds : List Joined) (us : List Task) → map (λ (d : Joined). d.names.items) ds ≡ map (λ (t : Task). t.names.items) us
+    → map (λ (d : Joined). d.answers.items) ds ≡ map (λ (t : Task). t.answers.items) us → map (λ (d : Joined). d.lists) ds ≡ map (λ (t : Task). t.pass.lists) us
+    → All (λ t. P (deeds_of t)) us → All (λ d. P (told_of d)) ds
+same_deeds P [] us en ea el h = All-nil (λ d. P (told_of d))
+same_deeds P (d ∷ ds) [] en ea el h = absurd (let e = ap length en in omega arith)
+same_deeds P (d ∷ ds) (u ∷ us) en ea el h = All-cons (λ d. P (told_of d)) d ds
+    (subst P (sym (λ i. (first_same en i, first_same ea i, first_same el i))) (All-head (λ t. P (deeds_of t)) u us h))
+    (same_deeds P ds us (rest_same en) (rest_same ea) (rest_same el) (All-tail (λ t. P (deeds_of t)) u us h))
+
+-- worker 0 puts no name off
+abbrev IsWhole : Deeds → Type 0
+IsWhole a = NoneFull a.1 → put_off a.0 a.1 ≡ []
+
+ran_whole : (mesh : Shape) (x : Across) (u : Sight) (names : List Name) (answers : List Answer) (v : Sight) → Ran mesh x u names answers v → u.work.number ≡ 0 → NoneFull answers → put_off names answers ≡ []
+ran_whole mesh x u [] answers v r zero none = refl
+ran_whole mesh x u (n ∷ names) [] v r zero none = refl
+ran_whole mesh x u (n ∷ names) (Ok done ∷ answers) v r zero none = ran_whole mesh x r.0 names answers v r.2 (r.1.works.number ∙ zero) (All-tail (λ a. is_full a ≡ false) (Ok done) answers none)
+ran_whole mesh x u (n ∷ names) (Err (Deferred owner word) ∷ answers) v r zero none = let a = r.1.answer in absurd (a.1.3.2.1 (r.1.works.number ∙ zero))
+ran_whole mesh x u (n ∷ names) (Err (Full drawn free spot) ∷ answers) v r zero none = absurd (true≢false (All-head (λ a. is_full a ≡ false) (Err (Full drawn free spot)) answers none))
+
+-- a task of worker 0
+abbrev IsLast : Task → Type 0
+IsLast t = t.pass.number ≡ 0
+
+task_whole : (k : Site) (t u : Task) → IsDone k t u → IsLast t → IsWhole (deeds_of u)
+task_whole k t u done last none =
+    let mesh = shape_of k.mesh.now in
+    let x = across_in k.mesh.now in
+    let worked = subst (λ (ns : List Name). IsWorked mesh x (view_of t) (view_of u) ns u.answers.items) (sym done.names) done.worked in
+    let count = (all_worked mesh x (view_of t) (view_of u) u.names.items u.answers.items worked none).0 in
+    ran_whole mesh x (view_of t) u.names.items u.answers.items (view_of u)
+        (subst (λ (ns : List Name). Ran mesh x (view_of t) ns u.answers.items (view_of u)) (take_all (length u.answers.items) u.names.items (omega arith)) worked.ran)
+        (t.pass.numbered ∙ last) none
+
+tasks_whole : (k : Site) (ts us : List Task) → AllZip (IsDone k) ts us → All IsLast ts → All (λ t. IsWhole (deeds_of t)) us
+tasks_whole k [] [] done last = All-nil (λ t. IsWhole (deeds_of t))
+tasks_whole k [] (u ∷ us) done last = absurd done
+tasks_whole k (t ∷ ts) [] done last = absurd done
+tasks_whole k (t ∷ ts) (u ∷ us) done last = All-cons (λ t. IsWhole (deeds_of t)) u us (task_whole k t u done.0 (All-head IsLast t ts last)) (tasks_whole k ts us done.1 (All-tail IsLast t ts last))
+
+pub has_whole : (k : Site) (ts us : List Task) (ds : List Joined) → AllZip (IsDone k) ts us
+    → map (λ (d : Joined). d.names.items) ds ≡ reverse (map (λ (t : Task). t.names.items) us)
+    → map (λ (d : Joined). d.answers.items) ds ≡ reverse (map (λ (t : Task). t.answers.items) us)
+    → map (λ (d : Joined). d.lists) ds ≡ reverse (map (λ (t : Task). t.pass.lists) us)
+    → All IsLast ts → All (λ d. IsWhole (told_of d)) ds
+has_whole k ts us ds done en ea el last = same_deeds IsWhole ds (reverse us) (en ∙ sym (map_reversed (λ (t : Task). t.names.items) us)) (ea ∙ sym (map_reversed (λ (t : Task). t.answers.items) us)) (el ∙ sym (map_reversed (λ (t : Task). t.pass.lists) us))
+    (all_reversed (λ t. IsWhole (deeds_of t)) us (tasks_whole k ts us done last))
 
 pub has_joined : (k : Site) (u v : Sight) (ts us : List Task) (ds : List Joined) → AllZip (IsDone k) ts us → v ≡ joined_all u (map view_of us)
     → map (λ (d : Joined). d.names.items) ds ≡ reverse (map (λ (t : Task). t.names.items) us)
@@ -167,7 +216,7 @@ has_joined k u v ts us ds done e en ea el ec = record {
   alone = λ one. ap (λ (w : Sight). w.ruling.lone) e ∙ joined_alone u (map view_of us) one;
   claims = ec;
   known = λ i h. subst (λ (w : Sight). HasEntry w.work.known i) (sym e) (joined_known u (map view_of us) i h);
-  reached = same_reached v ds (reverse us) (en ∙ sym (map_reversed (λ (t : Task). t.names.items) us)) (ea ∙ sym (map_reversed (λ (t : Task). t.answers.items) us)) (el ∙ sym (map_reversed (λ (t : Task). t.pass.lists) us))
+  reached = same_deeds (λ a. NoneFull a.1 → Reaches v a.0 a.1 × (a.2.failed ≡ None)) ds (reverse us) (en ∙ sym (map_reversed (λ (t : Task). t.names.items) us)) (ea ∙ sym (map_reversed (λ (t : Task). t.answers.items) us)) (el ∙ sym (map_reversed (λ (t : Task). t.pass.lists) us))
       (all_reversed (IsTaskReached v) us (tasks_reached k v ts us done (joined_each u v us (λ i h. subst (λ (w : Sight). HasEntry w.work.known i) (sym e) h))));
 }
   where

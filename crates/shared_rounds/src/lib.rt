@@ -5,3 +5,4 @@ pub mod answers;
 pub mod gathering;
 pub mod looks;
 pub mod refining;
+pub mod room;
