@@ -1,11 +1,10 @@
 -- What the owner has once passes have worked and are joined.
-use Rattle.std.proofs.Common.{◌≡◌, ℕ, suc, ◌+◌, ◌-◌, ◌<◌, Bool, true, false, true≢false, List, [], ◌∷◌, ◌++◌, All, Option, None, Some, length, map, reverse, take, drop, refl, sym, ap, ◌∙◌, subst, ◌⊎◌, inl, inr, ⊎_elim, arith}
+use Rattle.std.proofs.Common.{◌≡◌, ℕ, suc, ◌-◌, false, true≢false, List, [], ◌∷◌, ◌++◌, All, Option, None, Some, length, map, reverse, take, drop, refl, sym, ap, ◌∙◌, subst, inl, ⊎_elim, arith}
 use Rattle.std.specs.Prelude.{Ok, Err}
 use Rattle.std.specs.List.{AllZip}
 use Rattle.std.proofs.lemmas.List.{length-map, length-reverse, map-append, reverse-append, take_all}
 use Rattle.std.proofs.Math.Seq.{take-append_seam}
 use Rattle.std.proofs.lemmas.List.Elements.{All-nil, All-cons, All-head, All-tail, All-push}
-use Rattle.atomic_table.specs.Seated.{TableId}
 use Rattle.compat_check.specs.Meshes.{across_in, shape_of}
 use Rattle.mesh_names.specs.Names.{Name}
 use Rattle.mesh_names.specs.Partners.{Across}
@@ -25,14 +24,14 @@ use Rattle.patch_claims.specs.declared.needs.ClaimRefusal.TheVariants.{Deferred,
 use Rattle.patch_claims.specs.declared.patch.Patch.{Patch}
 use Rattle.patch_claims.specs.declared.patch.Spot.{Spot}
 use Rattle.patch_claims.specs.declared.refine.Done.TheVariants.{Published, Already}
-use Rattle.table_passes.specs.Answers.{Answer, HasAnswered, IsAnswer, IsWorked, Ran, is_full}
+use Rattle.table_passes.specs.Answers.{Answer, IsWorked, Ran, is_full}
 use Rattle.table_passes.specs.Crew.{joined_all}
-use Rattle.table_passes.specs.Kept.{HasKept, all_claims}
-use Rattle.table_passes.specs.Tasks.{IsDone, IsReady}
+use Rattle.table_passes.specs.Kept.{all_claims}
+use Rattle.table_passes.specs.Tasks.{IsDone}
 use Rattle.table_passes.specs.declared.lists.Lists.{Lists}
 use Rattle.table_passes.specs.declared.work.Joined.{Joined}
 use Rattle.table_passes.specs.declared.work.Task.{Task}
-use Rattle.shared_rounds.specs.Reached.{HasJoined, IsReached, NoneFull, Reaches, put_off}
+use Rattle.shared_rounds.specs.Reached.{HasJoined, NoneFull, Reaches, put_off}
 
 -- v knows as bisected what u does
 abbrev KnowsMore : Sight → Sight → Type 0
@@ -112,9 +111,10 @@ task_reached : (k : Site) (v : Sight) (t u : Task) → IsDone k t u → KnowsMor
 task_reached k v t u done more none =
     let mesh = shape_of k.mesh.now in
     let x = across_in k.mesh.now in
-    let worked = subst (λ (ns : List Name). IsWorked mesh x (view_of t) (view_of u) ns u.answers.items) (sym done.names) done.worked in
-    (worked_reaches mesh x (view_of t) (view_of u) v u.names.items u.answers.items worked none more,
-    none_failed k (view_of u) u.pass.lists.published.items u.pass.lists.failed done.kept (all_worked mesh x (view_of t) (view_of u) u.names.items u.answers.items worked none).1)
+    let worked = subst (λ (ns : List Name). IsWorked mesh x (view_of t) (view_of u) ns u.answers.items) (sym done.names) done.worked in (
+      worked_reaches mesh x (view_of t) (view_of u) v u.names.items u.answers.items worked none more,
+      none_failed k (view_of u) u.pass.lists.published.items u.pass.lists.failed done.kept (all_worked mesh x (view_of t) (view_of u) u.names.items u.answers.items worked none).1,
+    )
 
 tasks_reached : (k : Site) (v : Sight) (ts us : List Task) → AllZip (IsDone k) ts us → All (λ t. KnowsMore (view_of t) v) us → All (IsTaskReached v) us
 tasks_reached k v [] [] done more = All-nil (IsTaskReached v)
@@ -188,8 +188,8 @@ task_whole k t u done last none =
     let worked = subst (λ (ns : List Name). IsWorked mesh x (view_of t) (view_of u) ns u.answers.items) (sym done.names) done.worked in
     let count = (all_worked mesh x (view_of t) (view_of u) u.names.items u.answers.items worked none).0 in
     ran_whole mesh x (view_of t) u.names.items u.answers.items (view_of u)
-        (subst (λ (ns : List Name). Ran mesh x (view_of t) ns u.answers.items (view_of u)) (take_all (length u.answers.items) u.names.items (omega arith)) worked.ran)
-        (t.pass.numbered ∙ last) none
+    (subst (λ (ns : List Name). Ran mesh x (view_of t) ns u.answers.items (view_of u)) (take_all (length u.answers.items) u.names.items (omega arith)) worked.ran)
+    (t.pass.numbered ∙ last) none
 
 tasks_whole : (k : Site) (ts us : List Task) → AllZip (IsDone k) ts us → All IsLast ts → All (λ t. IsWhole (deeds_of t)) us
 tasks_whole k [] [] done last = All-nil (λ t. IsWhole (deeds_of t))

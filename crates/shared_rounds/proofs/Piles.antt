@@ -1,5 +1,5 @@
 -- The claims of passes in lists.
-use Rattle.std.proofs.Common.{◌≡◌, ℕ, ◌+◌, ◌<◌, ◌≤◌, List, [], ◌∷◌, ◌++◌, length, map, take, drop, get_or, refl, sym, ap, ◌∙◌, arith}
+use Rattle.std.proofs.Common.{◌≡◌, ◌+◌, ◌<◌, ◌≤◌, List, [], ◌∷◌, ◌++◌, length, map, take, drop, get_or, refl, sym, ap, ◌∙◌, arith}
 use Rattle.std.proofs.lemmas.List.{append_assoc, length-append, map-append, map-id, take-append-drop, take_more}
 use Rattle.patch_claims.specs.declared.patch.Patch.{Patch as Published}
 use Rattle.table_passes.specs.declared.lists.Lists.{Lists}
@@ -47,9 +47,9 @@ blocks_within all done d so_far l e =
     let front : take (n + 1) all ≡ done ++ d ∷ [] = take_more all n d l ∙ ap (λ (x : Joined). take n all ++ x ∷ []) (sym e) ∙ ap (λ (xs : List Joined). xs ++ d ∷ []) (sym so_far ∙ map-id done) in
     let whole : all ≡ (done ++ d ∷ []) ++ drop (n + 1) all = sym (take-append-drop (n + 1) all) ∙ ap (λ (xs : List Joined). xs ++ drop (n + 1) all) front in
     let parts : all_blocks (lists all) ≡ (all_blocks (lists done) ++ blocks_before d.lists.published.items []) ++ all_blocks (lists (drop (n + 1) all)) = ap (λ (xs : List Joined). all_blocks (lists xs)) whole
-        ∙ ap all_blocks (map-append (λ (x : Joined). x.lists) (done ++ d ∷ []) (drop (n + 1) all))
-        ∙ blocks_apart (lists (done ++ d ∷ [])) (lists (drop (n + 1) all))
-        ∙ ap (λ (ps : List Patch). ps ++ all_blocks (lists (drop (n + 1) all))) (ap all_blocks (map-append (λ (x : Joined). x.lists) done (d ∷ [])) ∙ blocks_next (lists done) d.lists) in
+    ∙ ap all_blocks (map-append (λ (x : Joined). x.lists) (done ++ d ∷ []) (drop (n + 1) all))
+    ∙ blocks_apart (lists (done ++ d ∷ [])) (lists (drop (n + 1) all))
+    ∙ ap (λ (ps : List Patch). ps ++ all_blocks (lists (drop (n + 1) all))) (ap all_blocks (map-append (λ (x : Joined). x.lists) done (d ∷ [])) ∙ blocks_next (lists done) d.lists) in
     let a = ap length parts in
     let b = length-append (all_blocks (lists done) ++ blocks_before d.lists.published.items []) (all_blocks (lists (drop (n + 1) all))) in
     let c = length-append (all_blocks (lists done)) (blocks_before d.lists.published.items []) in

@@ -1,18 +1,17 @@
 -- A load tells of the owner's claims.
-use Rattle.std.proofs.Common.{◌≡◌, ℕ, ◌+◌, ◌<◌, ◌≤◌, false, length, refl, sym, ap, ◌∙◌, subst, arith}
+use Rattle.std.proofs.Common.{◌≡◌, ℕ, ◌+◌, ◌≤◌, false, length, refl, sym, ap, ◌∙◌, subst, arith}
 use native.Mathlib.Decide.{dec_lt}
 use Rattle.atomic_table.specs.Table.{Allows}
 use Rattle.table_words.specs.Claims.{Living}
-use Rattle.table_words.specs.Entries.{HasEntry}
 use Rattle.table_words.specs.Views.{FirstHalf, Owner}
 use Rattle.table_words.specs.Words.{words_at}
-use Rattle.table_state.specs.Ghosts.{Life, Placed, chained}
+use Rattle.table_state.specs.Ghosts.{Life, chained}
 use Rattle.table_state.proofs.DrawLaws.{round_fits}
 use Rattle.mesh_table.specs.declared.rule.Site.{Site}
 use Rattle.mesh_table.specs.Sights.{Sight, seat_at, views_of, setup_at}
 use Rattle.mesh_table.specs.Holds.{Holds, Sat}
 use Rattle.mesh_table.proofs.Owning.{owner_acts, kept_words, in_ruling}
-use Rattle.shared_rounds.specs.Claims.{ClaimsTold, IsTooLarge, claims_told}
+use Rattle.shared_rounds.specs.Claims.{ClaimsTold, claims_told}
 use Rattle.table_state.proofs.TableLaws.{blocks_in_pool}
 
 -- a block that is placed is so once
@@ -34,8 +33,8 @@ module _ (k : Site) (id i : ℕ) (me : Sat) (rules : me.0.kind ≡ Owner) where
             let e : x + 1 ≡ y + 1 = ap first_of (sym p ∙ q) in omega arith;
         room = λ x m b a. (blocks_in_pool (setup_at k) w (length s.views) (views_of f) h.lawful).5 0 x m b (Living b) a refl;
         fits = λ x m a goal held g d. elim (dec_lt k.layout.pool (length goal + length held)) [
-          yes l ↦ l
-        | no o ↦ absurd ((round_fits (setup_at k) w (length s.views) (views_of f) h.lawful goal held one shut g d (omega arith)).2 0 x m a)
+          | yes l ↦ l
+          | no o ↦ absurd ((round_fits (setup_at k) w (length s.views) (views_of f) h.lawful goal held one shut g d (omega arith)).2 0 x m a)
         ];
       } in (
         f 0,

@@ -1,5 +1,5 @@
 -- The claims of passes that were joined, in lists.
-use Rattle.std.specs.Prelude.{◌≡◌, ℕ, List, [], ◌∷◌, ◌++◌, Option, None, Some}
+use Rattle.std.specs.Prelude.{List, [], ◌∷◌, ◌++◌, Option, None, Some}
 use Rattle.table_words.specs.Claims.{Claim, Living, claim}
 use Rattle.table_words.specs.Places.{place_number}
 use Rattle.table_words.specs.declared.layout.Layout.{Layout}

@@ -1,5 +1,5 @@
 -- What the owner has once the passes of the first half are joined.
-use Rattle.std.specs.Prelude.{◌≡◌, ℕ, ◌-◌, false, List, [], ◌∷◌, ◌++◌, All, Option, None, Ok, Err, length, map}
+use Rattle.std.specs.Prelude.{◌≡◌, ℕ, ◌-◌, false, List, [], ◌∷◌, ◌++◌, All, None, Ok, Err, length, map}
 use Rattle.mesh_names.specs.Names.{Name}
 use Rattle.table_words.specs.Entries.{HasEntry}
 use Rattle.table_words.specs.NameWords.{name_code}

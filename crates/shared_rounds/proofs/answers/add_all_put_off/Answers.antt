@@ -1,7 +1,6 @@
-use Rattle.std.proofs.Common.{◌≡◌, ℕ, ◌+◌, ◌≤◌, List, ◌++◌, length, take, get_or, sym, ap, ◌∙◌, subst, arith}
+use Rattle.std.proofs.Common.{◌≡◌, ◌≤◌, List, ◌++◌, length, take, get_or, sym, ap, ◌∙◌, subst, arith}
 use Rattle.std.proofs.lemmas.List.{append_assoc, length-append, take_all}
 use Rattle.mesh_names.specs.Names.{Name}
-use Rattle.table_passes.specs.Answers.{Answer}
 use Rattle.table_passes.specs.declared.work.Joined.{Joined}
 use Rattle.shared_rounds.specs.Reached.{all_put_off, put_off}
 use Rattle.shared_rounds.proofs.PuttingOff.{all_off_more, all_off_within}
@@ -15,7 +14,7 @@ add_put_off-requires c =
     let within = all_off_within ds i d c.loop-pass-test.true in
     let is : get_or ds i d ≡ d = sym c.pass-item.is in
     let one : length (put_off (get_or ds i d).names.items (get_or ds i d).answers.items) ≡ length (put_off c.deref.result.now c.deref-in-loop-pass.result.now) = ap (λ (e : Joined). length (put_off e.names.items e.answers.items)) is
-        ∙ (λ j. length (put_off (sym c.deref.ensures.value j) (sym c.deref-in-loop-pass.ensures.value j))) in
+    ∙ (λ j. length (put_off (sym c.deref.ensures.value j) (sym c.deref-in-loop-pass.ensures.value j))) in
     let now = ap length c.loop-pass.invariant.items in
     let sum = length-append c.args.names.now.items (all_put_off (take i ds)) in
     let same = c.loop-pass.invariant.capacity in

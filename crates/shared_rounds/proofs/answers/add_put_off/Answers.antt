@@ -1,4 +1,4 @@
-use Rattle.std.proofs.Common.{◌≡◌, ℕ, ◌+◌, ◌≤◌, List, [], ◌∷◌, ◌++◌, length, take, get_or, sym, ap, ◌∙◌, subst, arith}
+use Rattle.std.proofs.Common.{◌≡◌, ℕ, List, [], ◌∷◌, ◌++◌, length, take, get_or, sym, ap, ◌∙◌, arith}
 use Rattle.std.proofs.lemmas.List.{append_assoc, length-append, take_all}
 use Rattle.mesh_names.specs.Names.{Name}
 use Rattle.table_passes.specs.Answers.{Answer}
@@ -47,4 +47,4 @@ returns-clause-items c =
     let end : c.loop-place.place ≡ length bs = omega arith in
     let old = c.args.names.now.items in
     c.loop-place.invariant.items ∙ ap (λ (i : ℕ). old ++ put_off (take i ns) (take i bs)) end ∙ ap (λ (cs : List Answer). old ++ put_off (take (length bs) ns) cs) (take_all (length bs) bs (omega arith))
-        ∙ ap (λ (xs : List Name). old ++ xs) (off_rest ns bs)
+    ∙ ap (λ (xs : List Name). old ++ xs) (off_rest ns bs)

@@ -1,8 +1,7 @@
-use Rattle.std.proofs.Common.{rules, ◌≡◌, ℕ, ◌+◌, ◌≤◌, ◌∷◌, [], ◌++◌, List, length, length-append, map, take, drop, sym, ap, ◌∙◌, subst, refl, arith}
+use Rattle.std.proofs.Common.{rules, ◌∷◌, [], ◌++◌, List, length, length-append, map, sym, ap, ◌∙◌, arith}
 use Rattle.std.proofs.lemmas.List.{append_assoc, map-append}
 use Rattle.std.proofs.lemmas.Iterator.Adapters.{YieldsList-from_vec}
 use Rattle.std.proofs.lemmas.Iterator.Consumers.{YieldsList-so_far, YieldsList-turn}
-use Rattle.table_passes.specs.declared.lists.Lists.{Lists}
 use Rattle.table_passes.specs.declared.work.Joined.{Joined}
 use Rattle.table_rounds.specs.declared.patch.Patch.{Patch}
 use Rattle.shared_rounds.specs.Gathered.{all_blocks, blocks_before}
