@@ -1,0 +1,4 @@
+pub mod Telling
+pub mod Piles
+pub mod Joining
+pub mod PuttingOff

@@ -1,0 +1,4 @@
+pub mod Claims
+pub mod Gathered
+pub mod Reached
+pub mod Room
