@@ -175,7 +175,7 @@ module _ (mesh : Mesh) (members : Names) (list : List Name) (vertex_values eleme
       (other_name (name_eq (leaf_at list k) (leaf_at list r)) (λ q. n (one_leaf_place k r hk hr (tied-same (leaf_at list k) (leaf_at list r) q)))) both.0 both.1
     where
       one_leaf_place : (k r : ℕ) → k < size other → r < size other → leaf_at list k ≡ leaf_at list r → k ≡ r
-      one_leaf_place k r hk hr e = ap (λ (q : Name). q.0) (one (shape_of mesh) members is.forest list is.is_list (k, []) (r, []) (inside (shape_of mesh) other (across_in mesh) (length mesh.vertices) members list are k hk) (inside (shape_of mesh) other (across_in mesh) (length mesh.vertices) members list are r hr) e)
+      one_leaf_place k r hk hr e = ap (λ (q : Name). q.0) (one (shape_of mesh) members is.writing.forest list is.writing.is_list (k, []) (r, []) (inside (shape_of mesh) other (across_in mesh) (length mesh.vertices) members list are k hk) (inside (shape_of mesh) other (across_in mesh) (length mesh.vertices) members list are r hr) e)
 
   -- what the writer finds is what lies across the edge
   told : (r : ℕ) (e : Edge) → r < size other → number_or_none (position_from (test r e) 0 list) ≡ neighbour_number (across_of other r e)

@@ -16,3 +16,4 @@ pub mod Beside
 pub mod Passing
 pub mod RenamedValues
 pub mod RenamedRows
+pub mod Reading

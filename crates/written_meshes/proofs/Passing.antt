@@ -154,8 +154,8 @@ module _ (mesh : Mesh) (members : Names) (list : List Name) (vertex_values eleme
       leaf = leaf_of (shape_of mesh) other (across_in mesh) (length mesh.vertices) members list are r h
 
       by : (w : List Bool) → (leaf_at list r).1 ≡ w → level (shape_of mesh) (leaf_at list r) ≤ 24
-      by [] e = let l = is.checked.low (leaf_at list r).0 leaf.rooted in let n = ap length e in omega (arith, l, n)
-      by (b ∷ w) e = let l = is.forest.shallow ((leaf_at list r).0, w) (leaf.born b w e) in let n = ap length e in omega (arith, l, n)
+      by [] e = let l = is.writing.checked.low (leaf_at list r).0 leaf.rooted in let n = ap length e in omega (arith, l, n)
+      by (b ∷ w) e = let l = is.writing.forest.shallow ((leaf_at list r).0, w) (leaf.born b w e) in let n = ap length e in omega (arith, l, n)
 
   none_high : (r grade : ℕ) → IsTooHigh (triples_of text) r grade → ⊥
   none_high r grade t =

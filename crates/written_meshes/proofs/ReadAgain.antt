@@ -34,10 +34,10 @@ module _ (mesh other : Mesh) (members : Names) (list : List Name) (vertex_values
 
   pub are_written : AreWritten (shape_of mesh) (across_in mesh) count members list (shape_of other)
   are_written = record {
-    tells = again.written.checked.tells;
-    forest = again.written.forest;
-    partners = again.written.partners;
-    is_list = again.written.is_list;
+    tells = again.written.writing.checked.tells;
+    forest = again.written.writing.forest;
+    partners = again.written.writing.partners;
+    is_list = again.written.writing.is_list;
     triples = triples;
   }
 

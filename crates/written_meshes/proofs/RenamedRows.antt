@@ -1,10 +1,10 @@
 -- What rows set of leaves, under a renaming.
-use Rattle.std.proofs.Common.{◌≡◌, ◌⊎◌, ℕ, zero, suc, ◌<◌, Bool, true, refl, sym, ap, subst, ◌∙◌, List, [], ◌∷◌, ◌++◌, length, arith, inl, inr, ⊎_elim}
+use Rattle.std.proofs.Common.{◌≡◌, zero, suc, refl, sym, ap, subst, ◌∙◌, List, [], ◌∷◌, ◌++◌, arith, inl, inr, ⊎_elim}
 use Rattle.std.specs.Prelude.{All, ℤ, IsSome, Option, Some, None}
 use Rattle.std.proofs.lemmas.List.Elements.{All-nil, All-cons}
 use Rattle.std.specs.FinSet.{contains}
 use Rattle.mesh_names.specs.Names.{Name}
-use Rattle.mesh_names.specs.Triangles.{Shape, size}
+use Rattle.mesh_names.specs.Triangles.{Shape}
 use Rattle.mesh_names.specs.Forests.{Names, IsForest, IsLeaf}
 use Rattle.mesh_names.specs.Leaves.{leaves}
 use Rattle.mesh_names.specs.Partners.{Across}
@@ -13,7 +13,7 @@ use Rattle.mesh_names.proofs.Leaving.{leaves_are}
 use Rattle.mesh_names.proofs.Sets.{is_or_not, both_sides}
 use Rattle.dof_transfer.specs.Changes.{AreOfForest}
 use Rattle.dof_transfer.specs.Held.{Held, value_of}
-use Rattle.mesh_rounds.specs.Setting.{AreSet, IsLast, SetsLeaf, TakesLast, leaf_holding}
+use Rattle.mesh_rounds.specs.Setting.{IsLast, SetsLeaf, TakesLast}
 use Rattle.written_meshes.specs.ForestRenaming.{IsRenaming}
 use Rattle.written_meshes.specs.RoundRenaming.{AreRowsFor, IsRowFor}
 use Rattle.written_meshes.specs.ValueRenaming.{ForestStandsFor, LeavesAreSet, SetValuesStand, ValuesStandFor}

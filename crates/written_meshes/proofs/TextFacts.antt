@@ -71,7 +71,7 @@ module _ (mesh : Mesh) (members : Names) (list : List Name) (vertex_values eleme
   of_elements : {A : Type 0} (f : Element → A) (g : Name → A) → ((p : Name × ℤ) → f (macro_element mesh written list p) ≡ g p.0) → map (λ (e : MacroElem). f (element_of e)) text.elements.items ≡ map g list
   of_elements f g h =
       sym (map-twice f element_of text.elements.items) ∙ ap (map f) elements ∙ map-twice f (macro_element mesh written list) (zip list element_values)
-      ∙ (λ i. map (λ (p : Name × ℤ). h p i) (zip list element_values)) ∙ zip-first g list element_values is.of_leaves
+      ∙ (λ i. map (λ (p : Name × ℤ). h p i) (zip list element_values)) ∙ zip-first g list element_values is.writing.of_leaves
 
   pub text_triples : triples_of text ≡ map (numbers (shape_of mesh) written) list
   text_triples = of_elements (λ (e : Element). e.corners) (numbers (shape_of mesh) written) (λ p. refl)
@@ -88,10 +88,10 @@ module _ (mesh : Mesh) (members : Names) (list : List Name) (vertex_values eleme
   -- the elements of the text are the leaves
   pub text_written : AreWritten (shape_of mesh) (across_in mesh) (length mesh.vertices) members list (bare (triples_of text))
   text_written = record {
-    tells = is.checked.tells;
-    forest = is.forest;
-    partners = is.partners;
-    is_list = is.is_list;
+    tells = is.writing.checked.tells;
+    forest = is.writing.forest;
+    partners = is.writing.partners;
+    is_list = is.writing.is_list;
     triples = text_triples;
   }
 
@@ -101,7 +101,7 @@ module _ (mesh : Mesh) (members : Names) (list : List Name) (vertex_values eleme
       sym (map-twice (λ (v : Placed). (v.x, v.y)) vertex_of text.vertices.items)
       ∙ ap (λ (m : Macro). map (λ (v : Placed). (v.x, v.y)) m.vertices) is.is
       ∙ map-twice (λ (v : Placed). (v.x, v.y)) (macro_vertex mesh) (zip written vertex_values)
-      ∙ zip-first (point mesh.vertices) written vertex_values is.of_vertices
+      ∙ zip-first (point mesh.vertices) written vertex_values is.writing.of_vertices
 
   pub vertex_count : length text.vertices.items ≡ length written
   vertex_count = sym (length-map text.vertices.items (λ (v : MacroVertex). (v.x, v.y))) ∙ ap length text_spots ∙ length-map written (point mesh.vertices)

@@ -4,3 +4,4 @@ pub mod RoundRenaming
 pub mod WrittenTexts
 pub mod Passing
 pub mod ValueRenaming
+pub mod Accepted

@@ -16,14 +16,18 @@ use Rattle.mesh_writer.specs.MeshText.{written_mesh}
 use Rattle.mesh_writer.specs.Numbering.{vertices}
 use Rattle.written_meshes.specs.Renaming.{IsWrittenFrom, renamed}
 
--- a text that says what the leaves of a conforming forest form, with a value for each written vertex and each leaf
-pub record IsWrittenText (mesh : Mesh) (members : Names) (list : List Name) (vertex_values element_values : List ℤ) (text : MacroText) : Type 0 where
+-- the leaves of a conforming forest of a checked mesh, with a value for each written vertex and each leaf
+pub record IsWriting (mesh : Mesh) (members : Names) (list : List Name) (vertex_values element_values : List ℤ) : Type 0 where
   pub checked : IsChecked mesh
   pub forest : IsForest (shape_of mesh) members
   pub partners : HoldsPartners (across_in mesh) members
   pub is_list : IsListOf (leaves (shape_of mesh) members) list
   pub of_vertices : length vertex_values ≡ length (vertices (shape_of mesh) (length mesh.vertices) list)
   pub of_leaves : length element_values ≡ length list
+
+-- a text that says what these leaves form
+pub record IsWrittenText (mesh : Mesh) (members : Names) (list : List Name) (vertex_values element_values : List ℤ) (text : MacroText) : Type 0 where
+  pub writing : IsWriting mesh members list vertex_values element_values
   pub is : macro_of text ≡ written_mesh mesh list vertex_values element_values
 
 -- the mesh that the check makes of such a text

@@ -1,5 +1,6 @@
 //! Laws over the definitions alone. Each function takes nothing and answers nothing: its contract is
 //! the law.
+ghost use Rattle.written_meshes.specs.Accepted.{WrittenAccepted};
 ghost use Rattle.written_meshes.specs.ForestRenaming.{CoarsenedStandsFor, LeastStandsFor, PatchesAreFewer, WrittenIsRenaming};
 ghost use Rattle.written_meshes.specs.Passing.{WrittenPasses};
 ghost use Rattle.written_meshes.specs.Renaming.{GradesAreLow, GradesDiffer, WrittenFits};
@@ -8,6 +9,7 @@ ghost use Rattle.written_meshes.specs.ValueRenaming.{ElementValuesStand, SetValu
 ghost use Rattle.written_meshes.specs.WrittenTexts.{NoNameIsFlat, PointsAndLabelsStand, ReadAgainIsWritten};
 
 use compat_check::laws;
+use macro_file::laws as texts;
 
 /// The elements of a written mesh are valid, and the levels of its leaves fit as their grades.
 pub fn written_fits()
@@ -89,3 +91,12 @@ pub fn element_values_stand()
 pub fn set_values_stand()
     ensures { SetValuesStand }
 {}
+
+/// A written mesh of at most 65,535 leaves and vertices, in which no leaf is flat, is read again as what
+/// was written, and accepted.
+pub fn written_accepted()
+    ensures { WrittenAccepted }
+{
+    laws::midpoints_exact();
+    texts::written_is_read();
+}
