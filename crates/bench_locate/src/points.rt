@@ -27,6 +27,16 @@ impl Places {
         let first = place.saturating_sub(place % u64::from(self.each).max(1));
         first.min(8_388_608) as i64 * 625_000_000
     }
+
+    // The point of this number, which looks random.
+    fn point(self, number: u32) -> Point
+        ensures { IsWithin result }
+    {
+        let twice = u64::from(number).wrapping_mul(2);
+        let across = self.coordinate(mixed(twice));
+        let up = self.coordinate(mixed(twice.wrapping_add(1)));
+        (across, up)
+    }
 }
 
 // A number for a number; they look random.
@@ -44,10 +54,7 @@ pub fn draw_points(alloc: Global, places: Places, count: u32) -> Result<Vec<Poin
 {
     let mut points = Vec::new(alloc);
     for number in 0..count {
-        let twice = u64::from(number).wrapping_mul(2);
-        let across = places.coordinate(mixed(twice));
-        let up = places.coordinate(mixed(twice.wrapping_add(1)));
-        points.push((across, up))?;
+        points.push(places.point(number))?;
     }
     Ok(points)
 }

@@ -7,7 +7,7 @@ use Rattle.bench_locate.proofs.leaves.refined.Goals as goal
 
 pub returns : goal.returns
 returns c =
-    let forest = c.round.new.forest in
+    let forest = c.round.new.self in
     let same = c.in-Ok.ensures.ok.rest.mesh ∙ c.new-forest.ensures.mesh in (
       members_of forest,
       record {
