@@ -115,6 +115,7 @@ module _ (forests : NewIsForest) (holds : NewHoldsPartners) (stay : ElementsStay
 
 pub written_continues : NewIsForest → NewHoldsPartners → ElementsStay → FirstVertices → WrittenContinues
 written_continues forests holds stay firsts mesh state list other first g rounds new_rounds rooms end new_end f there here =
-    let i = run forests holds stay firsts mesh other state list first g rounds new_rounds rooms first state new_end end (starts forests holds stay firsts mesh other state list first g) f there here in
-    (all_stands forests holds stay firsts mesh other state list first g new_end end i,
-    λ rows new_rows room next refusal rows_for done kept refused. not_refused forests holds stay firsts mesh other state list first g new_end end i rows new_rows rows_for room next done kept refusal refused)
+    let i = run forests holds stay firsts mesh other state list first g rounds new_rounds rooms first state new_end end (starts forests holds stay firsts mesh other state list first g) f there here in (
+      all_stands forests holds stay firsts mesh other state list first g new_end end i,
+      λ rows new_rows room next refusal rows_for done kept refused. not_refused forests holds stay firsts mesh other state list first g new_end end i rows new_rows rows_for room next done kept refusal refused,
+    )

@@ -184,9 +184,11 @@ module _ (mesh other : Mesh) (state : State) (list : List Name) (first : State) 
     place_to : (p q : Place) (v : Vertex) → IsPlaceFor (shape_of other) (renamed list) p q → IsVertexAt (shape_of other) new_after p v → IsVertexAt (shape_of mesh) after q (moved v)
     place_to EveryLeaf EveryLeaf v is h =
         let low = h.1.rooted in
-        let c = number (triangle (shape_of other) h.0) v h.2 in
-        (renamed list h.0, leaf_to (shape_of mesh) (shape_of other) (across_in mesh) (across_in other) members (renamed list) ren after new_after f.forest f.partners f.within f.stands h.0 low h.1,
-        subst (λ (u : Vertex). IsCorner u (triangle (shape_of mesh) (renamed list h.0))) (sym (ap moved c.1 ∙ corner-moved h.0 low c.0)) (as_corner (triangle (shape_of mesh) (renamed list h.0)) c.0))
+        let c = number (triangle (shape_of other) h.0) v h.2 in (
+          renamed list h.0,
+          leaf_to (shape_of mesh) (shape_of other) (across_in mesh) (across_in other) members (renamed list) ren after new_after f.forest f.partners f.within f.stands h.0 low h.1,
+          subst (λ (u : Vertex). IsCorner u (triangle (shape_of mesh) (renamed list h.0))) (sym (ap moved c.1 ∙ corner-moved h.0 low c.0)) (as_corner (triangle (shape_of mesh) (renamed list h.0)) c.0),
+        )
     place_to EveryLeaf (Elem n) v is h = absurd is
     place_to EveryLeaf (corner_of_leaf n k) v is h = absurd is
     place_to (Elem m) q v is h = absurd h
@@ -198,9 +200,11 @@ module _ (mesh other : Mesh) (state : State) (list : List Name) (first : State) 
     place_back EveryLeaf EveryLeaf v a is h =
         let n = leaf_from (shape_of mesh) (shape_of other) (across_in mesh) (across_in other) members (renamed list) ren after new_after f.forest f.partners f.within f.stands h.0 h.1 in
         let c = number (triangle (shape_of mesh) h.0) (moved v) h.2 in
-        let same : v ≡ corner_at (triangle (shape_of other) n.0) c.0 = one_of v (corner_at (triangle (shape_of other) n.0) c.0) a (corner_is n.0 n.1 c.0) (c.1 ∙ (λ i. corner_at (triangle (shape_of mesh) (sym n.2 i)) c.0) ∙ sym (corner-moved n.0 n.1 c.0)) in
-        (n.0, leaf_back (shape_of mesh) (shape_of other) (across_in mesh) (across_in other) members (renamed list) ren after new_after f.forest f.partners f.within f.stands n.0 n.1 (subst (IsLeaf (shape_of mesh) after) (sym n.2) h.1),
-        subst (λ (u : Vertex). IsCorner u (triangle (shape_of other) n.0)) (sym same) (as_corner (triangle (shape_of other) n.0) c.0))
+        let same : v ≡ corner_at (triangle (shape_of other) n.0) c.0 = one_of v (corner_at (triangle (shape_of other) n.0) c.0) a (corner_is n.0 n.1 c.0) (c.1 ∙ (λ i. corner_at (triangle (shape_of mesh) (sym n.2 i)) c.0) ∙ sym (corner-moved n.0 n.1 c.0)) in (
+          n.0,
+          leaf_back (shape_of mesh) (shape_of other) (across_in mesh) (across_in other) members (renamed list) ren after new_after f.forest f.partners f.within f.stands n.0 n.1 (subst (IsLeaf (shape_of mesh) after) (sym n.2) h.1),
+          subst (λ (u : Vertex). IsCorner u (triangle (shape_of other) n.0)) (sym same) (as_corner (triangle (shape_of other) n.0) c.0),
+        )
     place_back EveryLeaf (Elem n) v a is h = absurd h
     place_back EveryLeaf (corner_of_leaf n k) v a is h = absurd is
     place_back (Elem m) EveryLeaf v a is h = absurd is
@@ -229,17 +233,18 @@ module _ (mesh other : Mesh) (state : State) (list : List Name) (first : State) 
           sets_back a b r s = record { what = r.what ∙ s.what; place = place_back a.place b.place v iv r.place s.place }
 
       pub set_stand : Stand new_old old → Stand new_set set
-      set_stand s v iv x =
-          ((λ h.
-          let z = had new_old new_set h.key x (here.none h.key) h.is in
-          let a : HasAt other new_old v z.0 = record { key = h.key; names = h.names; is = z.1 } in
-          let b = (s v iv z.0).0 a in
-          record { key = b.key; names = b.names; is = sym (set_alike v iv z.0 a b) ∙ h.is }),
-          (λ h.
-          let z = had old set h.key x (there.none h.key) h.is in
-          let b : HasAt mesh old (moved v) z.0 = record { key = h.key; names = h.names; is = z.1 } in
-          let a = (s v iv z.0).1 b in
-          record { key = a.key; names = a.names; is = set_alike v iv z.0 a b ∙ h.is }))
+      set_stand s v iv x = (
+        (λ h.
+            let z = had new_old new_set h.key x (here.none h.key) h.is in
+            let a : HasAt other new_old v z.0 = record { key = h.key; names = h.names; is = z.1 } in
+            let b = (s v iv z.0).0 a in
+            record { key = b.key; names = b.names; is = sym (set_alike v iv z.0 a b) ∙ h.is }),
+        (λ h.
+            let z = had old set h.key x (there.none h.key) h.is in
+            let b : HasAt mesh old (moved v) z.0 = record { key = h.key; names = h.names; is = z.1 } in
+            let a = (s v iv z.0).1 b in
+            record { key = a.key; names = a.names; is = set_alike v iv z.0 a b ∙ h.is }),
+      )
 
     -- ---- values by name
     module _ (set new_set : VertexHeld) (s : Stand new_set set) where
@@ -264,18 +269,19 @@ module _ (mesh other : Mesh) (state : State) (list : List Name) (first : State) 
           (made (moved a) (moved b) x y (λ z h. none z ((s (middle a b) iv z).1 (subst (λ (w : Vertex). HasAt mesh set w z) (sym (pair-moved a b)) h))) (carry a x e.0 ha) (carry b y e.1 hb))
 
       pub name_stand : (end new_end : VertexHeld) → AreVertexValues mesh after set end → AreVertexValues other new_after new_set new_end → Stand new_end end
-      name_stand end new_end there here v iv x =
-          ((λ h.
-          let i = stands_there other new_after new_end here.none h.key x h.is in
-          let p = here.vertices h.key i in
-          let t = key_to h.key v h.names i in
-          let q = there.vertices t.key t.inside in
-          let c = carry v p.0 iv (subst (λ (w : Vertex). HasVertexValue other new_set w p.0) h.names.is p.2) in
-          record { key = t.key; names = t.names; is = q.1 ∙ ap Some (sym (one_value mesh ren.tells set (moved v) (vertex_of (shape_of mesh) t.key) p.0 q.0 (sym t.names.is) c q.2) ∙ some_inj p.0 x (sym p.1 ∙ h.is)) }),
-          (λ h.
-          let i = stands_there mesh after end there.none h.key x h.is in
-          let p = there.vertices h.key i in
-          let t = key_back v iv h.key h.names i in
-          let q = here.vertices t.key t.inside in
-          let c = carry v q.0 iv (subst (λ (w : Vertex). HasVertexValue other new_set w q.0) t.names.is q.2) in
-          record { key = t.key; names = t.names; is = q.1 ∙ ap Some (one_value mesh ren.tells set (moved v) (vertex_of (shape_of mesh) h.key) q.0 p.0 (sym h.names.is) c p.2 ∙ some_inj p.0 x (sym p.1 ∙ h.is)) }))
+      name_stand end new_end there here v iv x = (
+        (λ h.
+            let i = stands_there other new_after new_end here.none h.key x h.is in
+            let p = here.vertices h.key i in
+            let t = key_to h.key v h.names i in
+            let q = there.vertices t.key t.inside in
+            let c = carry v p.0 iv (subst (λ (w : Vertex). HasVertexValue other new_set w p.0) h.names.is p.2) in
+            record { key = t.key; names = t.names; is = q.1 ∙ ap Some (sym (one_value mesh ren.tells set (moved v) (vertex_of (shape_of mesh) t.key) p.0 q.0 (sym t.names.is) c q.2) ∙ some_inj p.0 x (sym p.1 ∙ h.is)) }),
+        (λ h.
+            let i = stands_there mesh after end there.none h.key x h.is in
+            let p = there.vertices h.key i in
+            let t = key_back v iv h.key h.names i in
+            let q = here.vertices t.key t.inside in
+            let c = carry v q.0 iv (subst (λ (w : Vertex). HasVertexValue other new_set w q.0) t.names.is q.2) in
+            record { key = t.key; names = t.names; is = q.1 ∙ ap Some (one_value mesh ren.tells set (moved v) (vertex_of (shape_of mesh) h.key) q.0 p.0 (sym h.names.is) c p.2 ∙ some_inj p.0 x (sym p.1 ∙ h.is)) }),
+      )

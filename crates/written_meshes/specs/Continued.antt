@@ -22,7 +22,8 @@ use Rattle.written_meshes.specs.WrittenTexts.{IsReadAgain}
 -- rounds, one after another, that coarsen no member of a forest
 abbrev pub AreRounds : Mesh → Names → List (List MarkRow) → List Room → State → State → Type 0
 AreRounds mesh members [] [] old new = new ≡ old
-AreRounds mesh members (rows ∷ rounds) (room ∷ rooms) old new = (next : State) × IsMeshRound mesh room rows old next × Within members next.members × AreRounds mesh members rounds rooms next new
+AreRounds mesh members (rows ∷ rounds) (room ∷ rooms) old new =
+    (next : State) × IsMeshRound mesh room rows old next × Within members next.members × AreRounds mesh members rounds rooms next new
 AreRounds mesh members rounds rooms old new = ⊥
 
 -- the forest and all values of one state stand for those of another
@@ -45,8 +46,10 @@ pub record IsGoingOn (mesh : Mesh) (state : State) (list : List Name) (other : M
 -- the law that rounds which are not refused, and coarsen no patch that was there at the writing, are not refused from the written mesh, and lead to a state that stands for theirs
 abbrev pub WrittenContinues : Type 0
 WrittenContinues = (mesh : Mesh) (state : State) (list : List Name) (other : Mesh) (first : State) → IsGoingOn mesh state list other first →
-    (rounds new_rounds : List (List MarkRow)) (rooms : List Room) (end new_end : State) → AllZip (λ rows new_rows. AreRowsFor (shape_of other) (renamed list) new_rows rows) rounds new_rounds →
+    (rounds new_rounds : List (List MarkRow)) (rooms : List Room) (end new_end : State) →
+    AllZip (λ rows new_rows. AreRowsFor (shape_of other) (renamed list) new_rows rows) rounds new_rounds →
     AreRounds mesh state.members rounds rooms state end → AreRounds other empty new_rounds rooms first new_end →
     StateStandsFor mesh other list new_end end
-    × ((rows new_rows : List MarkRow) (room : Room) (next : State) (refusal : RoundRefusal) → AreRowsFor (shape_of other) (renamed list) new_rows rows → IsMeshRound mesh room rows end next → Within state.members next.members →
+    × ((rows new_rows : List MarkRow) (room : Room) (next : State) (refusal : RoundRefusal) →
+    AreRowsFor (shape_of other) (renamed list) new_rows rows → IsMeshRound mesh room rows end next → Within state.members next.members →
     IsRoundRefusal (shape_of other) (across_in other) room new_end.members new_rows refusal → refusal ≡ Memory)
