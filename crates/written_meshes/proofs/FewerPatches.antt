@@ -73,7 +73,7 @@ len-sent (suc k) s t f h into apart = by (items s) refl (λ q a b c. len-sent k 
 
 -- ---- patches
 module _ (mesh other : Shape) (x y : Across) (members : Names) (rename : Name → Name) (r : IsRenaming mesh other x y members rename) where
-  owners : (n : Name) → n.0 < size other → owns y n ≡ owns x (rename n)
+  pub owners : (n : Name) → n.0 < size other → owns y n ≡ owns x (rename n)
   owners n h = by (partner y n.0 n.1) refl
     where
       alone : (o : Option (Name × Bool)) → partner x (rename n).0 (rename n).1 ≡ o → partner y n.0 n.1 ≡ None → true ≡ is_first (rename n) o

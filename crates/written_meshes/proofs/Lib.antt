@@ -17,3 +17,7 @@ pub mod Passing
 pub mod RenamedValues
 pub mod RenamedRows
 pub mod Reading
+pub mod OneValue
+pub mod RenamedVertices
+pub mod FirstState
+pub mod Continuing

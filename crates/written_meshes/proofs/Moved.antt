@@ -61,7 +61,7 @@ module _ (mesh other : Shape) (x : Across) (count : ℕ) (members : Names) (list
   third r h = let t = ap (λ (u : Triple). corner_of u 2) (triple r h) in let a = at_number (triangle mesh (leaf_at list r)).2 written (in_written r h).third in (omega (arith, t, a.0), ap (vertex_at written) t ∙ a.1)
 
   -- ---- triangles
-  middle-moved : (a b : Vertex) → moved (middle a b) ≡ middle (moved a) (moved b)
+  pub middle-moved : (a b : Vertex) → moved (middle a b) ≡ middle (moved a) (moved b)
   middle-moved a b = by (before b a)
     where
       by : (p : Bool) → moved (cond p (Mid b a) (Mid a b)) ≡ middle (moved a) (moved b)
@@ -83,13 +83,13 @@ module _ (mesh other : Shape) (x : Across) (count : ℕ) (members : Names) (list
   midpoint-moved n h = middle_to (triangle other n) (triangle mesh (name n)) (triangle-moved n.0 n.1 h)
 
   -- ---- corners
-  abbrev IsAt : ℕ → Vertex → Type 0
+  abbrev pub IsAt : ℕ → Vertex → Type 0
   IsAt k v = ((j : ℕ) × (j < length written) × (v ≡ Corner j)) ⊎ ((n : Name) × (n.0 < size other) × (length n.1 < k) × (v ≡ midpoint (triangle other n)))
 
-  higher : (k m : ℕ) (v : Vertex) → k ≤ m → IsAt k v → IsAt m v
+  pub higher : (k m : ℕ) (v : Vertex) → k ≤ m → IsAt k v → IsAt m v
   higher k m v l a = ⊎_elim (λ p. inl p) (λ (p : (n : Name) × (n.0 < size other) × (length n.1 < k) × (v ≡ midpoint (triangle other n))). inr (p.0, p.1, omega (arith, l, p.2), p.3)) a
 
-  corners-at : (r : ℕ) (w : List Bool) → r < size other → let t = triangle other (r, w) in IsAt (length w) t.0 × IsAt (length w) t.1 × IsAt (length w) t.2
+  pub corners-at : (r : ℕ) (w : List Bool) → r < size other → let t = triangle other (r, w) in IsAt (length w) t.0 × IsAt (length w) t.1 × IsAt (length w) t.2
   corners-at r [] h = (inl (_, (first r h).0, refl), inl (_, (second r h).0, refl), inl (_, (third r h).0, refl))
   corners-at r (false ∷ w) h = let c = corners-at r w h in (higher _ _ _ (omega arith) c.2, higher _ _ _ (omega arith) c.0, inr ((r, w), h, omega arith, refl))
   corners-at r (true ∷ w) h = let c = corners-at r w h in (higher _ _ _ (omega arith) c.1, higher _ _ _ (omega arith) c.2, inr ((r, w), h, omega arith, refl))
@@ -134,7 +134,7 @@ module _ (mesh other : Shape) (x : Across) (count : ℕ) (members : Names) (list
       (λ (q : (n : Name) × (n.0 < size other) × (length n.1 < m) × (u ≡ midpoint (triangle other n))). absurd (corner_apart p.0 q.0 p.1 q.1 (ap moved (sym p.2) ∙ e ∙ ap moved q.3)))
       b
 
-  distinct : (k m : ℕ) (v u : Vertex) → IsAt k v → IsAt m u → moved v ≡ moved u → v ≡ u
+  pub distinct : (k m : ℕ) (v u : Vertex) → IsAt k v → IsAt m u → moved v ≡ moved u → v ≡ u
   distinct zero m v u a b e = ⊎_elim
       (λ p. numbered m v u p b e)
       (λ (p : (n : Name) × (n.0 < size other) × (length n.1 < 0) × (v ≡ midpoint (triangle other n))). absurd (omega (arith, p.2)))

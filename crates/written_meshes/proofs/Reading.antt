@@ -197,10 +197,13 @@ pub written_mesh_is_read : WrittenIsRead → WrittenMeshIsRead
 written_mesh_is_read read mesh members list vertex_values element_values is fits = read (written_mesh mesh list vertex_values element_values) (is_macro mesh members list vertex_values element_values is fits)
 
 pub written_accepted : MidpointsExact → WrittenIsRead → WrittenAccepted
-written_accepted exact read mesh members list vertex_values element_values is =
-    (no_leaf_is_flat mesh members list vertex_values element_values is exact,
-    λ fits thick. (written_mesh_is_read read mesh members list vertex_values element_values is fits,
+written_accepted exact read mesh members list vertex_values element_values is = (
+  no_leaf_is_flat mesh members list vertex_values element_values is exact,
+  λ fits thick. (
+    written_mesh_is_read read mesh members list vertex_values element_values is fits,
     λ text said. record {
       passes = written_passes mesh members list vertex_values element_values text (record { writing = is; is = said }) thick;
       grades = λ other made. grades_differ (shape_of mesh) (across_in mesh) (length mesh.vertices) members list (shape_of other) (from mesh other members list vertex_values element_values (record { text = text; written = record { writing = is; is = said }; made = made }));
-    }))
+    },
+  ),
+)

@@ -36,7 +36,7 @@ module _ (mesh other : Shape) (x y : Across) (members : Names) (rename : Name �
   same_root k [] = refl
   same_root k (b ∷ w) = ap (λ (q : Name). q.0) (r.children k b w) ∙ same_root k w
 
-  rooted : (n : Name) → n.0 < size other → (rename n).0 < size mesh
+  pub rooted : (n : Name) → n.0 < size other → (rename n).0 < size mesh
   rooted n h = subst (λ (k : ℕ). k < size mesh) (sym (same_root n.0 n.1)) (r.tops n.0 h).rooted
 
   pub deeper : (k : ℕ) (u w : List Bool) → rename (k, u ++ w) ≡ ((rename (k, w)).0, u ++ (rename (k, w)).1)
@@ -92,7 +92,7 @@ module _ (mesh other : Shape) (x y : Across) (members : Names) (rename : Name �
           stands.same (n.0, w) h ∙ subst (λ (k : ℕ). Has old (k, (rename (n.0, w)).1)) (ap (λ (q : Name). q.0) here) (l.born b (rename (n.0, w)).1 (ap (λ (q : Name). q.1) here));
     }
 
-    leaf_from : (q : Name) → IsLeaf mesh old q → (n : Name) × (n.0 < size other) × (rename n ≡ q)
+    pub leaf_from : (q : Name) → IsLeaf mesh old q → (n : Name) × (n.0 < size other) × (rename n ≡ q)
     leaf_from q l = ⊎_elim
         (λ (has : Has members q). absurd (both_sides (contains old q) (within q has) l.unsplit))
         (λ (n : (n : Name) × (n.0 < size other) × (rename n ≡ q)). n)

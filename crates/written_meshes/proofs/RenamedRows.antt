@@ -37,7 +37,7 @@ one_last meant [] (y ∷ c) a d r s e mr ms na nd = absurd (behind (λ q. meant 
 one_last meant (x ∷ b) [] a d r s e mr ms na nd = absurd (behind (λ q. meant q → ⊥) b a r (subst (All (λ q. meant q → ⊥)) (sym (other_rows e)) nd) mr)
 one_last meant (x ∷ b) (y ∷ c) a d r s e mr ms na nd = one_last meant b c a d r s (other_rows e) mr ms na nd
 
-one_taken : (meant : MarkRow → Type 0) (rows : List MarkRow) (old p q : Option ℤ) → TakesLast meant rows old p → TakesLast meant rows old q → p ≡ q
+pub one_taken : (meant : MarkRow → Type 0) (rows : List MarkRow) (old p q : Option ℤ) → TakesLast meant rows old p → TakesLast meant rows old q → p ≡ q
 one_taken meant rows old p q a b = ⊎_elim
     (λ (x : All (λ r. meant r → ⊥) rows × (p ≡ old)). ⊎_elim
     (λ (y : All (λ r. meant r → ⊥) rows × (q ≡ old)). x.1 ∙ sym y.1)
@@ -65,7 +65,7 @@ module _ (other : Shape) (rename : Name → Name) (one two : MarkRow → Type 0)
       let l = last_for before after olds row value f.1 h n e in
       record { before = b ∷ l.before; row = l.row; after = l.after; split = ap (λ (rows : List MarkRow). b ∷ rows) l.split; this = l.this; none = l.none; number = l.number }
 
-  taken_for : (news olds : List MarkRow) (old new : Option ℤ) → AreRowsFor other rename news olds → TakesLast one news old new → TakesLast two olds old new
+  pub taken_for : (news olds : List MarkRow) (old new : Option ℤ) → AreRowsFor other rename news olds → TakesLast one news old new → TakesLast two olds old new
   taken_for news olds old new f t = ⊎_elim
       (λ (x : All (λ r. one r → ⊥) news × (new ≡ old)). inl (none_for news olds f x.0, x.1))
       (λ (x : IsLast one news new). inr (last_for x.before x.after olds x.row new (subst (λ (l : List MarkRow). AreRowsFor other rename l olds) x.split f) x.this x.none x.number))

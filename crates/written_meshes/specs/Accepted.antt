@@ -33,8 +33,8 @@ pub record FitsText (mesh : Mesh) (list : List Name) (vertex_values element_valu
 
 -- the law that the bytes of a mesh that is written are read as the same text
 abbrev pub WrittenMeshIsRead : Type 0
-WrittenMeshIsRead = (mesh : Mesh) (members : Names) (list : List Name) (vertex_values element_values : List ℤ) → IsWriting mesh members list vertex_values element_values →
-    FitsText mesh list vertex_values element_values →
+WrittenMeshIsRead = (mesh : Mesh) (members : Names) (list : List Name) (vertex_values element_values : List ℤ) →
+    IsWriting mesh members list vertex_values element_values → FitsText mesh list vertex_values element_values →
     meaning (macro_bytes (written_mesh mesh list vertex_values element_values)) ≡ Ok (written_mesh mesh list vertex_values element_values)
 
 -- all macro coordinates have at most ten decimals, and no macro element is flat
@@ -45,12 +45,14 @@ pub record IsThick (mesh : Mesh) : Type 0 where
 -- what the text that was read says is accepted: the check refuses it for nothing but want of memory, and in the mesh that it makes grades differ across each inner edge as the leaves' levels do
 pub record IsAccepted (mesh : Mesh) (list : List Name) (text : MacroText) : Type 0 where
   pub passes : (refusal : CheckRefusal) → IsCheckRefusal text refusal → refusal ≡ Memory
-  pub grades : (other : Mesh) → IsMeshOf text other → (r s : ℕ) (e f : Edge) → r < size (shape_of other) → s < size (shape_of other) → Shares (shape_of other) r e s f →
+  pub grades : (other : Mesh) → IsMeshOf text other → (r s : ℕ) (e f : Edge) →
+      r < size (shape_of other) → s < size (shape_of other) → Shares (shape_of other) r e s f →
       level (shape_of mesh) (leaf_at list r) + grade_of (shape_of other) s ≡ level (shape_of mesh) (leaf_at list s) + grade_of (shape_of other) r
 
 -- the law that a written mesh within the limits, in which no leaf is flat, is read as what was written and accepted; and that no leaf is flat where no macro element is and no coordinate has more than ten decimals
 abbrev pub WrittenAccepted : Type 0
-WrittenAccepted = (mesh : Mesh) (members : Names) (list : List Name) (vertex_values element_values : List ℤ) → IsWriting mesh members list vertex_values element_values →
+WrittenAccepted = (mesh : Mesh) (members : Names) (list : List Name) (vertex_values element_values : List ℤ) →
+    IsWriting mesh members list vertex_values element_values →
     (IsThick mesh → NoLeafIsFlat mesh list)
     × (FitsText mesh list vertex_values element_values → NoLeafIsFlat mesh list →
     (meaning (macro_bytes (written_mesh mesh list vertex_values element_values)) ≡ Ok (written_mesh mesh list vertex_values element_values))

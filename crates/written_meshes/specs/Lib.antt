@@ -5,3 +5,4 @@ pub mod WrittenTexts
 pub mod Passing
 pub mod ValueRenaming
 pub mod Accepted
+pub mod Continued

@@ -37,7 +37,8 @@ AreRowsFor other rename (new ∷ news) (old ∷ olds) = IsRowFor other rename ne
 AreRowsFor other rename news olds = ⊥
 
 -- a round on a conforming forest that kept the members of the written one; and its rows with their places named anew, on the forest that stands for it
-pub record IsRoundFor (mesh other : Shape) (x y : Across) (members : Names) (rename : Name → Name) (room : Room) (old new_old : Names) (rows new_rows : List MarkRow) (new : Names) : Type 0 where
+pub record IsRoundFor (mesh other : Shape) (x y : Across) (members : Names) (rename : Name → Name) (room : Room)
+    (old new_old : Names) (rows new_rows : List MarkRow) (new : Names) : Type 0 where
   pub forest : IsForest mesh old
   pub partners : HoldsPartners x old
   pub within : Within members old

@@ -39,6 +39,7 @@ LeavesAreSet mesh members = AreSet leaf_holding (IsLeaf mesh members) SetsLeaf
 -- the law that where leaves have the values of those that they stand for, they have them too after rows, with their places named anew, have set them
 abbrev pub SetValuesStand : Type 0
 SetValuesStand = (mesh other : Shape) (x y : Across) (members : Names) (rename : Name → Name) → IsRenaming mesh other x y members rename →
-    (before new_before : Names) (rows new_rows : List MarkRow) (old set new_old new_set : Held) → ForestStandsFor mesh other x members rename new_before before →
+    (before new_before : Names) (rows new_rows : List MarkRow) (old set new_old new_set : Held) →
+    ForestStandsFor mesh other x members rename new_before before →
     AreOfForest mesh before old → ValuesStandFor other rename new_old old → AreRowsFor other rename new_rows rows →
     LeavesAreSet mesh before rows old set → LeavesAreSet other new_before new_rows new_old new_set → ValuesStandFor other rename new_set set

@@ -1,6 +1,7 @@
 //! Laws over the definitions alone. Each function takes nothing and answers nothing: its contract is
 //! the law.
 ghost use Rattle.written_meshes.specs.Accepted.{WrittenAccepted};
+ghost use Rattle.written_meshes.specs.Continued.{WrittenContinues};
 ghost use Rattle.written_meshes.specs.ForestRenaming.{CoarsenedStandsFor, LeastStandsFor, PatchesAreFewer, WrittenIsRenaming};
 ghost use Rattle.written_meshes.specs.Passing.{WrittenPasses};
 ghost use Rattle.written_meshes.specs.Renaming.{GradesAreLow, GradesDiffer, WrittenFits};
@@ -10,6 +11,7 @@ ghost use Rattle.written_meshes.specs.WrittenTexts.{NoNameIsFlat, PointsAndLabel
 
 use compat_check::laws;
 use macro_file::laws as texts;
+use mesh_rounds::laws as rounds;
 
 /// The elements of a written mesh are valid, and the levels of its leaves fit as their grades.
 pub fn written_fits()
@@ -99,4 +101,15 @@ pub fn written_accepted()
 {
     laws::midpoints_exact();
     texts::written_is_read();
+}
+
+/// Rounds that were not refused, and coarsened no patch that was there when the mesh was written, are
+/// not refused from the written mesh, and lead to what they led to without the writing.
+pub fn written_continues()
+    ensures { WrittenContinues }
+{
+    rounds::new_is_forest();
+    rounds::new_holds_partners();
+    rounds::values_stay();
+    rounds::first_values();
 }
