@@ -39,7 +39,7 @@ module _ (k : Site) (v : Sight) (ps : List Patch) where
   kept_answer (Ok d) o e = o
   kept_answer (Err r) o e = e
 
-  kept_claims : (f : Option Spot) → AreKept k v ps f → v.claims ≡ claims_with k.layout f (claims_before k.layout ps [])
+  pub kept_claims : (f : Option Spot) → AreKept k v ps f → v.claims ≡ claims_with k.layout f (claims_before k.layout ps [])
   kept_claims None h = h.claims
   kept_claims (Some spot) h = h.1 ∙ ap (λ (cs : List Claim). claim (place_number k.layout spot.first) (mate_number k.layout spot.second) Failed ∷ cs) h.4.claims
 

@@ -1,7 +1,8 @@
 -- Calls of a pass for names, one after the other.
-use Rattle.std.proofs.Common.{◌≡◌, ℕ, ◌+◌, ◌<◌, Bool, true, false, List, [], ◌∷◌, ◌++◌, length, take, get_or, length-append, refl, sym, ap, ◌∙◌, subst, inl, inr, ◌⊎◌, true≢false}
+use Rattle.std.proofs.Common.{◌≡◌, ℕ, ◌+◌, ◌<◌, Bool, true, false, List, [], ◌∷◌, ◌++◌, length, take, get_or, length-append, refl, sym, ap, ◌∙◌, subst, inl, inr, ◌⊎◌, true≢false, All}
 use Rattle.std.specs.Prelude.{Ok, Err, IfOk, IfErr}
 use Rattle.std.proofs.lemmas.List.{take_more}
+use Rattle.std.proofs.lemmas.List.Elements.{All-nil, All-cons}
 use Rattle.patch_walk.proofs.Learning.{works_more}
 use Rattle.mesh_names.specs.Chains.{chain_of}
 use Rattle.mesh_names.specs.Forests.{Has}
@@ -21,7 +22,7 @@ use Rattle.patch_claims.specs.Refined.{IsRefined}
 use Rattle.patch_claims.specs.declared.needs.ClaimRefusal.TheVariants.{Deferred, Full}
 use Rattle.patch_claims.specs.declared.patch.Spot.{Spot}
 use Rattle.patch_claims.specs.declared.refine.Done.TheVariants.{Published, Already}
-use Rattle.table_passes.specs.Answers.{Answer, IsAimed, CanRefine, IsAnswer, is_full, HasAnswered, Ran, IsWorked}
+use Rattle.table_passes.specs.Answers.{Answer, IsAimed, CanRefine, IsAnswer, is_full, HasAnswered, NoneDeferred, Ran, IsWorked, is_deferred}
 
 module _ (mesh : Shape) (x : Across) (u v : Sight) (n : Name) where
   -- the answer, by its case
@@ -77,3 +78,16 @@ module _ (mesh : Shape) (x : Across) where
       ran = subst (λ (k : ℕ). Ran mesh x u (take k names) more w) (sym more_count) ran_next;
       ends = inr (answers, t.0, t.1, t.2, grew ∙ ap (λ (b : Answer). answers ++ b ∷ []) t.3);
     }
+
+-- worker 0 is never deferred
+not_deferred : (mesh : Shape) (x : Across) (u v : Sight) (n : Name) (a : Answer) → v.work.number ≡ 0 → IsAnswer mesh x u v n a → is_deferred a ≡ false
+not_deferred mesh x u v n (Ok d) e h = refl
+not_deferred mesh x u v n (Err (Deferred owner word)) e h = absurd (h.1.3.2.1 e)
+not_deferred mesh x u v n (Err (Full drawn free spot)) e h = refl
+
+pub none_deferred : (mesh : Shape) (x : Across) (u v : Sight) (names : List Name) (answers : List Answer) → u.work.number ≡ 0 → Ran mesh x u names answers v → NoneDeferred answers
+none_deferred mesh x u v names [] e r = All-nil (λ a. is_deferred a ≡ false)
+none_deferred mesh x u v [] (a ∷ answers) e r = absurd r
+none_deferred mesh x u v (n ∷ names) (a ∷ answers) e r =
+    let here : r.0.work.number ≡ 0 = r.1.works.number ∙ e in
+    All-cons (λ a. is_deferred a ≡ false) a answers (not_deferred mesh x u r.0 n a here r.1.answer) (none_deferred mesh x r.0 v names answers here r.2)

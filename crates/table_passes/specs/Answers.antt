@@ -1,5 +1,5 @@
 -- What the calls of a pass for names answer, one after the other.
-use Rattle.std.specs.Prelude.{◌≡◌, ℕ, Bool, true, false, List, [], ◌∷◌, ◌++◌, length, take, Result, Ok, Err, ◌⊎◌}
+use Rattle.std.specs.Prelude.{◌≡◌, ℕ, Bool, true, false, List, [], ◌∷◌, ◌++◌, length, take, Result, Ok, Err, ◌⊎◌, All}
 use Rattle.mesh_names.specs.Chains.{chain_of}
 use Rattle.mesh_names.specs.Forests.{Has}
 use Rattle.mesh_names.specs.Names.{Name}
@@ -46,6 +46,16 @@ abbrev pub is_full : Answer → Bool
 is_full (Ok done) = false
 is_full (Err (Deferred owner word)) = false
 is_full (Err (Full drawn free spot)) = true
+
+-- the patch that the name needs was claimed by another pass
+abbrev pub is_deferred : Answer → Bool
+is_deferred (Ok done) = false
+is_deferred (Err (Deferred owner word)) = true
+is_deferred (Err (Full drawn free spot)) = false
+
+-- none of the answers is that
+abbrev pub NoneDeferred : List Answer → Type 0
+NoneDeferred answers = All (λ a. is_deferred a ≡ false) answers
 
 -- a call for the name led from the view u to v, and gave this answer
 pub record HasAnswered (mesh : Shape) (x : Across) (u v : Sight) (n : Name) (a : Answer) : Type 0 where
