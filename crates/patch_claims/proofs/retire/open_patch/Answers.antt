@@ -46,8 +46,12 @@ returns-in-Err-open_children-clause-deeper c =
     let mate : StillKnows v w = subst (StillKnows v) (sym c.look_mate.ensures.view) (mate_keeps s c.args.block c.look_mate.result v) in
     let l : Later u w = subst (Later u) (sym c.look_mate.ensures.view) (mate_later s c.args.block c.look_mate.result u v c.open_children.ensures.saw) in
     let i : name_code c.in-Some.other ≡ (name_code c.in-Some.other - 1) + 1 = mate_number_of c.in-Some.other in
-    inr (name_code c.in-Some.other - 1, c.requires.mate ∙ i, (λ b. c.open_children-2.ensures.keeps.open_ _ (mate.open_ _ (c.in-Ok.ensures.open_ b))),
-        subst (λ (k : ℕ). IsDeeperIn s u x k e) i (deeper_in_after u w x l s (name_code c.in-Some.other) e c.in-Err-open_children.ensures.deeper))
+    inr (
+      name_code c.in-Some.other - 1,
+      c.requires.mate ∙ i,
+      (λ b. c.open_children-2.ensures.keeps.open_ _ (mate.open_ _ (c.in-Ok.ensures.open_ b))),
+      subst (λ (k : ℕ). IsDeeperIn s u x k e) i (deeper_in_after u w x l s (name_code c.in-Some.other) e c.in-Err-open_children.ensures.deeper),
+    )
 
 pub returns-in-Ok-open_children-clause-first : goal.returns-in-Ok-open_children-clause-first
 returns-in-Ok-open_children-clause-first c =

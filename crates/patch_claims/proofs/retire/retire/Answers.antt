@@ -19,7 +19,7 @@ pub returns-in_default-clause-retired : goal.returns-in_default-clause-retired
 returns-in_default-clause-retired g c =
     let v = sight c.stand_finished.new.pass in
     absurd (none_above c.args.table.now.site v c.look_told.ensures.closed c.args.patch.first c.requires.inner.0 c.requires.inner.1 c.look_told.ensures.present
-        (old_on (sight c.args.pass.now) v c.stand_finished.ensures.keeps (name_code c.args.patch.first) (c.requires.old (name_code c.args.patch.first) (name_code c.args.patch.first, c.requires.aimed, inl (λ i. name_code c.args.patch.first)))) c.in_default.ensures.none)
+    (old_on (sight c.args.pass.now) v c.stand_finished.ensures.keeps (name_code c.args.patch.first) (c.requires.old (name_code c.args.patch.first) (name_code c.args.patch.first, c.requires.aimed, inl (λ i. name_code c.args.patch.first)))) c.in_default.ensures.none)
 
 pub open_patch-requires-clause-second : goal.open_patch-requires-clause-second
 open_patch-requires-clause-second g c = second_inner (shape_of c.args.table.now.site.mesh.now) (across_in c.args.table.now.site.mesh.now) (subst (λ (m : MacroMesh). Tells (shape_of m) (across_in m)) c.mesh.ensures c.element_count-count.ensures.tells) c.args.patch c.requires.inner c.requires.patch
@@ -38,9 +38,10 @@ open_patch-requires-clause-old g c =
     let k : StillKnows u v = still_more c.stand_finished.ensures.keeps c.visit_finished.ensures.keeps in
     let old = list_old_on s u v k c.requires.old in
     let whole = list_whole_on s u v k c.requires.whole in
-    let aimed = subst (λ (p : Plan). HasEntry p.retire (name_code c.args.patch.first)) (sym k.plan) c.requires.aimed in
-    (first_old s v old whole (name_code c.args.patch.first) aimed,
-        second_old s v old whole (name_code c.args.patch.first) aimed c.args.patch.second (first_mate c.args.table.now.site (subst (λ (m : MacroMesh). Tells (shape_of m) (across_in m)) c.mesh.ensures c.element_count-count.ensures.tells) c.args.patch c.requires.inner c.requires.patch))
+    let aimed = subst (λ (p : Plan). HasEntry p.retire (name_code c.args.patch.first)) (sym k.plan) c.requires.aimed in (
+      first_old s v old whole (name_code c.args.patch.first) aimed,
+      second_old s v old whole (name_code c.args.patch.first) aimed c.args.patch.second (first_mate c.args.table.now.site (subst (λ (m : MacroMesh). Tells (shape_of m) (across_in m)) c.mesh.ensures c.element_count-count.ensures.tells) c.args.patch c.requires.inner c.requires.patch),
+    )
 
 pub returns-in-Err-clause-deeper : goal.returns-in-Err-clause-deeper
 returns-in-Err-clause-deeper g c =
