@@ -1,9 +1,10 @@
 -- A mesh that rounds adapt, as contracts see it.
-use Rattle.std.specs.Prelude.{◌≡◌, ℕ}
+use Rattle.std.specs.Prelude.{◌≡◌, ℕ, List}
+use Rattle.mesh_names.specs.declared.rows.MarkRow.{MarkRow}
 use Rattle.compat_check.specs.Meshes.{Mesh}
-use Rattle.forest_plain.specs.AnyForest.{Seen}
+use Rattle.forest_plain.specs.AnyForest.{Seen, room_in}
 use Rattle.forest_plain.specs.declared.any_forest.Forest.{Ghosts}
-use Rattle.mesh_rounds.specs.State.{State, with_values}
+use Rattle.mesh_rounds.specs.State.{IsMeshRound, State, with_values}
 use Rattle.mesh_rounds.specs.declared.adaptive.AdaptiveMesh.{AdaptiveMesh}
 
 module _ {F : Type 0} {g : Ghosts F} where
@@ -22,6 +23,10 @@ module _ {F : Type 0} {g : Ghosts F} where
   -- the forest with its values
   abbrev pub state_of : AdaptiveMesh F g → State
   state_of it = with_values (g.seen it.forest).members it.values
+
+  -- a round with these rows leads from one to the other
+  abbrev pub LeadsTo : List MarkRow → AdaptiveMesh F g → AdaptiveMesh F g → Type 0
+  LeadsTo rows old new = IsMeshRound (mesh_of old) (room_in (seen_of old) (kept_of new)) rows (state_of old) (state_of new)
 
   -- nothing has changed
   pub record IsSame (old new : AdaptiveMesh F g) : Type 0 where

@@ -6,9 +6,9 @@ ghost use Rattle.mesh_names.specs.Marks.{IsWellFormed};
 ghost use Rattle.compat_check.specs.Meshes.{across_in, shape_of};
 ghost use Rattle.dof_transfer.specs.Held.{value_of, worth_of};
 ghost use Rattle.dof_transfer.specs.VertexValues.{value_at};
-ghost use Rattle.forest_plain.specs.AnyForest.{IsRefusal, IsUsedUp, KeepsRest, one_fewer, room_in};
+ghost use Rattle.forest_plain.specs.AnyForest.{IsRefusal, IsUsedUp, KeepsRest, one_fewer};
 ghost use Rattle.mesh_rounds.specs.Resumed.{IsResumed, IsWhole};
-ghost use Rattle.mesh_rounds.specs.State.{Belongs, IsFirst, IsMeshRound, with_values};
+ghost use Rattle.mesh_rounds.specs.State.{Belongs, IsFirst, with_values};
 ghost use Rattle.mesh_rounds.specs.Texts.{AreCounts, AreLeaves, IsTextOfState};
 
 use crate::resuming::resumed;
@@ -39,7 +39,7 @@ pub struct Counts {
 /// A conforming mesh that rounds refine and coarsen, with the values of its vertices and leaves.
 ///
 /// Where memory runs out in a round, the mesh is lost: from then on each round and each text is refused
-/// for want of memory, and what the other calls answer is of no use.
+/// as if memory had run out, and what the other calls answer is of no use.
 #[derive(Drop)]
 pub struct AdaptiveMesh<'m, F: Forest + Drop> {
     alloc: Global,
@@ -53,7 +53,7 @@ pub struct AdaptiveMesh<'m, F: Forest + Drop> {
     ghost state: { is_lost ≡ false → Belongs mesh.now (with_values (F.seen forest).members values) },
 }
 
-// Whether it is want of memory.
+// Whether memory ran out.
 fn is_memory(answer: &Result<(), RoundRefusal>) -> bool
     ensures { result ≡ false → IfErr answer.now (λ r. r ≢ RoundRefusal.Memory) }
 {
@@ -61,7 +61,7 @@ fn is_memory(answer: &Result<(), RoundRefusal>) -> bool
 }
 
 impl<'m, F: Forest + Drop> AdaptiveMesh<'m, F> {
-    ghost use Rattle.mesh_rounds.specs.Adaptive.{IsSame, kept_of, mesh_of, seen_of, state_of};
+    ghost use Rattle.mesh_rounds.specs.Adaptive.{IsSame, LeadsTo, kept_of, mesh_of, seen_of, state_of};
 
     /// The macro mesh with its values, from a forest over it in which nothing is bisected.
     pub fn new(
@@ -131,11 +131,10 @@ impl<'m, F: Forest + Drop> AdaptiveMesh<'m, F> {
     /// the mesh is refined and coarsened; and the values go along (Mitchell's bisection): a new vertex has
     /// half the sum of the values at the ends of the edge that it bisects, rounded down, child 0 of an
     /// element half of its value, rounded down, and child 1 the rest, and a coarsened element the sum of
-    /// its children's. After a refusal nothing has changed, but for want of memory, by which the mesh is
-    /// lost.
+    /// its children's. A refusal changes nothing, unless memory runs out: then the mesh is lost.
     pub fn round(&mut self, marks: &RoundMarks) -> Result<(), RoundRefusal>
         requires formed { All IsWellFormed marks.now.rows.items }
-        ensures ok { OnOk result (IsMeshRound (mesh_of self.old) (room_in (seen_of self.old) (kept_of self.new)) marks.now.rows.items (state_of self.old) (state_of self.new)) }
+        ensures ok { OnOk result (LeadsTo marks.now.rows.items self.old self.new) }
         ensures left { OnOk result ((IsUsedUp (seen_of self.old) → ⊥) × ((seen_of self.new).left ≡ one_fewer (seen_of self.old).left)) }
         ensures refused { IfErr result (IsRefusal (seen_of self.old) (kept_of self.new) marks.now.rows.items) }
         ensures unchanged { IfErr result (λ r. r ≢ RoundRefusal.Memory → IsSame self.old self.new) }
@@ -203,8 +202,8 @@ impl<'m, F: Forest + Drop> AdaptiveMesh<'m, F> {
         self.values.elements.values(self.alloc, names)
     }
 
-    /// The text of the mesh, in the form of a macro file with every list. Its only refusal is want of
-    /// memory. The lines are made in several threads where there are such.
+    /// The text of the mesh, in the form of a macro file with every list. It is refused only where memory
+    /// runs out. The lines are made in several threads where there are such.
     pub fn text<R: Threads + Sync>(&mut self, rt: &R) -> Result<Vec<u8>, WriterRefusal>
         ensures ok { IfOk result (λ text. IsTextOfState (mesh_of self.old) (state_of self.old) text.items) }
         ensures same { IsSame self.old self.new }
