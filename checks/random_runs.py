@@ -95,8 +95,8 @@ def random_row(draw, leaves, deep):
         number = draw.choice(numbers)
         if deep and place != "*" and draw.random() < 0.1:
             number = draw.randint(4, 7)
-        if draw.random() < 0.003:
-            number = 24
+        if leaf[1] and place != "*" and draw.random() < 0.01:
+            number = 24  # above level 24, since the leaf is bisected already
         return f"mark,{place},{number}"
     if what == "vert" and place != "*":
         place += f"/{draw.randint(0, 2)}"
