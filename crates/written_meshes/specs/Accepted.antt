@@ -22,7 +22,8 @@ use Rattle.written_meshes.specs.Passing.{NoLeafIsFlat}
 use Rattle.written_meshes.specs.Renaming.{leaf_at}
 use Rattle.written_meshes.specs.WrittenTexts.{IsWriting, area}
 
--- the mesh is that of a macro text, and what is written is within the limits of one: at most 65,535 vertices and leaves, and values that a text can hold
+-- the mesh is that of a macro text, and what is written is within the limits of one:
+-- at most 65,535 vertices and leaves, and values that a text can hold
 pub record FitsText (mesh : Mesh) (list : List Name) (vertex_values element_values : List ℤ) : Type 0 where
   pub source : MacroText
   pub of_source : IsMeshOf source mesh
@@ -42,14 +43,19 @@ pub record IsThick (mesh : Mesh) : Type 0 where
   pub tenths : AreTenths mesh.vertices
   pub thick : (r : ℕ) → r < size (shape_of mesh) → area mesh (r, []) ≡ pos 0 → ⊥
 
--- what the text that was read says is accepted: the check refuses it for nothing but want of memory, and in the mesh that it makes grades differ across each inner edge as the leaves' levels do
+-- across each inner edge of a mesh, grades differ as the levels of the leaves do that are its elements
+abbrev pub GradesDifferAsLevels : Mesh → List Name → Mesh → Type 0
+GradesDifferAsLevels mesh list other = (r s : ℕ) (e f : Edge) →
+    r < size (shape_of other) → s < size (shape_of other) → Shares (shape_of other) r e s f →
+    level (shape_of mesh) (leaf_at list r) + grade_of (shape_of other) s ≡ level (shape_of mesh) (leaf_at list s) + grade_of (shape_of other) r
+
+-- the check refuses a text only where memory runs out, and in the mesh that it makes grades differ as levels do
 pub record IsAccepted (mesh : Mesh) (list : List Name) (text : MacroText) : Type 0 where
   pub passes : (refusal : CheckRefusal) → IsCheckRefusal text refusal → refusal ≡ Memory
-  pub grades : (other : Mesh) → IsMeshOf text other → (r s : ℕ) (e f : Edge) →
-      r < size (shape_of other) → s < size (shape_of other) → Shares (shape_of other) r e s f →
-      level (shape_of mesh) (leaf_at list r) + grade_of (shape_of other) s ≡ level (shape_of mesh) (leaf_at list s) + grade_of (shape_of other) r
+  pub grades : (other : Mesh) → IsMeshOf text other → GradesDifferAsLevels mesh list other
 
--- the law that a written mesh within the limits, in which no leaf is flat, is read as what was written and accepted; and that no leaf is flat where no macro element is and no coordinate has more than ten decimals
+-- the law that a written mesh within the limits, in which no leaf is flat, is read as what was written, and accepted;
+-- and that no leaf is flat where no macro element is and no macro coordinate has more than ten decimals
 abbrev pub WrittenAccepted : Type 0
 WrittenAccepted = (mesh : Mesh) (members : Names) (list : List Name) (vertex_values element_values : List ℤ) →
     IsWriting mesh members list vertex_values element_values →

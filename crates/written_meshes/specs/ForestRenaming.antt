@@ -46,7 +46,8 @@ pub record MarksStandFor (other : Shape) (rename : Name → Name) (new old : Mar
   pub forest : StandsFor other rename new.forest old.forest
   pub marks : (n : Name) → n.0 < size other → new.marks n ≡ old.marks (rename n)
 
--- the law that the least forest of names that stand for names stands for the least forest of these, where the old one holds the forest below whose leaves the names stand
+-- the law that the least forest of names that stand for names stands for the least forest of these,
+-- where the old one holds the forest at and below whose leaves the names stand
 abbrev pub LeastStandsFor : Type 0
 LeastStandsFor = (mesh other : Shape) (x y : Across) (members : Names) (rename : Name → Name) → IsRenaming mesh other x y members rename →
     (old needs least new_old new_needs new_least : Names) → Within members old → StandsFor other rename new_old old → StandsFor other rename new_needs needs →

@@ -14,7 +14,7 @@ use Rattle.written_meshes.specs.WrittenTexts.{IsWrittenText, area}
 abbrev pub NoLeafIsFlat : Mesh → List Name → Type 0
 NoLeafIsFlat mesh list = (i : ℕ) → i < length list → area mesh (leaf_at list i) ≡ pos 0 → ⊥
 
--- the law that the check refuses a written text in which no leaf is flat for nothing but want of memory
+-- the law that the check refuses a written text in which no leaf is flat only where memory runs out
 abbrev pub WrittenPasses : Type 0
 WrittenPasses = (mesh : Mesh) (members : Names) (list : List Name) (vertex_values element_values : List ℤ) (text : MacroText) →
     IsWrittenText mesh members list vertex_values element_values text →

@@ -47,7 +47,7 @@ pub record IsRoundFor (mesh other : Shape) (x y : Across) (members : Names) (ren
   pub round : IsRound mesh x room old rows new
   pub kept : Within members new
 
--- the law that these rows are refused for nothing but want of memory, with the same pool
+-- the law that these rows, with the same pool, are refused only where memory runs out
 abbrev pub NoRefusal : Type 0
 NoRefusal = (mesh other : Shape) (x y : Across) (members : Names) (rename : Name → Name) → IsRenaming mesh other x y members rename →
     (room : Room) (old new_old : Names) (rows new_rows : List MarkRow) (new : Names) →

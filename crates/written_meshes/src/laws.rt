@@ -78,7 +78,7 @@ pub fn no_name_is_flat()
     laws::midpoints_exact();
 }
 
-/// The check refuses a written text in which no leaf is flat for nothing but want of memory.
+/// The check refuses a written text in which no leaf is flat only where memory runs out.
 pub fn written_passes()
     ensures { WrittenPasses }
 {}
