@@ -69,19 +69,19 @@ module _ (forests : NewIsForest) (holds : NewHoldsPartners) (stay : ElementsStay
     vertices = first_vertices mesh other state list first g;
   }
 
-  module _ (new old : State) (i : Going new old) (rows new_rows : List MarkRow) (rows_for : AreRowsFor (shape_of other) (renamed list) new_rows rows) (room : Room) (next : State) (done : IsMeshRound mesh room rows old next) (kept : Within state.members next.members) where
+  module _ (new old : State) (i : Going new old) (rows new_rows : List MarkRow) (rows_for : AreRowsFor (shape_of other) (renamed list) new_rows rows) (room : Room) (next : State) (done : IsMeshRound mesh room rows old next) where
     round_for : IsRoundFor (shape_of mesh) (shape_of other) (across_in mesh) (across_in other) state.members (renamed list) room old.members new.members rows new_rows next.members
-    round_for = record { forest = i.is_state.forest; partners = i.is_state.partners; within = i.within; stands = i.members; rows_for = rows_for; round = done.forest.round; kept = kept }
+    round_for = record { forest = i.is_state.forest; partners = i.is_state.partners; within = i.within; stands = i.members; rows_for = rows_for; round = done.forest.round }
 
     not_refused : (refusal : RoundRefusal) → IsRoundRefusal (shape_of other) (across_in other) room new.members new_rows refusal → refusal ≡ Memory
     not_refused refusal h = no_refusal (shape_of mesh) (shape_of other) (across_in mesh) (across_in other) state.members (renamed list) (ren mesh other state list first g) room old.members new.members rows new_rows next.members round_for refusal h
 
-    goes : (new_next : State) → IsMeshRound other room new_rows new new_next → Going new_next next
-    goes new_next here =
+    goes : Within state.members next.members → (new_next : State) → IsMeshRound other room new_rows new new_next → Going new_next next
+    goes kept new_next here =
         let on : IsRoundOn mesh room old.members rows next.members done.delta = record { checked = g.again.written.writing.checked; forest = i.is_state.forest; partners = i.is_state.partners; round = done.forest } in
         let forest = forests mesh room old.members rows next.members done.delta on in
         let partners = holds mesh room old.members rows next.members done.delta on in
-        let stands = round_stands_for (shape_of mesh) (shape_of other) (across_in mesh) (across_in other) state.members (renamed list) (ren mesh other state list first g) room old.members new.members rows new_rows next.members new_next.members round_for here.forest.round in
+        let stands = round_stands_for (shape_of mesh) (shape_of other) (across_in mesh) (across_in other) state.members (renamed list) (ren mesh other state list first g) room old.members new.members rows new_rows next.members new_next.members round_for kept here.forest.round in
         let was = forest_of new old i in
         let now : Renamed new_next.members next.members = record { forest = forest; partners = partners; within = kept; stands = stands } in
         let set = set_values_stand (shape_of mesh) (shape_of other) (across_in mesh) (across_in other) state.members (renamed list) (ren mesh other state list first g) old.members new.members rows new_rows old.elements done.elements.set new.elements here.elements.set was i.is_state.elements i.elements rows_for done.elements.rows_set here.elements.rows_set in
@@ -117,5 +117,5 @@ pub written_continues : NewIsForest → NewHoldsPartners → ElementsStay → Fi
 written_continues forests holds stay firsts mesh state list other first g rounds new_rounds rooms end new_end f there here =
     let i = run forests holds stay firsts mesh other state list first g rounds new_rounds rooms first state new_end end (starts forests holds stay firsts mesh other state list first g) f there here in (
       all_stands forests holds stay firsts mesh other state list first g new_end end i,
-      λ rows new_rows room next refusal rows_for done kept refused. not_refused forests holds stay firsts mesh other state list first g new_end end i rows new_rows rows_for room next done kept refusal refused,
+      λ rows new_rows room next refusal rows_for done refused. not_refused forests holds stay firsts mesh other state list first g new_end end i rows new_rows rows_for room next done refusal refused,
     )

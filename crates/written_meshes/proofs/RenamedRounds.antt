@@ -232,8 +232,8 @@ module _ (mesh other : Shape) (x y : Across) (members : Names) (rename : Name �
       absurd (omega (arith, few, fits, count, full))
   refused Memory h = refl
 
-  stands : (new_new : Names) → IsRound other y room new_old new_rows new_new → StandsFor other rename new_new new
-  stands new_new done =
+  stands : (new_new : Names) → Within members new → IsRound other y room new_old new_rows new_new → StandsFor other rename new_new new
+  stands new_new kept done =
       let there = is.round.is_refined.least in
       let here = done.is_refined.least in
       let refined = refined_stands done.refined done.is_refined in
@@ -244,10 +244,10 @@ module _ (mesh other : Shape) (x y : Across) (members : Names) (rename : Name �
         forest = refined;
         marks = λ n h. (λ i. cond (leaves-same mesh other x y members rename r old new_old is.forest is.partners is.within is.stands n h i) (marks-same mesh other x y members rename r old new_old is.forest is.partners is.within is.stands rows new_rows is.rows_for n h i) (pos 0));
       })
-      is.round.coarsened is.kept done.coarsened
+      is.round.coarsened kept done.coarsened
 
 pub no_refusal : NoRefusal
 no_refusal mesh other x y members rename r room old new_old rows new_rows new is refusal h = refused mesh other x y members rename r room old new_old rows new_rows new is refusal h
 
 pub round_stands_for : RoundStandsFor
-round_stands_for mesh other x y members rename r room old new_old rows new_rows new new_new is done = stands mesh other x y members rename r room old new_old rows new_rows new is new_new done
+round_stands_for mesh other x y members rename r room old new_old rows new_rows new new_new is kept done = stands mesh other x y members rename r room old new_old rows new_rows new is new_new kept done

@@ -43,18 +43,18 @@ pub record IsGoingOn (mesh : Mesh) (state : State) (list : List Name) (other : M
   pub again : IsReadAgain mesh state.members list vertex_values element_values other
   pub is_first : IsFirst other first
 
--- the next round of the uninterrupted run, where it coarsens no patch that was there at the writing,
--- is refused from the other mesh, with the same pool, only where memory runs out
-abbrev pub NextIsNotRefused : Mesh → Mesh → Names → List Name → State → State → Type 0
-NextIsNotRefused mesh other members list new old = (rows new_rows : List MarkRow) (room : Room) (next : State) (refusal : RoundRefusal) →
-    AreRowsFor (shape_of other) (renamed list) new_rows rows → IsMeshRound mesh room rows old next → Within members next.members →
+-- the next round, also one that coarsens a patch that was there at the writing, is refused from the other mesh, with the same pool,
+-- only where memory runs out
+abbrev pub NextIsNotRefused : Mesh → Mesh → List Name → State → State → Type 0
+NextIsNotRefused mesh other list new old = (rows new_rows : List MarkRow) (room : Room) (next : State) (refusal : RoundRefusal) →
+    AreRowsFor (shape_of other) (renamed list) new_rows rows → IsMeshRound mesh room rows old next →
     IsRoundRefusal (shape_of other) (across_in other) room new.members new_rows refusal → refusal ≡ Memory
 
--- the law that rounds which are not refused, and coarsen no patch that was there at the writing, lead from the written mesh
--- to a state that stands for theirs, and that a next such round is not refused there
+-- the law that rounds which coarsen no patch that was there at the writing lead from the written mesh to a state that stands for theirs,
+-- and that what is not refused after them is not refused there
 abbrev pub WrittenContinues : Type 0
 WrittenContinues = (mesh : Mesh) (state : State) (list : List Name) (other : Mesh) (first : State) → IsGoingOn mesh state list other first →
     (rounds new_rounds : List (List MarkRow)) (rooms : List Room) (end new_end : State) →
     AllZip (λ rows new_rows. AreRowsFor (shape_of other) (renamed list) new_rows rows) rounds new_rounds →
     AreRounds mesh state.members rounds rooms state end → AreRounds other empty new_rounds rooms first new_end →
-    StateStandsFor mesh other list new_end end × NextIsNotRefused mesh other state.members list new_end end
+    StateStandsFor mesh other list new_end end × NextIsNotRefused mesh other list new_end end

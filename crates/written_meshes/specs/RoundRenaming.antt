@@ -36,7 +36,7 @@ AreRowsFor other rename [] [] = Unit {0}
 AreRowsFor other rename (new ∷ news) (old ∷ olds) = IsRowFor other rename new old × AreRowsFor other rename news olds
 AreRowsFor other rename news olds = ⊥
 
--- a round on a conforming forest that kept the members of the written one; and its rows with their places named anew, on the forest that stands for it
+-- a round on a conforming forest that holds the written one; and its rows with their places named anew, on the forest that stands for it
 pub record IsRoundFor (mesh other : Shape) (x y : Across) (members : Names) (rename : Name → Name) (room : Room)
     (old new_old : Names) (rows new_rows : List MarkRow) (new : Names) : Type 0 where
   pub forest : IsForest mesh old
@@ -45,7 +45,6 @@ pub record IsRoundFor (mesh other : Shape) (x y : Across) (members : Names) (ren
   pub stands : StandsFor other rename new_old old
   pub rows_for : AreRowsFor other rename new_rows rows
   pub round : IsRound mesh x room old rows new
-  pub kept : Within members new
 
 -- the law that these rows, with the same pool, are refused only where memory runs out
 abbrev pub NoRefusal : Type 0
@@ -54,9 +53,9 @@ NoRefusal = (mesh other : Shape) (x y : Across) (members : Names) (rename : Name
     IsRoundFor mesh other x y members rename room old new_old rows new_rows new →
     (refusal : RoundRefusal) → IsRoundRefusal other y room new_old new_rows refusal → refusal ≡ Memory
 
--- the law that their round leads to the forest of the names that stand for the new members
+-- the law that their round leads to the forest of the names that stand for the new members, where these hold the written forest
 abbrev pub RoundStandsFor : Type 0
 RoundStandsFor = (mesh other : Shape) (x y : Across) (members : Names) (rename : Name → Name) → IsRenaming mesh other x y members rename →
     (room : Room) (old new_old : Names) (rows new_rows : List MarkRow) (new new_new : Names) →
-    IsRoundFor mesh other x y members rename room old new_old rows new_rows new →
+    IsRoundFor mesh other x y members rename room old new_old rows new_rows new → Within members new →
     IsRound other y room new_old new_rows new_new → StandsFor other rename new_new new

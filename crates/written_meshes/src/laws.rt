@@ -49,13 +49,13 @@ pub fn patches_are_fewer()
     ensures { PatchesAreFewer }
 {}
 
-/// A round that was not refused, and coarsened no patch of the forest that was written, is not refused
-/// from the written mesh.
+/// A round that was not refused is not refused from the written mesh.
 pub fn no_refusal()
     ensures { NoRefusal }
 {}
 
-/// The forest after such a round stands for the forest after the round from the mesh that was written.
+/// The forest after such a round stands for the forest after the round from the mesh that was written,
+/// where this one coarsened no patch of the forest that was written.
 pub fn round_stands_for()
     ensures { RoundStandsFor }
 {}
@@ -103,8 +103,8 @@ pub fn written_accepted()
     texts::written_is_read();
 }
 
-/// Rounds that were not refused, and coarsened no patch that was there when the mesh was written, are
-/// not refused from the written mesh, and lead to what they led to without the writing.
+/// Rounds that coarsened no patch that was there when the mesh was written lead from the written mesh to
+/// what they led to without the writing, and what is not refused after them is not refused there.
 pub fn written_continues()
     ensures { WrittenContinues }
 {
