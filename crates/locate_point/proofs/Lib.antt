@@ -18,3 +18,4 @@ pub mod Filling
 pub mod Sorting
 pub mod Tops
 pub mod Placed
+pub mod TopLeaves

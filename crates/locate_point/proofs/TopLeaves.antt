@@ -22,6 +22,7 @@ no_names : Names
 no_names = from_list []
 
 nothing : (n : Name) → Has no_names n → ⊥
+unfolding no_names
 nothing n h = has-in n [] h
 
 unsplit : (n : Name) → contains no_names n ≡ false

@@ -9,6 +9,8 @@ pub mod laws;
 mod locating;
 mod locator;
 mod making;
+#[cfg(test)]
+mod place_tests;
 mod plain;
 mod points;
 mod ranks;

@@ -1,5 +1,7 @@
 //! Points are located by each of the three ways, on meshes in which nothing is bisected.
-ghost use Rattle.std.specs.Prelude.{IfOk};
+ghost use Rattle.std.specs.Prelude.{IfOk, IsTrue, ◌↔◌};
+ghost use Rattle.compat_check.specs.Within.{IsWithin};
+ghost use Rattle.macro_file.specs.Limits.{AtMost};
 ghost use Rattle.locate_point.specs.Locating.{AreLeaves};
 
 use crate::making::macro_names;
@@ -29,33 +31,51 @@ fn top_leaves(alloc: Global, mesh: &MacroMesh) -> Result<Vec<ElemName>, AllocErr
     Ok(names)
 }
 
-// The macro element of a place; 9 where there is none.
-fn element(place: Option<ElemName>) -> u32 {
-    match place {
-        None => 9,
-        Some(name) => name.root(),
-    }
+// Whether a coordinate is in the range of a mesh.
+fn is_in_range(coordinate: i64) -> bool
+    ensures { IsTrue result ↔ AtMost 4096000000000000000 coordinate }
+{
+    coordinate.unsigned_abs() <= 4_096_000_000_000_000_000
 }
 
-// The macro element around a point, by which each of the three ways is told; 10 where they differ,
-// or where the point is out of range.
-fn element_around(alloc: Global, mesh: &MacroMesh, point: Point) -> Result<u32, AllocError> {
+// The macro element of a place.
+fn element(place: Option<ElemName>) -> Option<u32> {
+    place.map(|name| name.root())
+}
+
+// Whether each of the three ways answers that the point is in this macro element, or in none.
+fn all_agree(
+    alloc: Global,
+    mesh: &MacroMesh,
+    leaves: &[ElemName],
+    point: Point,
+    wanted: Option<u32>,
+) -> Result<bool, AllocError>
+    requires leaves { AreLeaves mesh.now leaves.now }
+    requires point { IsWithin point }
+{
     let (x, y) = point;
-    if x.unsigned_abs() > 4_096_000_000_000_000_000
-        || y.unsigned_abs() > 4_096_000_000_000_000_000
-    {
-        return Ok(10);
+    if is_exact(mesh) && element(find(mesh, leaves, x, y)) != wanted {
+        return Ok(false);
     }
+    let locator = Locator::new(alloc, mesh, leaves)?;
+    let located = element(locator.place(point));
+    Ok(located == wanted && element(find_plain(mesh, leaves, x, y)) == wanted)
+}
+
+// The same for any point, where nothing is bisected; no way answers for a point out of range.
+fn all_answer(
+    alloc: Global,
+    mesh: &MacroMesh,
+    point: Point,
+    wanted: Option<u32>,
+) -> Result<bool, AllocError> {
     let leaves = top_leaves(alloc, mesh)?;
-    let plain = element(find_plain(mesh, &leaves, x, y));
-    let locator = Locator::new(alloc, mesh, &leaves)?;
-    if element(locator.place(point)) != plain {
-        return Ok(10);
+    if is_in_range(point.0) && is_in_range(point.1) {
+        all_agree(alloc, mesh, &leaves, point, wanted)
+    } else {
+        Ok(false)
     }
-    if is_exact(mesh) && element(find(mesh, &leaves, x, y)) != plain {
-        return Ok(10);
-    }
-    Ok(plain)
 }
 
 #[test]
@@ -63,13 +83,13 @@ fn a_point_of_the_square_has_the_least_element(rt: HostRuntime) -> Result<(), Fa
     let alloc = rt.alloc();
     let mesh = mesh_of(alloc, SQUARE)?;
     let half = UNIT / 2;
-    assert_eq!(rt; element_around(alloc, &mesh, (half, 0))?, 0);
-    assert_eq!(rt; element_around(alloc, &mesh, (half, half))?, 0);
-    assert_eq!(rt; element_around(alloc, &mesh, (UNIT, UNIT))?, 0);
-    assert_eq!(rt; element_around(alloc, &mesh, (half, half + 1))?, 1);
-    assert_eq!(rt; element_around(alloc, &mesh, (0, UNIT))?, 1);
-    assert_eq!(rt; element_around(alloc, &mesh, (0, UNIT + 1))?, 9);
-    assert_eq!(rt; element_around(alloc, &mesh, (-1, 0))?, 9);
+    assert!(rt; all_answer(alloc, &mesh, (half, 0), Some(0))?);
+    assert!(rt; all_answer(alloc, &mesh, (half, half), Some(0))?);
+    assert!(rt; all_answer(alloc, &mesh, (UNIT, UNIT), Some(0))?);
+    assert!(rt; all_answer(alloc, &mesh, (half, half + 1), Some(1))?);
+    assert!(rt; all_answer(alloc, &mesh, (0, UNIT), Some(1))?);
+    assert!(rt; all_answer(alloc, &mesh, (0, UNIT + 1), None)?);
+    assert!(rt; all_answer(alloc, &mesh, (-1, 0), None)?);
     Ok(())
 }
 
@@ -78,8 +98,8 @@ fn of_triangles_that_overlap_the_first_counts(rt: HostRuntime) -> Result<(), Fai
     let alloc = rt.alloc();
     let mesh = mesh_of(alloc, OVERLAPPING)?;
     assert!(rt; !is_exact(&mesh));
-    assert_eq!(rt; element_around(alloc, &mesh, (0, UNIT / 4))?, 0);
-    assert_eq!(rt; element_around(alloc, &mesh, (0, UNIT / 2))?, 1);
-    assert_eq!(rt; element_around(alloc, &mesh, (0, 2 * UNIT + 1))?, 9);
+    assert!(rt; all_answer(alloc, &mesh, (0, UNIT / 4), Some(0))?);
+    assert!(rt; all_answer(alloc, &mesh, (0, UNIT / 2), Some(1))?);
+    assert!(rt; all_answer(alloc, &mesh, (0, 2 * UNIT + 1), None)?);
     Ok(())
 }

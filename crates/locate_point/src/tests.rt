@@ -123,7 +123,7 @@ fn points_stand_between_blanks_and_empty_lines(rt: HostRuntime) -> Result<(), Fa
     Ok(())
 }
 
-const SQUARE: &str = "number of vertices: 4
+pub(crate) const SQUARE: &str = "number of vertices: 4
 number of elements: 2
 vertex coordinates: 0 0 1 0 1 1 0 1
 element vertices: 2 0 1 0 2 3
@@ -135,7 +135,7 @@ vertex coordinates: 0 0 1 0 0 1 0.33333333333333331 0.5
 element vertices: 0 1 2
 ";
 
-fn mesh_of(alloc: Global, text: &str) -> Result<MacroMesh, AllocError> {
+pub(crate) fn mesh_of(alloc: Global, text: &str) -> Result<MacroMesh, AllocError> {
     if text.len() > 1000 {
         return Err(AllocError);
     }
