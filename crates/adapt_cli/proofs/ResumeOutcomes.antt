@@ -22,7 +22,7 @@ use Rattle.restart_file.specs.Kept.{IsKept, set_of}
 use Rattle.adapt_words.specs.Restarts.{ResumeWords}
 use Rattle.adapt_cli.specs.FaultTexts.{Fault, full_forest, no_round_left}
 use Rattle.adapt_cli.specs.Marks.{IsNoRoundLeft}
-use Rattle.adapt_cli.specs.Reports.{IsTextOfState}
+use Rattle.mesh_rounds.specs.Texts.{IsTextOfState}
 use Rattle.adapt_cli.specs.Resuming.{CanGoOn, IsForestTooLarge, IsStart, IsTooLarge, ResumesTo, most_resumed, patches_of}
 use Rattle.adapt_cli.specs.Rounds.{LeadTo}
 use Rattle.adapt_cli.specs.Stops.{IsRun, StopsBy}

@@ -5,7 +5,7 @@ ghost use Rattle.compat_check.specs.Meshes.{across_in, shape_of};
 ghost use Rattle.mark_file.specs.Meaning.{rounds_read};
 ghost use Rattle.forest_tree.specs.Forests.{members_of, mesh_of, pool_of, sides_of};
 ghost use Rattle.mesh_rounds.specs.State.{IsState, with_values};
-ghost use Rattle.adapt_cli.specs.Reports.{HasLeaves, IsTextOfState};
+ghost use Rattle.mesh_rounds.specs.Texts.{HasLeaves, IsTextOfState};
 ghost use Rattle.adapt_cli.specs.Rounds.{LeadTo};
 ghost use Rattle.adapt_cli.specs.Stops.{IsRun, StopsBy};
 

@@ -4,7 +4,7 @@ ghost use Rattle.compat_check.specs.Meshes.{across_in, shape_of};
 ghost use Rattle.forest_tree.specs.Forests.{members_of, mesh_of, pool_of, sides_of};
 ghost use Rattle.mesh_rounds.specs.State.{IsState, with_values};
 ghost use Rattle.adapt_words.specs.Rounds.{IsSoakInRange, soak_said};
-ghost use Rattle.adapt_cli.specs.Reports.{HasLeaves};
+ghost use Rattle.mesh_rounds.specs.Texts.{HasLeaves};
 ghost use Rattle.adapt_cli.specs.Soaks.{DrawnTo, DrawsTo, IsGridMesh, IsSoakOutcome, IsSoakText, TellsOf, soak_head};
 ghost use Rattle.adapt_cli.specs.Stops.{StopsBy};
 

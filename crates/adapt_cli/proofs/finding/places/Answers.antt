@@ -12,7 +12,7 @@ use Rattle.adapt_words.specs.Finding.{find_said}
 use Rattle.adapt_cli.specs.Rounds.{LeadTo}
 use Rattle.adapt_cli.specs.Stops.{IsRun, StopsBy}
 use Rattle.adapt_cli.proofs.FindOutcomes.{find_made, find_refused}
-use Rattle.adapt_cli.proofs.Texts.{first-state}
+use Rattle.mesh_rounds.proofs.Texts.{first-state}
 use Rattle.adapt_cli.proofs.finding.places.Goals as goal
 
 pub run_rounds-requires-clause-state : goal.run_rounds-requires-clause-state

@@ -9,7 +9,7 @@ use Rattle.adapt_cli.specs.Marks.{IsMarksText}
 use Rattle.adapt_cli.specs.Rounds.{LeadTo}
 use Rattle.adapt_cli.specs.Stops.{IsRun, StopsBy}
 use Rattle.adapt_cli.proofs.MarkOutcomes.{marks_made, marks_refused}
-use Rattle.adapt_cli.proofs.Texts.{first-state}
+use Rattle.mesh_rounds.proofs.Texts.{first-state}
 use Rattle.adapt_cli.proofs.marking.mark_leaves.Goals as goal
 
 pub run_rounds-requires-clause-state : goal.run_rounds-requires-clause-state

@@ -7,7 +7,7 @@ use Rattle.mesh_rounds.specs.State.{with_values}
 use Rattle.adapt_cli.specs.Rounds.{LeadTo}
 use Rattle.adapt_cli.specs.Stops.{IsReportedRun, IsRun, StopsBy}
 use Rattle.adapt_cli.proofs.Outcomes.{ends_in_report, ends_in_text, ends_refused}
-use Rattle.adapt_cli.proofs.Texts.{first-state}
+use Rattle.mesh_rounds.proofs.Texts.{first-state}
 use Rattle.adapt_cli.proofs.outcome.make_rounds.Goals as goal
 
 pub run_rounds-requires-clause-state : goal.run_rounds-requires-clause-state

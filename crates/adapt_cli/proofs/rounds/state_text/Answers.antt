@@ -1,7 +1,7 @@
 use Rattle.std.proofs.Common.{refl, sym, arith}
 use Rattle.compat_check.specs.Meshes.{shape_of}
 use Rattle.forest_tree.specs.Forests.{members_of, mesh_of}
-use Rattle.adapt_cli.proofs.Texts.{leaves-have, leaves-listed, vertices-have}
+use Rattle.mesh_rounds.proofs.Texts.{leaves-have, leaves-listed, vertices-have}
 use Rattle.adapt_cli.proofs.rounds.state_text.Goals as goal
 
 pub mesh_text-requires-clause-vertex_values : goal.mesh_text-requires-clause-vertex_values

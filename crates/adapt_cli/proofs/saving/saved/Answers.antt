@@ -9,7 +9,7 @@ use Rattle.adapt_words.specs.Restarts.{save_said}
 use Rattle.adapt_cli.specs.Rounds.{LeadTo}
 use Rattle.adapt_cli.specs.Stops.{IsRun, StopsBy}
 use Rattle.adapt_cli.proofs.RestartOutcomes.{kept_state, save_made, save_refused}
-use Rattle.adapt_cli.proofs.Texts.{first-state}
+use Rattle.mesh_rounds.proofs.Texts.{first-state}
 use Rattle.adapt_cli.proofs.saving.saved.Goals as goal
 
 pub run_rounds-requires-clause-state : goal.run_rounds-requires-clause-state

@@ -8,7 +8,7 @@ use Rattle.mesh_rounds.specs.State.{with_values}
 use Rattle.adapt_cli.specs.Rounds.{whole}
 use Rattle.adapt_cli.proofs.Drawing.{draw-stops}
 use Rattle.adapt_cli.proofs.RoundOrder.{refused-as}
-use Rattle.adapt_cli.proofs.Texts.{leaves-listed}
+use Rattle.mesh_rounds.proofs.Texts.{leaves-listed}
 use Rattle.adapt_cli.proofs.soaking.draw_one.Goals as goal
 
 pub returns-clause-stopped : goal.returns-clause-stopped

@@ -3,7 +3,7 @@ use Rattle.forest_tree.specs.Forests.{members_of, pool_of}
 use Rattle.adapt_words.specs.Rounds.{soak_said}
 use Rattle.mesh_rounds.specs.State.{with_values}
 use Rattle.adapt_cli.proofs.Drawing.{soak-stops, soak-wants, soaks}
-use Rattle.adapt_cli.proofs.Texts.{first-state}
+use Rattle.mesh_rounds.proofs.Texts.{first-state}
 use Rattle.adapt_cli.proofs.soaking.soak_text.Goals as goal
 
 pub draw_rounds-requires-clause-state : goal.draw_rounds-requires-clause-state

@@ -1,6 +1,6 @@
 use Rattle.forest_tree.specs.Forests.{members_of}
 use Rattle.mesh_rounds.specs.State.{with_values}
-use Rattle.adapt_cli.proofs.Texts.{first-state}
+use Rattle.mesh_rounds.proofs.Texts.{first-state}
 use Rattle.bench_text.proofs.grown.grow.Goals as goal
 
 pub run_rounds-requires-clause-state : goal.run_rounds-requires-clause-state

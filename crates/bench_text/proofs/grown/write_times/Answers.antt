@@ -1,7 +1,7 @@
 use Rattle.std.proofs.Common.{sym}
 use Rattle.compat_check.specs.Meshes.{shape_of}
 use Rattle.forest_tree.specs.Forests.{members_of, mesh_of}
-use Rattle.adapt_cli.proofs.Texts.{leaves-have, leaves-listed, vertices-have}
+use Rattle.mesh_rounds.proofs.Texts.{leaves-have, leaves-listed, vertices-have}
 use Rattle.bench_text.proofs.grown.write_times.Goals as goal
 
 pub write_leaves-requires-clause-vertex_values : goal.write_leaves-requires-clause-vertex_values
