@@ -8,7 +8,7 @@ ghost use Rattle.dof_transfer.specs.Held.{value_of, worth_of};
 ghost use Rattle.dof_transfer.specs.VertexValues.{value_at};
 ghost use Rattle.forest_plain.specs.AnyForest.{IsRefusal, IsUsedUp, KeepsRest, one_fewer};
 ghost use Rattle.mesh_rounds.specs.Resumed.{IsResumed, IsWhole};
-ghost use Rattle.mesh_rounds.specs.State.{Belongs, IsFirst, with_values};
+ghost use Rattle.mesh_rounds.specs.State.{Belongs, IsFirst, IsState, with_values};
 ghost use Rattle.mesh_rounds.specs.Texts.{AreCounts, AreLeaves, IsTextOfState};
 
 use crate::resuming::resumed;
@@ -74,6 +74,7 @@ impl<'m, F: Forest + Drop> AdaptiveMesh<'m, F> {
         requires sides { (F.seen forest).sides ≡ across_in mesh.now }
         requires nothing { (F.seen forest).members ≡ empty }
         ensures first { IfOk result (λ m. IsFirst mesh.entry.now (state_of m)) }
+        ensures state { IfOk result (λ m. IsState (mesh_of m) (state_of m)) }
         ensures mesh { IfOk result (λ m. mesh_of m ≡ mesh.entry.now) }
         ensures forest { IfOk result (λ m. seen_of m ≡ F.seen forest) }
     {
@@ -100,6 +101,7 @@ impl<'m, F: Forest + Drop> AdaptiveMesh<'m, F> {
         requires sides { (F.seen forest).sides ≡ across_in mesh.now }
         requires whole { IsWhole mesh.now (F.seen forest).members delta.now }
         ensures resumed { IfOk result (λ m. IsResumed mesh.entry.now (state_of m)) }
+        ensures state { IfOk result (λ m. IsState (mesh_of m) (state_of m)) }
         ensures mesh { IfOk result (λ m. mesh_of m ≡ mesh.entry.now) }
         ensures forest { IfOk result (λ m. seen_of m ≡ F.seen forest) }
     {
@@ -135,6 +137,7 @@ impl<'m, F: Forest + Drop> AdaptiveMesh<'m, F> {
     pub fn round(&mut self, marks: &RoundMarks) -> Result<(), RoundRefusal>
         requires formed { All IsWellFormed marks.now.rows.items }
         ensures ok { OnOk result (LeadsTo marks.now.rows.items self.old self.new) }
+        ensures state { OnOk result (IsState (mesh_of self.new) (state_of self.new)) }
         ensures left { OnOk result ((IsUsedUp (seen_of self.old) → ⊥) × ((seen_of self.new).left ≡ one_fewer (seen_of self.old).left)) }
         ensures refused { IfErr result (IsRefusal (seen_of self.old) (kept_of self.new) marks.now.rows.items) }
         ensures unchanged { IfErr result (λ r. r ≢ RoundRefusal.Memory → IsSame self.old self.new) }

@@ -12,3 +12,7 @@ invariant_of-result g c =
       sides = c.requires.sides;
       state = λ _. state-belongs c.args.mesh.now state (first-state c.args.mesh.now state (record { members = c.requires.nothing; vertices = c.in_ok-values.ensures.vertices; elements = c.in_ok-values.ensures.elements }));
     }
+
+pub returns-clause-state : goal.returns-clause-state
+returns-clause-state g c =
+    first-state c.args.mesh.now (with_values (g.F.Forest.seen c.args.forest).members c.in_ok-values.values) (record { members = c.requires.nothing; vertices = c.in_ok-values.ensures.vertices; elements = c.in_ok-values.ensures.elements })
