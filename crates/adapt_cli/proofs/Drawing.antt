@@ -12,7 +12,7 @@ use Rattle.mesh_rounds.specs.State.{IsFirst, IsMeshRound, State}
 use Rattle.soak.specs.Rows.{Drawing, IsDrawn, rows_for}
 use Rattle.adapt_words.specs.Rounds.{SoakWords}
 use Rattle.adapt_cli.specs.FaultTexts.{Fault}
-use Rattle.adapt_cli.specs.Reports.{AreLeaves}
+use Rattle.mesh_rounds.specs.Texts.{AreLeaves}
 use Rattle.adapt_cli.specs.Rounds.{whole}
 use Rattle.adapt_cli.specs.Soaks.{DrawnTo, DrawsTo, IsGridMesh, IsSoakOutcome, Overfills, TellsOf}
 use Rattle.adapt_cli.specs.Stops.{IsRoundStop, StopsBy}

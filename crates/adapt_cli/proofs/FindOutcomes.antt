@@ -10,7 +10,7 @@ use Rattle.locate_point.specs.PlaceTexts.{IsPlacesText}
 use Rattle.adapt_words.specs.Finding.{FindWords}
 use Rattle.adapt_cli.specs.FaultTexts.{Fault}
 use Rattle.adapt_cli.specs.Finding.{FindsTo}
-use Rattle.adapt_cli.specs.Reports.{AreLeaves}
+use Rattle.mesh_rounds.specs.Texts.{AreLeaves}
 use Rattle.adapt_cli.specs.Rounds.{LeadTo}
 use Rattle.adapt_cli.specs.Stops.{IsRun, StopsBy}
 use Rattle.adapt_cli.specs.declared.fault.Stop.{Stop}

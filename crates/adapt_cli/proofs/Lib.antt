@@ -3,7 +3,6 @@ pub mod Loading
 pub mod Outcomes
 pub mod Parts
 pub mod Endings
-pub mod Texts
 pub mod FullPools
 pub mod Drawing
 pub mod SoakEnds

@@ -8,7 +8,8 @@ use Rattle.adapt_words.specs.Rounds.{RunWords}
 use Rattle.forest_plain.specs.declared.refusal.RoundRefusal.{RoundRefusal}
 use Rattle.forest_plain.specs.declared.refusal.RoundRefusal.TheVariants.{RoundsUsedUp, NotALeaf, LevelTooDeep, PoolFull, Memory as no_memory}
 use Rattle.adapt_cli.specs.FaultTexts.{Fault, round_fault}
-use Rattle.adapt_cli.specs.Reports.{IsOutput, IsTextOfState}
+use Rattle.mesh_rounds.specs.Texts.{IsTextOfState}
+use Rattle.adapt_cli.specs.Reports.{IsOutput}
 use Rattle.adapt_cli.specs.Rounds.{LeadTo, Refuses, preceded, whole}
 use Rattle.adapt_cli.specs.Outcome.{RunsTo}
 use Rattle.adapt_cli.specs.Stops.{IsReportedRun, IsRun, StopsBy}

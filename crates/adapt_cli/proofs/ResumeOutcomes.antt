@@ -1,5 +1,5 @@
 -- From a kept forest and the rounds after it to what going on leads to.
-use Rattle.std.proofs.Common.{◌≡◌, ℕ, ◌<◌, ◌≤◌, ap, ◌∙◌, subst, sym, List, [], inl, inr, ⊎_elim, arith}
+use Rattle.std.proofs.Common.{◌≡◌, ℕ, ◌<◌, ◌≤◌, ap, ◌∙◌, subst, List, [], inl, inr, ⊎_elim, arith}
 use Rattle.std.specs.Prelude.{Ok, Err, Result, length}
 use Rattle.std.specs.FinSet.{empty, from_list}
 use Rattle.std.proofs.lemmas.List.{length-map}
@@ -15,14 +15,13 @@ use Rattle.compat_check.specs.Meshes.{IsChecked, Mesh, across_in, shape_of}
 use Rattle.forest_plain.specs.Deltas.{AreBorn}
 use Rattle.forest_plain.specs.Rounds.{Stands}
 use Rattle.mark_file.specs.Meaning.{Round, round_read, rounds_read}
-use Rattle.mesh_rounds.specs.Resumed.{IsResumed, IsWhole}
-use Rattle.mesh_rounds.specs.State.{IsState, State, with_values}
-use Rattle.mesh_rounds.specs.declared.values.Values.{Values}
+use Rattle.mesh_rounds.specs.Resumed.{IsWhole}
+use Rattle.mesh_rounds.specs.State.{State}
 use Rattle.restart_file.specs.Kept.{IsKept, set_of}
 use Rattle.adapt_words.specs.Restarts.{ResumeWords}
 use Rattle.adapt_cli.specs.FaultTexts.{Fault, full_forest, no_round_left}
 use Rattle.adapt_cli.specs.Marks.{IsNoRoundLeft}
-use Rattle.adapt_cli.specs.Reports.{IsTextOfState}
+use Rattle.mesh_rounds.specs.Texts.{IsTextOfState}
 use Rattle.adapt_cli.specs.Resuming.{CanGoOn, IsForestTooLarge, IsStart, IsTooLarge, ResumesTo, most_resumed, patches_of}
 use Rattle.adapt_cli.specs.Rounds.{LeadTo}
 use Rattle.adapt_cli.specs.Stops.{IsRun, StopsBy}
@@ -86,10 +85,3 @@ module _ (mesh : Mesh) (members : List Name) (resume : ResumeWords) where
   -- they end in a mesh
   pub resume_made : (rounds : List Round) (start last : State) (text : List ℕ) → CanGoOn mesh members resume.pool rounds → IsStart mesh members start → IsRun mesh resume.pool rounds start last → IsTextOfState mesh last text → ResumesTo mesh members resume rounds (Ok text)
   resume_made rounds start last text can is_start ran written = (can, start, is_start, ran.0, ran.1, subst (λ (s : State). IsTextOfState mesh s text) ran.2 written)
-
--- the forest that was given its members, with its values
-pub started : (mesh : Mesh) (members : List Name) (now : Names) (values : Values) → now ≡ from_list members → IsResumed mesh (with_values (set_of members) values) → IsStart mesh members (with_values now values)
-started mesh members now values is resumed = record { members_are = is; resumed = subst (λ (s : Names). IsResumed mesh (with_values s values)) (sym is) resumed }
-
-pub standing : (mesh : Mesh) (members : List Name) (now : Names) (values : Values) → now ≡ from_list members → IsState mesh (with_values (set_of members) values) → IsState mesh (with_values now values)
-standing mesh members now values is state = subst (λ (s : Names). IsState mesh (with_values s values)) (sym is) state

@@ -17,7 +17,7 @@ use Rattle.adapt_cli.specs.FaultTexts.{End, joined}
 use Rattle.adapt_cli.specs.InputFiles.{AcceptsMacro, AcceptsMarks, IsTooLong, RefusesMacro}
 use Rattle.adapt_cli.specs.Loads.{Asks, AsksOnce, Loads}
 use Rattle.adapt_cli.specs.Outcome.{LoadsMarks}
-use Rattle.adapt_cli.specs.Reports.{AreLeaves}
+use Rattle.mesh_rounds.specs.Texts.{AreLeaves}
 use Rattle.adapt_cli.specs.Rounds.{LeadTo, last_state}
 
 -- a fault of a line of the points file

@@ -19,7 +19,7 @@ use Rattle.adapt_words.specs.declared.rules.Rule.{Rule}
 use Rattle.adapt_words.specs.declared.rules.Rule.TheVariants.{Max, Bulk, Equal}
 use Rattle.adapt_cli.specs.FaultTexts.{End, no_round_left}
 use Rattle.adapt_cli.specs.Outcome.{AsksBoth, LoadsBoth}
-use Rattle.adapt_cli.specs.Reports.{AreLeaves}
+use Rattle.mesh_rounds.specs.Texts.{AreLeaves}
 use Rattle.adapt_cli.specs.Rounds.{LeadTo, last_state}
 
 -- the leaves with the values that they have in this state

@@ -1,36 +1,12 @@
 -- The lines of a report: one for each round, in place of the mesh.
-use Rattle.std.specs.Prelude.{◌≡◌, ℕ, ◌+◌, ◌-◌, Bool, true, false, List, [], ◌∷◌, ◌++◌, length, codes}
+use Rattle.std.specs.Prelude.{◌≡◌, ℕ, ◌+◌, Bool, true, false, List, [], ◌∷◌, ◌++◌, length, codes}
 use Rattle.std.specs.Fmt.{decimal}
-use Rattle.dof_admin.specs.Administration.{used_count}
 use Rattle.mesh_names.specs.Names.{Name}
-use Rattle.mesh_names.specs.Forests.{IsListOf}
-use Rattle.mesh_names.specs.Leaves.{leaves}
-use Rattle.mesh_names.specs.Patches.{patch_count}
-use Rattle.compat_check.specs.Meshes.{Mesh, across_in, shape_of}
+use Rattle.compat_check.specs.Meshes.{Mesh}
 use Rattle.mesh_rounds.specs.State.{State}
-use Rattle.mesh_writer.specs.MeshText.{IsMeshText}
+use Rattle.mesh_rounds.specs.Texts.{AreLeaves, IsTextOfState, hole_count, vertex_count}
 use Rattle.adapt_cli.specs.FaultTexts.{joined}
 use Rattle.adapt_cli.specs.Rounds.{last_state}
-
--- the list has the leaves of the mesh in this state, in their order
-abbrev pub AreLeaves : Mesh → State → List Name → Type 0
-AreLeaves mesh state list = IsListOf (leaves (shape_of mesh) state.members) list
-
--- the mesh has so many leaves in this state
-abbrev pub HasLeaves : Mesh → State → ℕ → Type 0
-HasLeaves mesh state count = (list : List Name) × AreLeaves mesh state list × (count ≡ length list)
-
--- the text of the mesh in this state
-abbrev pub IsTextOfState : Mesh → State → List ℕ → Type 0
-IsTextOfState mesh state text = (list : List Name) × AreLeaves mesh state list × IsMeshText mesh list state.vertices state.elements text
-
--- how many vertices there are: those of the macro mesh, also where no element has them, and one for each patch
-abbrev pub vertex_count : Mesh → State → ℕ
-vertex_count mesh state = length mesh.vertices + patch_count (across_in mesh) state.members
-
--- how many indices of vertices are not used
-abbrev pub hole_count : State → ℕ
-hole_count state = length state.vertices.patches.flags - used_count state.vertices.patches.flags
 
 -- a round's line, by its number and the state after it
 abbrev pub round_line : Mesh → ℕ → State → List Name → List ℕ

@@ -13,7 +13,7 @@ use Rattle.adapt_words.specs.Restarts.{ResumeWords}
 use Rattle.adapt_cli.specs.FaultTexts.{End, full_forest, no_round_left}
 use Rattle.adapt_cli.specs.Loads.{Asks, AsksOnce, Loads}
 use Rattle.adapt_cli.specs.Outcome.{LoadsMarks}
-use Rattle.adapt_cli.specs.Reports.{IsTextOfState}
+use Rattle.mesh_rounds.specs.Texts.{IsTextOfState}
 use Rattle.adapt_cli.specs.Restarts.{AcceptsRestart, RefusesRestart}
 use Rattle.adapt_cli.specs.Rounds.{LeadTo, last_state}
 

@@ -16,7 +16,7 @@ use Rattle.soak.specs.Grid.{grid}
 use Rattle.soak.specs.Rows.{Drawing, after, rows_for}
 use Rattle.adapt_words.specs.Rounds.{SoakWords}
 use Rattle.adapt_cli.specs.FaultTexts.{End, Fault, full_pool, joined}
-use Rattle.adapt_cli.specs.Reports.{AreLeaves, IsTextOfState, vertex_count}
+use Rattle.mesh_rounds.specs.Texts.{AreLeaves, IsTextOfState, vertex_count}
 use Rattle.adapt_cli.specs.Rounds.{whole}
 
 -- the mesh of the grid with this many squares in a row

@@ -12,12 +12,11 @@ use crate::load::{load_bytes, load_macro, load_marks};
 use crate::rounds::run_rounds;
 use adapt_words::Find;
 use compat_check::mesh::MacroMesh;
-use forest_plain::Forest;
 use forest_tree::forest::TreeForest;
 use locate_point::{Point, PointRefusal, put_places, read_points};
 use mesh_io::Shelf;
 use mesh_names::rows::RoundMarks;
-use mesh_rounds::values::Values;
+use mesh_rounds::adaptive::AdaptiveMesh;
 use std::alloc::{AllocError, Global};
 
 // The greatest length of a points file, in bytes, and what is told of a longer one.
@@ -109,7 +108,7 @@ fn at_point(alloc: Global, line: u32, what: &str) -> Result<String, AllocError>
 // The places of the points after these rounds on a mesh.
 fn places(
     alloc: Global,
-    mesh: &MacroMesh,
+    macro_mesh: &MacroMesh,
     find: &Find<'_>,
     rounds: &[RoundMarks],
     points: &[Point],
@@ -117,20 +116,20 @@ fn places(
     requires ranges { IsFindInRange find.now }
     requires formed { All (λ r. All IsWellFormed r.rows.items) rounds.now }
     requires within { All IsWithin points.now }
-    ensures ok { IfOk result (λ text. FindsTo mesh.now (find_said find.now) (rounds_read rounds.now) points.now (Ok text.items)) }
-    ensures stopped { IfErr result (StopsBy (FindsTo mesh.now (find_said find.now) (rounds_read rounds.now) points.now)) }
+    ensures ok { IfOk result (λ text. FindsTo macro_mesh.now (find_said find.now) (rounds_read rounds.now) points.now (Ok text.items)) }
+    ensures stopped { IfErr result (StopsBy (FindsTo macro_mesh.now (find_said find.now) (rounds_read rounds.now) points.now)) }
 {
-    let mut forest = TreeForest::new(alloc, mesh, find.pool);
-    let Ok(mut values) = Values::new(alloc, mesh) else {
+    let forest = TreeForest::new(alloc, macro_mesh, find.pool);
+    let Ok(mut mesh) = AdaptiveMesh::new(alloc, macro_mesh, forest) else {
         return Err(Stop::Memory);
     };
-    if let Err(stop) = run_rounds(alloc, mesh, &mut forest, &mut values, rounds) {
+    if let Err(stop) = run_rounds(alloc, &mut mesh, rounds) {
         return Err(stop);
     }
-    let Ok(leaves) = forest.leaves() else {
+    let Ok(leaves) = mesh.leaves() else {
         return Err(Stop::Memory);
     };
-    match put_places(alloc, mesh, &leaves, points) {
+    match put_places(alloc, macro_mesh, &leaves, points) {
         Ok(text) => Ok(text),
         Err(_) => Err(Stop::Memory),
     }

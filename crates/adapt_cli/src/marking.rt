@@ -3,13 +3,11 @@ ghost use Rattle.std.specs.Prelude.{◌≡◌, ◌+◌, ◌++◌, ◌<◌, ◌�
 ghost use Rattle.std.specs.List.{concat};
 ghost use Rattle.mesh_names.specs.Marks.{IsWellFormed};
 ghost use Rattle.mesh_names.specs.Names.{Name};
-ghost use Rattle.compat_check.specs.Meshes.{across_in, shape_of};
 ghost use Rattle.dof_transfer.specs.Held.{worth_of};
 ghost use Rattle.mark_file.specs.Meaning.{rounds_read};
 ghost use Rattle.mark_file.specs.Written.{row_line};
 ghost use Rattle.mark_strategy.specs.Leaves.{AreLeaves};
-ghost use Rattle.forest_tree.specs.Forests.{members_of, mesh_of, pool_of, sides_of};
-ghost use Rattle.mesh_rounds.specs.State.{IsState, with_values};
+ghost use Rattle.mesh_rounds.specs.Adaptive.{mesh_of, state_of};
 ghost use Rattle.adapt_words.specs.Rounds.{IsMarkInRange, mark_said};
 ghost use Rattle.adapt_cli.specs.Marks.{Chooses, IsMarksText, IsNoRoundLeft, MarkAsks, MarkLeads, MarksTo, marking, marks_text};
 ghost use Rattle.adapt_cli.specs.Stops.{IsStop, IsTextOf, StopsBy};
@@ -19,8 +17,6 @@ use crate::load::{load_macro, load_marks};
 use crate::rounds::run_rounds;
 use adapt_words::{Mark, Rule};
 use compat_check::mesh::MacroMesh;
-use dof_transfer::ElementValues;
-use forest_plain::Forest;
 use forest_tree::forest::TreeForest;
 use mark_file::refusal::MarkRefusal;
 use mark_file::write::put_row;
@@ -28,7 +24,7 @@ use mark_strategy::{StrategyRefusal, mark_bulk, mark_equal, mark_max};
 use mesh_io::Shelf;
 use mesh_names::name::ElemName;
 use mesh_names::rows::{MarkRow, Place, RoundMarks, What};
-use mesh_rounds::values::Values;
+use mesh_rounds::adaptive::AdaptiveMesh;
 use std::alloc::{AllocError, Global};
 
 // How many rounds a marks file can have.
@@ -86,52 +82,41 @@ pub(crate) fn no_round_left(alloc: Global) -> Stop
 // The marks after these rounds on a mesh.
 fn mark_leaves(
     alloc: Global,
-    mesh: &MacroMesh,
+    macro_mesh: &MacroMesh,
     mark: &Mark<'_>,
     rounds: &[RoundMarks],
 ) -> Result<Vec<u8>, Stop>
     requires ranges { IsMarkInRange mark.now }
     requires left { length rounds.now < 65535 }
     requires formed { All (λ r. All IsWellFormed r.rows.items) rounds.now }
-    ensures ok { IfOk result (λ text. MarksTo mesh.now (mark_said mark.now) (rounds_read rounds.now) (Ok text.items)) }
-    ensures stopped { IfErr result (StopsBy (MarksTo mesh.now (mark_said mark.now) (rounds_read rounds.now))) }
+    ensures ok { IfOk result (λ text. MarksTo macro_mesh.now (mark_said mark.now) (rounds_read rounds.now) (Ok text.items)) }
+    ensures stopped { IfErr result (StopsBy (MarksTo macro_mesh.now (mark_said mark.now) (rounds_read rounds.now))) }
 {
-    let mut forest = TreeForest::new(alloc, mesh, mark.pool);
-    let Ok(mut values) = Values::new(alloc, mesh) else {
+    let forest = TreeForest::new(alloc, macro_mesh, mark.pool);
+    let Ok(mut mesh) = AdaptiveMesh::new(alloc, macro_mesh, forest) else {
         return Err(Stop::Memory);
     };
-    if let Err(stop) = run_rounds(alloc, mesh, &mut forest, &mut values, rounds) {
+    if let Err(stop) = run_rounds(alloc, &mut mesh, rounds) {
         return Err(stop);
     }
-    state_marks(
-        alloc,
-        mesh,
-        &mut forest,
-        &values,
-        &mark.rule,
-        rounds.len() as u32 + 1,
-    )
+    state_marks(alloc, &mut mesh, &mark.rule, rounds.len() as u32 + 1)
 }
 
 // The marks that the rule gives on a mesh.
 fn state_marks(
     alloc: Global,
-    mesh: &MacroMesh,
-    forest: &mut TreeForest<'_>,
-    values: &Values,
+    mesh: &mut AdaptiveMesh<'_, TreeForest<'_>>,
     rule: &Rule,
     round: u32,
 ) -> Result<Vec<u8>, Stop>
-    requires mesh { mesh_of forest.old ≡ shape_of mesh.now }
-    requires state { IsState mesh.now (with_values (members_of forest.old) values.now) }
     requires round { (1 ≤ round) × (round ≤ 65535) }
-    ensures ok { IfOk result (λ text. IsMarksText mesh.now rule.now round (with_values (members_of forest.old) values.now) text.items) }
+    ensures ok { IfOk result (λ text. IsMarksText (mesh_of mesh.old) rule.now round (state_of mesh.old) text.items) }
     ensures memory { IfErr result (λ stop. stop ≡ Stop.Memory) }
 {
-    let Ok(leaves) = forest.leaves() else {
+    let Ok(leaves) = mesh.leaves() else {
         return Err(Stop::Memory);
     };
-    let leaves = with_their_values(alloc, &leaves, &values.elements)?;
+    let leaves = with_their_values(alloc, mesh, &leaves)?;
     let Ok(chosen) = choose(alloc, &leaves, rule) else {
         return Err(Stop::Memory);
     };
@@ -144,12 +129,12 @@ fn state_marks(
 // The leaves, each with its value.
 fn with_their_values(
     alloc: Global,
+    mesh: &AdaptiveMesh<'_, TreeForest<'_>>,
     leaves: &[ElemName],
-    values: &ElementValues,
 ) -> Result<Vec<(ElemName, i64)>, AllocError>
-    ensures { IfOk result (λ pairs. pairs.items ≡ map (λ n. (n, worth_of values.now n)) leaves.now) }
+    ensures { IfOk result (λ pairs. pairs.items ≡ map (λ n. (n, worth_of (state_of mesh.now).elements n)) leaves.now) }
 {
-    let Ok(worths) = values.values(alloc, leaves) else {
+    let Ok(worths) = mesh.leaf_values(leaves) else {
         return Err(AllocError);
     };
     let mut pairs = Vec::with_capacity(alloc, leaves.len())?;

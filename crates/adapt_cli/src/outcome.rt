@@ -9,13 +9,13 @@ ghost use Rattle.adapt_cli.specs.Stops.{IsStop, IsTextOf, StopsBy};
 use crate::fault::{FileStop, Stop};
 use crate::load::{load_macro, load_marks};
 use crate::reports::report_rounds;
-use crate::rounds::{run_rounds, state_text};
+use crate::rounds::run_rounds;
 use adapt_words::Run;
 use compat_check::mesh::MacroMesh;
 use forest_tree::forest::TreeForest;
 use mesh_io::Shelf;
 use mesh_names::rows::RoundMarks;
-use mesh_rounds::values::Values;
+use mesh_rounds::adaptive::AdaptiveMesh;
 use std::alloc::Global;
 use std::thread::Threads;
 
@@ -48,27 +48,27 @@ pub fn run_text<'a, R: Threads + Sync, S: Shelf>(
 fn make_rounds<R: Threads + Sync>(
     rt: &R,
     alloc: Global,
-    mesh: &MacroMesh,
+    macro_mesh: &MacroMesh,
     run: &Run<'_>,
     rounds: &[RoundMarks],
 ) -> Result<Vec<u8>, Stop>
     requires ranges { IsRunInRange run.now }
     requires formed { All (λ r. All IsWellFormed r.rows.items) rounds.now }
-    ensures ok { IfOk result (λ text. RunsTo mesh.now (run_said run.now) (rounds_read rounds.now) (Ok text.items)) }
-    ensures stopped { IfErr result (StopsBy (RunsTo mesh.now (run_said run.now) (rounds_read rounds.now))) }
+    ensures ok { IfOk result (λ text. RunsTo macro_mesh.now (run_said run.now) (rounds_read rounds.now) (Ok text.items)) }
+    ensures stopped { IfErr result (StopsBy (RunsTo macro_mesh.now (run_said run.now) (rounds_read rounds.now))) }
 {
-    let mut forest = TreeForest::new(alloc, mesh, run.pool);
-    let Ok(mut values) = Values::new(alloc, mesh) else {
+    let forest = TreeForest::new(alloc, macro_mesh, run.pool);
+    let Ok(mut mesh) = AdaptiveMesh::new(alloc, macro_mesh, forest) else {
         return Err(Stop::Memory);
     };
     if run.report {
-        return report_rounds(alloc, mesh, &mut forest, &mut values, rounds);
+        return report_rounds(alloc, &mut mesh, rounds);
     }
-    if let Err(stop) = run_rounds(alloc, mesh, &mut forest, &mut values, rounds) {
+    if let Err(stop) = run_rounds(alloc, &mut mesh, rounds) {
         return Err(stop);
     }
-    match state_text(rt, alloc, mesh, &mut forest, &values) {
-        Ok((text, _)) => Ok(text),
-        Err(stop) => Err(stop),
+    match mesh.text(rt) {
+        Ok(text) => Ok(text),
+        Err(_) => Err(Stop::Memory),
     }
 }

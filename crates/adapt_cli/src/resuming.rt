@@ -11,14 +11,15 @@ ghost use Rattle.adapt_cli.specs.Stops.{IsStop, IsTextOf, StopsBy};
 use crate::fault::{FileStop, Stop, refused};
 use crate::load::{load_marks, load_restart};
 use crate::marking::no_round_left;
-use crate::rounds::{run_rounds, state_text};
+use crate::rounds::run_rounds;
 use adapt_words::Resume;
 use compat_check::mesh::MacroMesh;
 use forest_tree::forest::TreeForest;
 use mesh_io::Shelf;
 use mesh_names::name::ElemName;
 use mesh_names::rows::RoundMarks;
-use mesh_rounds::resuming::{count_patches, resumed};
+use mesh_rounds::adaptive::AdaptiveMesh;
+use mesh_rounds::resuming::count_patches;
 use std::alloc::Global;
 use std::thread::Threads;
 
@@ -90,33 +91,33 @@ fn too_large(alloc: Global, needed: usize, pool: u32) -> Stop
 fn make_rounds<R: Threads + Sync>(
     rt: &R,
     alloc: Global,
-    mesh: &MacroMesh,
+    macro_mesh: &MacroMesh,
     members: &[ElemName],
     resume: &Resume<'_>,
     rounds: &[RoundMarks],
 ) -> Result<Vec<u8>, Stop>
     requires ranges { IsResumeInRange resume.now }
-    requires kept { IsKept (shape_of mesh.now) members.now }
-    requires can { CanGoOn mesh.now members.now resume.now.pool (rounds_read rounds.now) }
+    requires kept { IsKept (shape_of macro_mesh.now) members.now }
+    requires can { CanGoOn macro_mesh.now members.now resume.now.pool (rounds_read rounds.now) }
     requires formed { All (λ r. All IsWellFormed r.rows.items) rounds.now }
-    ensures ok { IfOk result (λ text. ResumesTo mesh.now members.now (resume_said resume.now) (rounds_read rounds.now) (Ok text.items)) }
-    ensures stopped { IfErr result (StopsBy (ResumesTo mesh.now members.now (resume_said resume.now) (rounds_read rounds.now))) }
+    ensures ok { IfOk result (λ text. ResumesTo macro_mesh.now members.now (resume_said resume.now) (rounds_read rounds.now) (Ok text.items)) }
+    ensures stopped { IfErr result (StopsBy (ResumesTo macro_mesh.now members.now (resume_said resume.now) (rounds_read rounds.now))) }
 {
-    let _checked = mesh.element_count();
-    let Ok(mut forest) = TreeForest::of_members(alloc, mesh, resume.pool, members) else {
+    let _checked = macro_mesh.element_count();
+    let Ok(forest) = TreeForest::of_members(alloc, macro_mesh, resume.pool, members) else {
         return Err(Stop::Memory);
     };
     let Ok(delta) = forest.patches_from_nothing() else {
         return Err(Stop::Memory);
     };
-    let Ok(mut values) = resumed(alloc, mesh, &delta) else {
+    let Ok(mut mesh) = AdaptiveMesh::resumed(alloc, macro_mesh, forest, &delta) else {
         return Err(Stop::Memory);
     };
-    if let Err(stop) = run_rounds(alloc, mesh, &mut forest, &mut values, rounds) {
+    if let Err(stop) = run_rounds(alloc, &mut mesh, rounds) {
         return Err(stop);
     }
-    match state_text(rt, alloc, mesh, &mut forest, &values) {
-        Ok((text, _)) => Ok(text),
-        Err(stop) => Err(stop),
+    match mesh.text(rt) {
+        Ok(text) => Ok(text),
+        Err(_) => Err(Stop::Memory),
     }
 }

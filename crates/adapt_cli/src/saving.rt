@@ -15,7 +15,7 @@ use compat_check::mesh::MacroMesh;
 use forest_tree::forest::TreeForest;
 use mesh_io::Shelf;
 use mesh_names::rows::RoundMarks;
-use mesh_rounds::values::Values;
+use mesh_rounds::adaptive::AdaptiveMesh;
 use restart_file::put_restart;
 use std::alloc::Global;
 
@@ -47,28 +47,28 @@ pub fn save_text<'a, S: Shelf>(
 fn saved(
     alloc: Global,
     part: &[u8],
-    mesh: &MacroMesh,
+    macro_mesh: &MacroMesh,
     save: &Save<'_>,
     rounds: &[RoundMarks],
 ) -> Result<Vec<u8>, Stop>
     requires ranges { IsSaveInRange save.now }
-    requires part { IsPart part.now mesh.now }
+    requires part { IsPart part.now macro_mesh.now }
     requires formed { All (λ r. All IsWellFormed r.rows.items) rounds.now }
-    ensures ok { IfOk result (λ text. SavesTo (part.now, mesh.now) (save_said save.now) (rounds_read rounds.now) (Ok text.items)) }
-    ensures stopped { IfErr result (StopsBy (SavesTo (part.now, mesh.now) (save_said save.now) (rounds_read rounds.now))) }
+    ensures ok { IfOk result (λ text. SavesTo (part.now, macro_mesh.now) (save_said save.now) (rounds_read rounds.now) (Ok text.items)) }
+    ensures stopped { IfErr result (StopsBy (SavesTo (part.now, macro_mesh.now) (save_said save.now) (rounds_read rounds.now))) }
 {
-    let _checked = mesh.element_count();
-    let mut forest = TreeForest::new(alloc, mesh, save.pool);
-    let Ok(mut values) = Values::new(alloc, mesh) else {
+    let _checked = macro_mesh.element_count();
+    let forest = TreeForest::new(alloc, macro_mesh, save.pool);
+    let Ok(mut mesh) = AdaptiveMesh::new(alloc, macro_mesh, forest) else {
         return Err(Stop::Memory);
     };
-    if let Err(stop) = run_rounds(alloc, mesh, &mut forest, &mut values, rounds) {
+    if let Err(stop) = run_rounds(alloc, &mut mesh, rounds) {
         return Err(stop);
     }
-    let Ok(members) = forest.members() else {
+    let Ok(members) = mesh.forest().members() else {
         return Err(Stop::Memory);
     };
-    match put_restart(alloc, part, mesh, &members) {
+    match put_restart(alloc, part, macro_mesh, &members) {
         Ok(text) => Ok(text),
         Err(_) => Err(Stop::Memory),
     }

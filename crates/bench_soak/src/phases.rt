@@ -1,18 +1,13 @@
 //! A soak by its phases.
-ghost use Rattle.std.specs.Prelude.{◌≡◌, ◌≤◌};
-ghost use Rattle.compat_check.specs.Meshes.{shape_of};
-ghost use Rattle.forest_tree.specs.Forests.{members_of, mesh_of};
-ghost use Rattle.mesh_rounds.specs.State.{IsState, with_values};
+ghost use Rattle.std.specs.Prelude.{◌≤◌};
 
 use crate::rounds::{draw_rounds, forest_time};
 use crate::times::Times;
 use anyhow::{Result, anyhow};
 use compat_check::check;
 use compat_check::mesh::MacroMesh;
-use forest_plain::Forest;
 use forest_tree::forest::TreeForest;
-use mesh_rounds::values::Values;
-use mesh_writer::text::mesh_text;
+use mesh_rounds::adaptive::AdaptiveMesh;
 use soak::grid;
 use std::alloc::Global;
 use std::thread::Threads;
@@ -63,32 +58,25 @@ fn grid_mesh<R: Clock>(rt: &R, alloc: Global, side: u32, times: &mut Times) -> R
 // Writes the text, and counts what the line of a soak tells.
 fn write_text<R: Threads + Clock + Sync>(
     rt: &R,
-    alloc: Global,
-    mesh: &MacroMesh,
-    forest: &mut TreeForest<'_>,
-    values: &Values,
+    mesh: &mut AdaptiveMesh<'_, TreeForest<'_>>,
     times: &mut Times,
-) -> Result<Counts>
-    requires mesh { mesh_of forest.old ≡ shape_of mesh.now }
-    requires state { IsState mesh.now (with_values (members_of forest.old) values.now) }
-{
-    let vertices = u64::from(mesh.vertex_count());
-    let _checked = mesh.element_count();
+) -> Result<Counts> {
     let begun = Instant::now(rt)?;
-    let Ok(leaves) = forest.leaves() else {
+    let Ok(counts) = mesh.counts() else {
         return Err(anyhow!("out of memory"));
     };
     times.last_leaves = begun.elapsed(rt)?.as_micros();
     let begun = Instant::now(rt)?;
-    let Ok(text) = mesh_text(rt, alloc, mesh, &leaves, &values.vertices, &values.elements) else {
+    let Ok(text) = mesh.text(rt) else {
         return Err(anyhow!("out of memory"));
     };
-    times.text = begun.elapsed(rt)?.as_micros();
-    let patches = forest.patches();
+    // The text lists the leaves once more, which is a phase of its own.
+    let micros = begun.elapsed(rt)?.as_micros();
+    times.text = micros.saturating_sub(times.last_leaves);
     Ok(Counts {
-        leaves: leaves.len(),
-        vertices: vertices + u64::from(patches),
-        patches,
+        leaves: counts.leaves,
+        vertices: counts.vertices,
+        patches: counts.patches,
         bytes: text.len(),
         checksum: checksum(&text),
     })
@@ -98,30 +86,21 @@ fn write_text<R: Threads + Clock + Sync>(
 fn run_on<R: Threads + Clock + Sync>(
     rt: &R,
     alloc: Global,
-    mesh: &MacroMesh,
+    macro_mesh: &MacroMesh,
     soak: Soak,
     times: &mut Times,
 ) -> Result<Counts>
     requires { (soak.start ≤ 65535) × (soak.rounds ≤ 64) }
 {
-    let mut forest = TreeForest::new(alloc, mesh, 1_048_576);
+    let forest = TreeForest::new(alloc, macro_mesh, 1_048_576);
     let begun = Instant::now(rt)?;
-    let Ok(mut values) = Values::new(alloc, mesh) else {
+    let Ok(mut mesh) = AdaptiveMesh::new(alloc, macro_mesh, forest) else {
         return Err(anyhow!("out of memory"));
     };
     times.first_values = begun.elapsed(rt)?.as_micros();
-    let marks = draw_rounds(
-        rt,
-        alloc,
-        mesh,
-        &mut forest,
-        &mut values,
-        soak.start,
-        soak.rounds,
-        times,
-    )?;
-    times.forest = forest_time(rt, alloc, mesh, &marks)?;
-    write_text(rt, alloc, mesh, &mut forest, &values, times)
+    let marks = draw_rounds(rt, alloc, &mut mesh, soak.start, soak.rounds, times)?;
+    times.forest = forest_time(rt, alloc, macro_mesh, &marks)?;
+    write_text(rt, &mut mesh, times)
 }
 
 /// Makes a soak, and answers what its line tells and how long its phases took.

@@ -101,13 +101,16 @@ fn main(rt: HostRuntime) -> Result<()> {
     let side = if size.is_some() { 64 } else { 4 };
     let mesh = grid_mesh(alloc, side)?;
     let rounds = all_marked(alloc, size.unwrap_or(2).clamp(1, 7))?;
-    let (mut forest, values) = grow(alloc, &mesh, &rounds)?;
-    let (leaves, written) = write_times(&rt, alloc, &mesh, &mut forest, &values)?;
+    let mut grown = grow(alloc, &mesh, &rounds)?;
+    let written = write_times(&rt, &mut grown)?;
+    let Ok(leaves) = grown.leaves() else {
+        return Err(anyhow!("out of memory"));
+    };
     let count = leaves.len();
     let (bytes, sum) = (written.bytes, written.checksum);
     println!(rt; "{count} leaves, {bytes} bytes, checksum {sum}")?;
     if size.is_some() {
-        let numbers = Numbers::of(alloc, &mesh, &leaves)?;
+        let numbers = Numbers::of(alloc, grown.macro_mesh(), &leaves)?;
         tell_times(&rt, alloc, written.micros, &numbers)?;
     }
     Ok(())

@@ -20,3 +20,5 @@ pub mod States
 pub mod Rounding
 pub mod GivenWhole
 pub mod OneRound
+pub mod Texts
+pub mod Belonging

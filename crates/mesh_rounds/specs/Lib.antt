@@ -5,3 +5,5 @@ pub mod State
 pub mod ForestValues
 pub mod Resumed
 pub mod SameRounds
+pub mod Texts
+pub mod Adaptive

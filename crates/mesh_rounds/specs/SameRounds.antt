@@ -21,5 +21,18 @@ AreSameRows _ _ = ⊥
 
 -- the law that rounds whose rows say the same lead from one forest to one forest
 abbrev pub RoundsEndAtOne : Type 0
-RoundsEndAtOne = (mesh : Shape) (x : Across) → Tells mesh x → (room other : Room) (old : Names) (rows same : List MarkRow) (new end : Names) (delta change : RoundDelta) →
+RoundsEndAtOne = (mesh : Shape) (x : Across) → Tells mesh x → (room other : Room) (old : Names) (rows same : List MarkRow) →
+    (new end : Names) (delta change : RoundDelta) →
     AreSameRows rows same → IsRoundBy mesh x room old rows new delta → IsRoundBy mesh x other old same end change → new ≡ end
+
+-- the same patches, in the same order
+pub record IsSameDelta (a b : RoundDelta) : Type 0 where
+  pub born : a.born.items ≡ b.born.items
+  pub died : a.died.items ≡ b.died.items
+
+-- the law that rounds whose rows say the same change a forest alike: they lead to one forest, by the same patches in the same order
+abbrev pub RoundsChangeAlike : Type 0
+RoundsChangeAlike = (mesh : Shape) (x : Across) → Tells mesh x → (room other : Room) (old : Names) (rows same : List MarkRow) →
+    (new end : Names) (delta change : RoundDelta) →
+    AreSameRows rows same → IsRoundBy mesh x room old rows new delta → IsRoundBy mesh x other old same end change →
+    (new ≡ end) × IsSameDelta delta change

@@ -1,5 +1,5 @@
 -- A mesh between rounds, and what one round makes of it.
-use Rattle.std.specs.Prelude.{◌≡◌, List, [], All, ◌⊎◌}
+use Rattle.std.specs.Prelude.{◌≡◌, List, [], All, ◌⊎◌, IsSome, None}
 use Rattle.std.specs.FinSet.{empty}
 use Rattle.mesh_names.specs.Names.{Name}
 use Rattle.mesh_names.specs.Triangles.{Shape}
@@ -7,6 +7,7 @@ use Rattle.mesh_names.specs.Forests.{Names, IsForest, IsListOf}
 use Rattle.mesh_names.specs.Leaves.{leaves}
 use Rattle.mesh_names.specs.Conformity.{HoldsPartners}
 use Rattle.mesh_names.specs.declared.patch.RoundDelta.{RoundDelta}
+use Rattle.mesh_names.specs.declared.patch.VertexKey.{VertexKey}
 use Rattle.mesh_names.specs.declared.rows.MarkRow.{MarkRow}
 use Rattle.mesh_names.specs.declared.rows.What.TheVariants.{Mark}
 use Rattle.mesh_names.specs.declared.rows.Place.TheVariants.{EveryLeaf}
@@ -16,8 +17,8 @@ use Rattle.dof_transfer.specs.Changes.{AreOfForest, IsChange}
 use Rattle.dof_transfer.specs.Exchanges.{element_change}
 use Rattle.dof_transfer.specs.Held.{Held, IsTidied}
 use Rattle.dof_transfer.specs.Macros.{AreMacroElements}
-use Rattle.dof_transfer.specs.VertexNames.{AreOfVertices, AreVertexValues, IsTransition}
-use Rattle.dof_transfer.specs.VertexValues.{AreMacroVertices, IsVertexChange, IsVertexTidied, VertexHeld}
+use Rattle.dof_transfer.specs.VertexNames.{AreOfVertices, AreVertexValues, IsTransition, IsVertexIn}
+use Rattle.dof_transfer.specs.VertexValues.{AreMacroVertices, IsVertexChange, IsVertexTidied, VertexHeld, value_at}
 use Rattle.forest_plain.specs.Rounds.{IsRoundBy, Room}
 use Rattle.mesh_rounds.specs.declared.values.Values.{Values}
 use Rattle.mesh_rounds.specs.Setting.{AreElementsSet, AreVerticesSet}
@@ -37,6 +38,18 @@ pub record IsState (mesh : Mesh) (state : State) : Type 0 where
   pub forest : IsForest (shape_of mesh) state.members
   pub partners : HoldsPartners (across_in mesh) state.members
   pub vertices : AreOfVertices mesh state.members state.vertices
+  pub elements : AreOfForest (shape_of mesh) state.members state.elements
+
+-- exactly the vertices of the forest have values, of which none is named here
+pub record HaveVertices (mesh : Mesh) (members : Names) (held : VertexHeld) : Type 0 where
+  pub live : (key : VertexKey) → IsVertexIn mesh members key → IsSome (value_at held key)
+  pub none : (key : VertexKey) → (IsVertexIn mesh members key → ⊥) → value_at held key ≡ None
+
+-- the same as `IsState`, as a fact of which there is no more than one proof
+pub record Belongs (mesh : Mesh) (state : State) : Type 0 where
+  pub forest : IsForest (shape_of mesh) state.members
+  pub partners : HoldsPartners (across_in mesh) state.members
+  pub vertices : HaveVertices mesh state.members state.vertices
   pub elements : AreOfForest (shape_of mesh) state.members state.elements
 
 -- before any round nothing is bisected, and the macro vertices and elements have their values

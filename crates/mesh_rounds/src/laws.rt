@@ -1,7 +1,7 @@
 //! Laws over the definitions alone. Each function takes nothing and answers nothing: its
 //! contract is the law.
 ghost use Rattle.mesh_rounds.specs.ForestValues.{ElementsStay, FirstElements, FirstVertices, VerticesStay};
-ghost use Rattle.mesh_rounds.specs.SameRounds.{RoundsEndAtOne};
+ghost use Rattle.mesh_rounds.specs.SameRounds.{RoundsChangeAlike, RoundsEndAtOne};
 ghost use Rattle.mesh_rounds.specs.RoundChanges.{BornAreLow, BornArePairs, BornAreRooted, DiedAreParents, NewHoldsPartners, NewIsForest, RoundsAreChanges, RoundsAreTransitions, RoundsCanBeFollowed};
 
 /// A round leads to a forest.
@@ -60,4 +60,9 @@ pub fn values_stay()
 /// Rounds whose rows say the same lead from one forest to one forest.
 pub fn rounds_end_at_one()
     ensures { RoundsEndAtOne }
+{}
+
+/// Rounds whose rows say the same bisect and take away the same patches of a forest, in the same order.
+pub fn rounds_change_alike()
+    ensures { RoundsChangeAlike }
 {}

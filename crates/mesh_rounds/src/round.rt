@@ -48,8 +48,8 @@ fn listed_leaves<F: Forest>(
 /// last wins; the forest is refined and coarsened; and the values go along (Mitchell's bisection): a new
 /// vertex has half the sum of the values at the ends of the edge that it bisects, rounded down, child 0
 /// of an element half of its value, rounded down, and child 1 the rest, and a coarsened element the sum
-/// of its children's. After a refusal nothing has changed, but for want of memory, after which forest
-/// and values may only be dropped.
+/// of its children's. A refusal changes nothing, unless memory runs out: then forest and values may only
+/// be dropped.
 pub fn round<F: Forest>(
     alloc: Global,
     mesh: &MacroMesh,

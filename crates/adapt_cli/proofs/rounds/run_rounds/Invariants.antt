@@ -1,14 +1,13 @@
 use Rattle.std.proofs.Common.{◌≡◌}
-use Rattle.forest_tree.specs.Forests.{members_of, mesh_of, pool_of, sides_of}
-use Rattle.mesh_rounds.specs.State.{IsState, with_values}
+use Rattle.mesh_rounds.specs.Adaptive.{mesh_of, seen_of, state_of}
+use Rattle.mesh_rounds.specs.State.{IsState}
 use Rattle.adapt_cli.proofs.RoundOrder.{SoFar}
 use Rattle.adapt_cli.proofs.rounds.run_rounds.Given as goal
 
 abbrev pub invariant-loop-round : goal.invariant-loop-round
 invariant-loop-round l = record {
-  so_far : SoFar l.mesh (pool_of l.fn.forest) l.rounds (with_values (members_of l.fn.forest) l.fn.values) l.round-index (with_values (members_of l.forest) l.values);
-  state : IsState l.mesh (with_values (members_of l.forest) l.values);
-  same : mesh_of l.forest ≡ mesh_of l.fn.forest;
-  sides : sides_of l.forest ≡ sides_of l.fn.forest;
-  pool : pool_of l.forest ≡ pool_of l.fn.forest;
+  so_far : SoFar (mesh_of l.fn.mesh) (seen_of l.fn.mesh).pool l.rounds (state_of l.fn.mesh) l.round-index (state_of l.mesh);
+  state : IsState (mesh_of l.mesh) (state_of l.mesh);
+  same : mesh_of l.mesh ≡ mesh_of l.fn.mesh;
+  pool : (seen_of l.mesh).pool ≡ (seen_of l.fn.mesh).pool;
 }

@@ -1,6 +1,6 @@
 use Rattle.std.proofs.Common.{ℕ, ◌+◌, ◌∙◌, refl, sym, subst}
-use Rattle.forest_tree.specs.Forests.{members_of, pool_of}
-use Rattle.mesh_rounds.specs.State.{with_values}
+use Rattle.compat_check.specs.Meshes.{Mesh}
+use Rattle.mesh_rounds.specs.Adaptive.{mesh_of, seen_of, state_of}
 use Rattle.soak.specs.Rows.{Drawing}
 use Rattle.adapt_cli.specs.Soaks.{DrawnTo, DrawsTo}
 use Rattle.adapt_cli.specs.Stops.{StopsBy}
@@ -8,29 +8,36 @@ use Rattle.adapt_cli.proofs.Drawing.{DrawnSoFar, all-drawn, none-drawn, one-draw
 use Rattle.adapt_cli.proofs.soaking.draw_rounds.Goals as goal
 
 pub loop-made-init : goal.loop-made-init
-loop-made-init c = record {
-  so_far = subst (λ (d : Drawing). DrawnSoFar c.args.mesh.now (pool_of c.args.forest.now) c.args.rounds (record { state = c.args.start; row = 1 }) (with_values (members_of c.args.forest.now) c.args.values.now) 0 d (with_values (members_of c.args.forest.now) c.args.values.now)) (sym c.new-draws.ensures) (none-drawn c.args.mesh.now (pool_of c.args.forest.now) c.args.rounds (record { state = c.args.start; row = 1 }) (with_values (members_of c.args.forest.now) c.args.values.now));
-  state = c.requires.state;
-  same = refl;
-  sides = refl;
-  pool = refl;
-}
+loop-made-init c =
+    let start = c.args.mesh.now in
+    record {
+      so_far = subst (λ (d : Drawing). DrawnSoFar (mesh_of start) (seen_of start).pool c.args.rounds (record { state = c.args.start; row = 1 }) (state_of start) 0 d (state_of start)) (sym c.new-draws.ensures) (none-drawn (mesh_of start) (seen_of start).pool c.args.rounds (record { state = c.args.start; row = 1 }) (state_of start));
+      state = c.requires.state;
+      same = refl;
+      pool = refl;
+    }
 
 pub loop-made-preserved : goal.loop-made-preserved
 loop-made-preserved c =
-    let new = with_values (members_of c.draw_one.new.forest) c.draw_one.new.values in
+    let start = c.args.mesh.now in
+    let here = c.loop-made.mesh in
+    let next = c.draw_one.new.mesh in
+    let inv = c.loop-made.invariant in
     record {
-      so_far = one-drawn c.args.mesh.now (pool_of c.args.forest.now) c.args.rounds (record { state = c.args.start; row = 1 }) (with_values (members_of c.args.forest.now) c.args.values.now) c.loop-made.made c.loop-made.draws c.draw_one.new.draws (with_values (members_of c.loop-made.forest) c.loop-made.values) new c.loop-made.invariant.so_far c.loop-made-test.true
-          (subst (λ (p : ℕ). DrawnTo c.args.mesh.now p (c.loop-made.made + 1) c.loop-made.draws (with_values (members_of c.loop-made.forest) c.loop-made.values) c.draw_one.new.draws new) c.loop-made.invariant.pool c.in_default.ensures.ok);
+      so_far = one-drawn (mesh_of start) (seen_of start).pool c.args.rounds (record { state = c.args.start; row = 1 }) (state_of start) c.loop-made.made c.loop-made.draws c.draw_one.new.draws (state_of here) (state_of next) inv.so_far c.loop-made-test.true
+          (subst (λ (t : Mesh × ℕ). DrawnTo t.0 t.1 (c.loop-made.made + 1) c.loop-made.draws (state_of here) c.draw_one.new.draws (state_of next)) (λ i. (inv.same i, inv.pool i)) c.in_default.ensures.ok);
       state = c.in_default.ensures.state;
-      same = c.in_default.ensures.same.0 ∙ c.loop-made.invariant.same;
-      sides = c.in_default.ensures.same.1 ∙ c.loop-made.invariant.sides;
-      pool = c.in_default.ensures.same.2 ∙ c.loop-made.invariant.pool;
+      same = c.in_default.ensures.same.0 ∙ inv.same;
+      pool = c.in_default.ensures.same.1 ∙ inv.pool;
     }
 
 pub returns-in-Err-clause-stopped : goal.returns-in-Err-clause-stopped
-returns-in-Err-clause-stopped c = stops-drawing c.args.mesh.now (pool_of c.args.forest.now) c.args.rounds (record { state = c.args.start; row = 1 }) (with_values (members_of c.args.forest.now) c.args.values.now) c.loop-made.made c.loop-made.draws (with_values (members_of c.loop-made.forest) c.loop-made.values) c.in-Err.stop c.loop-made.invariant.so_far c.loop-made-test.true
-    (subst (λ (p : ℕ). StopsBy (DrawsTo c.args.mesh.now p 1 (c.loop-made.made + 1) c.loop-made.draws (with_values (members_of c.loop-made.forest) c.loop-made.values)) c.in-Err.stop) c.loop-made.invariant.pool c.in-Err.ensures.stopped)
+returns-in-Err-clause-stopped c =
+    let start = c.args.mesh.now in
+    let here = c.loop-made.mesh in
+    let inv = c.loop-made.invariant in
+    stops-drawing (mesh_of start) (seen_of start).pool c.args.rounds (record { state = c.args.start; row = 1 }) (state_of start) c.loop-made.made c.loop-made.draws (state_of here) c.in-Err.stop inv.so_far c.loop-made-test.true
+    (subst (λ (t : Mesh × ℕ). StopsBy (DrawsTo t.0 t.1 1 (c.loop-made.made + 1) c.loop-made.draws (state_of here)) c.in-Err.stop) (λ i. (inv.same i, inv.pool i)) c.in-Err.ensures.stopped)
 
 pub returns-clause-ok : goal.returns-clause-ok
-returns-clause-ok c = all-drawn c.args.mesh.now (pool_of c.args.forest.now) c.args.rounds (record { state = c.args.start; row = 1 }) (with_values (members_of c.args.forest.now) c.args.values.now) c.loop-made.made c.loop-made.draws (with_values (members_of c.loop-made.forest) c.loop-made.values) c.loop-made.invariant.so_far c.loop-made-test.false
+returns-clause-ok c = all-drawn (mesh_of c.args.mesh.now) (seen_of c.args.mesh.now).pool c.args.rounds (record { state = c.args.start; row = 1 }) (state_of c.args.mesh.now) c.loop-made.made c.loop-made.draws (state_of c.loop-made.mesh) c.loop-made.invariant.so_far c.loop-made-test.false

@@ -17,6 +17,7 @@ use Rattle.dof_transfer.specs.Held.{Held, value_of}
 use Rattle.dof_transfer.specs.VertexNames.{AreOfVertices, StandsIn}
 use Rattle.dof_transfer.specs.VertexValues.{VertexHeld}
 use Rattle.mesh_rounds.specs.State.{IsFirst, IsState, State}
+use Rattle.mesh_rounds.specs.Texts.{AreLeaves}
 use Rattle.mesh_rounds.proofs.CornerKeys.{corners_stand}
 use Rattle.mesh_rounds.proofs.ValuesStay.{first_elements, first_vertices}
 use Rattle.mesh_writer.specs.MeshText.{HasSome, HaveValues}
@@ -50,6 +51,17 @@ module _ (mesh : Mesh) (checked : IsChecked mesh) (members : Names) (forest : Is
       macros = λ i low. let r = are.vertices (Macro i) low in (r.0, record { key = Macro i; names = record { only = tt; of_mesh = tt; is = refl }; is = r.1 });
       corners = each-in (λ n. (v : Vertex) → IsCorner v (triangle (shape_of mesh) n) → HasSome mesh held v) list (λ n i. corner-has n (listed-leaf n i));
     }
+
+-- the leaves of a state, listed
+pub record CanWrite (mesh : Mesh) (list : List Name) (state : State) : Type 0 where
+  pub vertices : HaveValues mesh list state.vertices
+  pub elements : All (λ n. IsSome (value_of state.elements n)) list
+
+pub can-write : (mesh : Mesh) → IsChecked mesh → (state : State) → IsState mesh state → (list : List Name) → AreLeaves mesh state list → CanWrite mesh list state
+can-write mesh checked state is list are = record {
+  vertices = vertices-have mesh checked state.members is.forest is.partners list are state.vertices is.vertices;
+  elements = leaves-have mesh checked state.members is.forest is.partners list are state.elements is.elements;
+}
 
 -- the leaves are listed, by other words
 pub leaves-listed : (shape shape' : Shape) (members : Names) (list list' : List Name) → shape ≡ shape' → list ≡ list' → IsListOf (leaves shape members) list → IsListOf (leaves shape' members) list'
