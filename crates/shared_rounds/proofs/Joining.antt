@@ -1,5 +1,5 @@
 -- What the owner has once passes have worked and are joined.
-use Rattle.std.proofs.Common.{◌≡◌, ℕ, suc, ◌-◌, false, true≢false, List, [], ◌∷◌, ◌++◌, All, Option, None, Some, length, map, reverse, take, drop, refl, sym, ap, ◌∙◌, subst, inl, ⊎_elim, arith}
+use Rattle.std.proofs.Common.{◌≡◌, ℕ, suc, ◌-◌, false, true≢false, List, [], ◌∷◌, ◌++◌, All, IfSome, Option, None, Some, length, map, reverse, take, drop, refl, sym, ap, ◌∙◌, subst, inl, inr, ⊎_elim, arith}
 use Rattle.std.specs.Prelude.{Ok, Err}
 use Rattle.std.specs.List.{AllZip}
 use Rattle.std.proofs.lemmas.List.{length-map, length-reverse, map-append, reverse-append, take_all}
@@ -9,32 +9,29 @@ use Rattle.compat_check.specs.Meshes.{across_in, shape_of}
 use Rattle.mesh_names.specs.Names.{Name}
 use Rattle.mesh_names.specs.Partners.{Across}
 use Rattle.mesh_names.specs.Triangles.{Shape}
-use Rattle.table_words.specs.Claims.{Claim, Failed, Living, claim}
 use Rattle.table_words.specs.Entries.{HasEntry}
 use Rattle.table_words.specs.NameWords.{name_code}
-use Rattle.table_words.specs.Places.{place_number}
 use Rattle.table_words.specs.Views.{Ruling}
 use Rattle.table_words.proofs.Entries.{entry_left, entry_right}
 use Rattle.mesh_table.specs.Lost.{AllLiving}
 use Rattle.mesh_table.specs.Sights.{Sight}
-use Rattle.mesh_table.specs.Told.{mate_number, sight}
+use Rattle.mesh_table.specs.Told.{sight}
 use Rattle.mesh_table.specs.declared.rule.Site.{Site}
-use Rattle.patch_claims.specs.Listed.{AreKept}
+use Rattle.patch_claims.specs.Listed.{AreKept, AreWithin, IsPublished}
 use Rattle.patch_claims.specs.declared.needs.ClaimRefusal.TheVariants.{Deferred, Full}
-use Rattle.patch_claims.specs.declared.patch.Patch.{Patch}
 use Rattle.patch_claims.specs.declared.patch.Spot.{Spot}
 use Rattle.patch_claims.specs.declared.refine.Done.TheVariants.{Published, Already}
-use Rattle.table_passes.specs.Answers.{Answer, IsWorked, Ran, is_full}
+use Rattle.table_passes.specs.Answers.{Answer, IsWorked, NoneFull, Ran, is_full}
 use Rattle.table_passes.specs.Crew.{joined_all}
 use Rattle.table_passes.specs.Kept.{all_claims}
 use Rattle.table_passes.specs.Tasks.{IsDone}
 use Rattle.table_passes.specs.declared.lists.Lists.{Lists}
 use Rattle.table_passes.specs.declared.work.Joined.{Joined}
 use Rattle.table_passes.specs.declared.work.Task.{Task}
-use Rattle.shared_rounds.specs.Reached.{HasJoined, NoneFull, Reaches, put_off}
+use Rattle.shared_rounds.specs.Reached.{AreInside, HasJoined, IsReached, Reaches, put_off}
 
 -- v knows as bisected what u does
-abbrev KnowsMore : Sight → Sight → Type 0
+abbrev pub KnowsMore : Sight → Sight → Type 0
 KnowsMore u v = (i : ℕ) → HasEntry u.work.known i → HasEntry v.work.known i
 
 last_not : (front : List Answer) (a : Answer) → NoneFull (front ++ a ∷ []) → is_full a ≡ false
@@ -64,17 +61,6 @@ module _ (mesh : Shape) (x : Across) where
   worked_reaches u v w names answers worked none more = ran_reaches u names answers v w
       (subst (λ (ns : List Name). Ran mesh x u ns answers v) (take_all (length answers) names (let e = (all_worked u v names answers worked none).0 in omega arith)) worked.ran) more
 
-failed_not : (b : ℕ) → Failed ≡ Living b → ⊥
-failed_not b e = cc
-
--- where each claim has its living block, no draw has failed
-none_failed : (k : Site) (v : Sight) (ps : List Patch) (f : Option Spot) → AreKept k v ps f → AllLiving v.claims → f ≡ None
-none_failed k v ps None h all = refl
-none_failed k v ps (Some spot) h all =
-    let c = claim (place_number k.layout spot.first) (mate_number k.layout spot.second) Failed in
-    let a = all c (subst (λ (cs : List Claim). HasEntry cs c) (sym h.1) (inl refl)) in
-    absurd (failed_not a.0 a.1)
-
 -- the view of a task's pass
 abbrev view_of : Task → Sight
 view_of t = sight t.pass.seat
@@ -103,18 +89,58 @@ joined_each v w (t ∷ ts) more = All-cons (λ t. KnowsMore (view_of t) w) t ts
     (λ i h. more i (entry_right (joined_all v (map view_of ts)).work.known (view_of t).work.known i h))
     (joined_each v w ts (λ i h. more i (entry_left (joined_all v (map view_of ts)).work.known (view_of t).work.known i h)))
 
--- what holds of a pass that has worked, in the words of its task
+-- what was done by a task, and by a joined pass
+abbrev Deeds : Type 0
+Deeds = List Name × List Answer × Lists
+
+abbrev deeds_of : Task → Deeds
+deeds_of t = (t.names.items, t.answers.items, t.pass.lists)
+
+abbrev told_of : Joined → Deeds
+told_of d = (d.names.items, d.answers.items, d.lists)
+
+-- what holds of a pass that has worked, in the words of its deeds
+abbrev AreReached : Sight → Deeds → Type 0
+AreReached v a = a.2.failed ≡ None → (length a.1 ≡ length a.0) × NoneFull a.1 × Reaches v a.0 a.1
+
 abbrev IsTaskReached : Sight → Task → Type 0
-IsTaskReached v t = NoneFull t.answers.items → Reaches v t.names.items t.answers.items × (t.pass.lists.failed ≡ None)
+IsTaskReached v t = AreReached v (deeds_of t)
 
 task_reached : (k : Site) (v : Sight) (t u : Task) → IsDone k t u → KnowsMore (view_of u) v → IsTaskReached v u
-task_reached k v t u done more none =
+task_reached k v t u done more living =
     let mesh = shape_of k.mesh.now in
     let x = across_in k.mesh.now in
-    let worked = subst (λ (ns : List Name). IsWorked mesh x (view_of t) (view_of u) ns u.answers.items) (sym done.names) done.worked in (
+    let worked = subst (λ (ns : List Name). IsWorked mesh x (view_of t) (view_of u) ns u.answers.items) (sym done.names) done.worked in
+    let none = done.failed living in (
+      (all_worked mesh x (view_of t) (view_of u) u.names.items u.answers.items worked none).0,
+      none,
       worked_reaches mesh x (view_of t) (view_of u) v u.names.items u.answers.items worked none more,
-      none_failed k (view_of u) u.pass.lists.published.items u.pass.lists.failed done.kept (all_worked mesh x (view_of t) (view_of u) u.names.items u.answers.items worked none).1,
     )
+
+-- the lists of a pass have blocks and places of the table
+all_entry : {A : Type 0} (P : A → Type 0) (xs : List A) (a : A) → All P xs → HasEntry xs a → P a
+all_entry P [] a h e = absurd e
+all_entry P (x ∷ xs) a h (inl e) = subst P (sym e) (All-head P x xs h)
+all_entry P (x ∷ xs) a h (inr e) = all_entry P xs a (All-tail P x xs h) e
+
+kept_inside : (k : Site) (v : Sight) (a : Lists) → AreKept k v a.published.items a.failed → AreInside k.layout a
+kept_inside k v a h = inside a.failed refl h
+  where
+    inside : (f : Option Spot) → a.failed ≡ f → AreKept k v a.published.items f → AreInside k.layout a
+    inside None e h = record {
+      published = λ p m. let q = all_entry (IsPublished k.layout v) a.published.items p h.each m in (q.room, q.within);
+      failed = subst (λ (g : Option Spot). IfSome g (AreWithin k.layout)) (sym e) tt;
+    }
+    inside (Some spot) e h = record {
+      published = λ p m. let q = all_entry (IsPublished k.layout v) a.published.items p h.4.each m in (q.room, q.within);
+      failed = subst (λ (g : Option Spot). IfSome g (AreWithin k.layout)) (sym e) h.3;
+    }
+
+tasks_inside : (k : Site) (ts us : List Task) → AllZip (IsDone k) ts us → All (λ t. AreInside k.layout t.pass.lists) us
+tasks_inside k [] [] done = All-nil (λ t. AreInside k.layout t.pass.lists)
+tasks_inside k [] (u ∷ us) done = absurd done
+tasks_inside k (t ∷ ts) [] done = absurd done
+tasks_inside k (t ∷ ts) (u ∷ us) done = All-cons (λ t. AreInside k.layout t.pass.lists) u us (kept_inside k (view_of u) u.pass.lists done.0.kept) (tasks_inside k ts us done.1)
 
 tasks_reached : (k : Site) (v : Sight) (ts us : List Task) → AllZip (IsDone k) ts us → All (λ t. KnowsMore (view_of t) v) us → All (IsTaskReached v) us
 tasks_reached k v [] [] done more = All-nil (IsTaskReached v)
@@ -129,26 +155,16 @@ done_names k [] (u ∷ us) done = absurd done
 done_names k (t ∷ ts) [] done = absurd done
 done_names k (t ∷ ts) (u ∷ us) done = (λ i. done.0.names i ∷ done_names k ts us done.1 i)
 
-reversed : {A : Type 0} (x : A) (xs : List A) → reverse (x ∷ xs) ≡ reverse xs ++ x ∷ []
+pub reversed : {A : Type 0} (x : A) (xs : List A) → reverse (x ∷ xs) ≡ reverse xs ++ x ∷ []
 reversed x xs = reverse-append (x ∷ []) xs
 
-all_reversed : {A : Type 0} (P : A → Type 0) (xs : List A) → All P xs → All P (reverse xs)
+pub all_reversed : {A : Type 0} (P : A → Type 0) (xs : List A) → All P xs → All P (reverse xs)
 all_reversed P [] h = All-nil P
 all_reversed P (x ∷ xs) h = subst (All P) (sym (reversed x xs)) (All-push P (reverse xs) x (all_reversed P xs (All-tail P x xs h)) (All-head P x xs h))
 
 map_reversed : {A B : Type 0} (f : A → B) (xs : List A) → map f (reverse xs) ≡ reverse (map f xs)
 map_reversed f [] = refl
 map_reversed f (x ∷ xs) = ap (map f) (reversed x xs) ∙ map-append f (reverse xs) (x ∷ []) ∙ (λ i. map_reversed f xs i ++ f x ∷ []) ∙ sym (reversed (f x) (map f xs))
-
--- what was done by a task, and by a joined pass
-abbrev Deeds : Type 0
-Deeds = List Name × List Answer × Lists
-
-abbrev deeds_of : Task → Deeds
-deeds_of t = (t.names.items, t.answers.items, t.pass.lists)
-
-abbrev told_of : Joined → Deeds
-told_of d = (d.names.items, d.answers.items, d.lists)
 
 first_same : {A : Type 0} {a b : A} {xs ys : List A} → a ∷ xs ≡ b ∷ ys → a ≡ b
 first_same e = cc
@@ -168,7 +184,7 @@ same_deeds P (d ∷ ds) (u ∷ us) en ea el h = All-cons (λ d. P (told_of d)) d
 
 -- worker 0 puts no name off
 abbrev IsWhole : Deeds → Type 0
-IsWhole a = NoneFull a.1 → put_off a.0 a.1 ≡ []
+IsWhole a = a.2.failed ≡ None → put_off a.0 a.1 ≡ []
 
 ran_whole : (mesh : Shape) (x : Across) (u : Sight) (names : List Name) (answers : List Answer) (v : Sight) → Ran mesh x u names answers v → u.work.number ≡ 0 → NoneFull answers → put_off names answers ≡ []
 ran_whole mesh x u [] answers v r zero none = refl
@@ -182,7 +198,8 @@ abbrev IsLast : Task → Type 0
 IsLast t = t.pass.number ≡ 0
 
 task_whole : (k : Site) (t u : Task) → IsDone k t u → IsLast t → IsWhole (deeds_of u)
-task_whole k t u done last none =
+task_whole k t u done last living =
+    let none = done.failed living in
     let mesh = shape_of k.mesh.now in
     let x = across_in k.mesh.now in
     let worked = subst (λ (ns : List Name). IsWorked mesh x (view_of t) (view_of u) ns u.answers.items) (sym done.names) done.worked in
@@ -205,6 +222,12 @@ pub has_whole : (k : Site) (ts us : List Task) (ds : List Joined) → AllZip (Is
 has_whole k ts us ds done en ea el last = same_deeds IsWhole ds (reverse us) (en ∙ sym (map_reversed (λ (t : Task). t.names.items) us)) (ea ∙ sym (map_reversed (λ (t : Task). t.answers.items) us)) (el ∙ sym (map_reversed (λ (t : Task). t.pass.lists) us))
     (all_reversed (λ t. IsWhole (deeds_of t)) us (tasks_whole k ts us done last))
 
+all_told : (v : Sight) (es : List Joined) → All (λ d. AreReached v (told_of d)) es → All (λ d. d.lists.failed ≡ None → IsReached v d) es
+all_told v [] h = All-nil (λ d. d.lists.failed ≡ None → IsReached v d)
+all_told v (d ∷ es) h = All-cons (λ d. d.lists.failed ≡ None → IsReached v d) d es
+    (λ n. let q = All-head (λ d. AreReached v (told_of d)) d es h n in record { all = q.0; none = q.1; known = q.2 })
+    (all_told v es (All-tail (λ d. AreReached v (told_of d)) d es h))
+
 pub has_joined : (k : Site) (u v : Sight) (ts us : List Task) (ds : List Joined) → AllZip (IsDone k) ts us → v ≡ joined_all u (map view_of us)
     → map (λ (d : Joined). d.names.items) ds ≡ reverse (map (λ (t : Task). t.names.items) us)
     → map (λ (d : Joined). d.answers.items) ds ≡ reverse (map (λ (t : Task). t.answers.items) us)
@@ -216,8 +239,10 @@ has_joined k u v ts us ds done e en ea el ec = record {
   alone = λ one. ap (λ (w : Sight). w.ruling.lone) e ∙ joined_alone u (map view_of us) one;
   claims = ec;
   known = λ i h. subst (λ (w : Sight). HasEntry w.work.known i) (sym e) (joined_known u (map view_of us) i h);
-  reached = same_deeds (λ a. NoneFull a.1 → Reaches v a.0 a.1 × (a.2.failed ≡ None)) ds (reverse us) (en ∙ sym (map_reversed (λ (t : Task). t.names.items) us)) (ea ∙ sym (map_reversed (λ (t : Task). t.answers.items) us)) (el ∙ sym (map_reversed (λ (t : Task). t.pass.lists) us))
-      (all_reversed (IsTaskReached v) us (tasks_reached k v ts us done (joined_each u v us (λ i h. subst (λ (w : Sight). HasEntry w.work.known i) (sym e) h))));
+  reached = all_told v ds (same_deeds (AreReached v) ds (reverse us) (en ∙ sym (map_reversed (λ (t : Task). t.names.items) us)) (ea ∙ sym (map_reversed (λ (t : Task). t.answers.items) us)) (el ∙ sym (map_reversed (λ (t : Task). t.pass.lists) us))
+      (all_reversed (IsTaskReached v) us (tasks_reached k v ts us done (joined_each u v us (λ i h. subst (λ (w : Sight). HasEntry w.work.known i) (sym e) h)))));
+  inside = same_deeds (λ a. AreInside k.layout a.2) ds (reverse us) (en ∙ sym (map_reversed (λ (t : Task). t.names.items) us)) (ea ∙ sym (map_reversed (λ (t : Task). t.answers.items) us)) (el ∙ sym (map_reversed (λ (t : Task). t.pass.lists) us))
+      (all_reversed (λ t. AreInside k.layout t.pass.lists) us (tasks_inside k ts us done));
 }
   where
     count : length (map view_of us) ≡ length ds

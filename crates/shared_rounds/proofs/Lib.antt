@@ -2,3 +2,9 @@ pub mod Telling
 pub mod Piles
 pub mod Joining
 pub mod PuttingOff
+pub mod Listing
+pub mod Rooms
+pub mod Knowing
+pub mod Failing
+pub mod Halves
+pub mod Covering

@@ -42,9 +42,13 @@ abbrev pub held_with : Option Spot → List Held → List Held
 held_with None hs = hs
 held_with (Some spot) hs = record { first = spot.first; second = spot.second; block = None } ∷ hs
 
+-- those of a pass, and of the passes, one after the other
+abbrev pub held_in : Lists → List Held
+held_in a = held_with a.failed (held_before a.published.items [])
+
 abbrev pub all_held : List Lists → List Held
 all_held [] = []
-all_held (a ∷ rest) = held_with a.failed (held_before a.published.items []) ++ all_held rest
+all_held (a ∷ rest) = held_in a ++ all_held rest
 
 -- the claim that is held
 abbrev pub held_claim : Layout → Held → Claim

@@ -1,4 +1,5 @@
 pub mod Claims
+pub mod FirstHalf
 pub mod Gathered
 pub mod Reached
 pub mod Room

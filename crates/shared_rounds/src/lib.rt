@@ -3,6 +3,8 @@
 
 pub mod answers;
 pub mod gathering;
+pub mod half;
 pub mod looks;
+pub mod needs;
 pub mod refining;
 pub mod room;

@@ -1,5 +1,5 @@
 //! The first half of a round: passes refine the names that the round needs, each its own, and are joined.
-ghost use Rattle.std.specs.Prelude.{◌≡◌, ◌≤◌, ◌∷◌, [], All, length, map, reverse, true, vec_capacity};
+ghost use Rattle.std.specs.Prelude.{◌≡◌, ◌≤◌, ◌∷◌, [], All, None, length, map, reverse, true, vec_capacity};
 ghost use Rattle.compat_check.specs.Meshes.{shape_of};
 ghost use Rattle.table_words.specs.Entries.{HasEntry};
 ghost use Rattle.table_state.specs.Lists.{IsClosed};
@@ -8,7 +8,7 @@ ghost use Rattle.mesh_table.specs.Sights.{setup_at};
 ghost use Rattle.mesh_table.specs.Told.{IsOf, Stays, sight};
 ghost use Rattle.table_passes.specs.Answers.{IsAimed};
 ghost use Rattle.table_passes.specs.Tasks.{IsReady};
-ghost use Rattle.shared_rounds.specs.Reached.{HasJoined, NoneFull, put_off};
+ghost use Rattle.shared_rounds.specs.Reached.{HasJoined, put_off};
 ghost use Rattle.shared_rounds.specs.Room.{HasRoomFor};
 
 use crate::room::LastRoom;
@@ -35,7 +35,7 @@ pub fn work_tasks<R: Threads + Sync, G: Gate + Sync>(
     ensures stays { Stays owner.old.seat owner.new.seat }
     ensures joined { HasJoined table.now.site.layout (sight owner.old.seat) (sight owner.new.seat) result.items }
     ensures names { map (λ d. d.names.items) result.items ≡ reverse (map (λ t. t.names.items) tasks.items) }
-    ensures last { All (λ t. t.pass.number ≡ 0) tasks.items → All (λ d. NoneFull d.answers.items → put_off d.names.items d.answers.items ≡ []) result.items }
+    ensures last { All (λ t. t.pass.number ≡ 0) tasks.items → All (λ d. d.lists.failed ≡ None → put_off d.names.items d.answers.items ≡ []) result.items }
 {
     let mut tasks = tasks;
     work_all(rt, table, tasks.as_mut_slice(), gate);
@@ -59,7 +59,7 @@ pub fn finish_names<R: Threads + Sync, G: Gate + Sync>(
     ensures stays { Stays owner.old.seat owner.new.seat }
     ensures joined { HasJoined table.now.site.layout (left_lone (sight owner.old.seat) true) (sight owner.new.seat) result.items }
     ensures names { map (λ d. d.names.items) result.items ≡ names.items ∷ [] }
-    ensures last { All (λ d. NoneFull d.answers.items → put_off d.names.items d.answers.items ≡ []) result.items }
+    ensures last { All (λ d. d.lists.failed ≡ None → put_off d.names.items d.answers.items ≡ []) result.items }
 {
     let pass = owner.split_last(table, room.lists);
     let mut tasks = room.tasks;

@@ -1,5 +1,5 @@
 -- Calls of a pass for names, one after the other.
-use Rattle.std.proofs.Common.{◌≡◌, ℕ, ◌+◌, ◌<◌, Bool, true, false, List, [], ◌∷◌, ◌++◌, length, take, get_or, length-append, refl, sym, ap, ◌∙◌, subst, inl, inr, ◌⊎◌, true≢false}
+use Rattle.std.proofs.Common.{◌≡◌, ℕ, ◌+◌, ◌<◌, Bool, true, false, List, [], ◌∷◌, ◌++◌, Option, None, Some, length, take, get_or, length-append, refl, sym, ap, ◌∙◌, subst, inl, inr, ◌⊎◌, true≢false}
 use Rattle.std.specs.Prelude.{Ok, Err, IfOk, IfErr}
 use Rattle.std.proofs.lemmas.List.{take_more}
 use Rattle.patch_walk.proofs.Learning.{works_more}
@@ -21,6 +21,7 @@ use Rattle.patch_claims.specs.Refined.{IsRefined}
 use Rattle.patch_claims.specs.declared.needs.ClaimRefusal.TheVariants.{Deferred, Full}
 use Rattle.patch_claims.specs.declared.patch.Spot.{Spot}
 use Rattle.patch_claims.specs.declared.refine.Done.TheVariants.{Published, Already}
+use Rattle.table_passes.specs.Kept.{failed_in}
 use Rattle.table_passes.specs.Answers.{Answer, IsAimed, CanRefine, IsAnswer, is_full, HasAnswered, Ran, IsWorked}
 
 module _ (mesh : Shape) (x : Across) (u v : Sight) (n : Name) where
@@ -77,3 +78,9 @@ module _ (mesh : Shape) (x : Across) where
       ran = subst (λ (k : ℕ). Ran mesh x u (take k names) more w) (sym more_count) ran_next;
       ends = inr (answers, t.0, t.1, t.2, grew ∙ ap (λ (b : Answer). answers ++ b ∷ []) t.3);
     }
+
+-- the claim of a call that found no block is noted
+pub full_failed : (a : Answer) → is_full a ≡ true → failed_in a ≡ None → ⊥
+full_failed (Ok done) e f = absurd (true≢false (sym e))
+full_failed (Err (Deferred owner word)) e f = absurd (true≢false (sym e))
+full_failed (Err (Full drawn free spot)) e f = cc

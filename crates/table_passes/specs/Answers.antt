@@ -1,5 +1,5 @@
 -- What the calls of a pass for names answer, one after the other.
-use Rattle.std.specs.Prelude.{◌≡◌, ℕ, Bool, true, false, List, [], ◌∷◌, ◌++◌, length, take, Result, Ok, Err, ◌⊎◌}
+use Rattle.std.specs.Prelude.{◌≡◌, ℕ, Bool, true, false, List, [], ◌∷◌, ◌++◌, All, length, take, Result, Ok, Err, ◌⊎◌}
 use Rattle.mesh_names.specs.Chains.{chain_of}
 use Rattle.mesh_names.specs.Forests.{Has}
 use Rattle.mesh_names.specs.Names.{Name}
@@ -46,6 +46,10 @@ abbrev pub is_full : Answer → Bool
 is_full (Ok done) = false
 is_full (Err (Deferred owner word)) = false
 is_full (Err (Full drawn free spot)) = true
+
+-- no call found that there were no free blocks left
+abbrev pub NoneFull : List Answer → Type 0
+NoneFull answers = All (λ a. is_full a ≡ false) answers
 
 -- a call for the name led from the view u to v, and gave this answer
 pub record HasAnswered (mesh : Shape) (x : Across) (u v : Sight) (n : Name) (a : Answer) : Type 0 where

@@ -1,5 +1,5 @@
 -- Passes with their names: before they work, and after.
-use Rattle.std.specs.Prelude.{◌≡◌, ℕ, ◌<◌, ◌≤◌, List, [], All, length, vec_capacity}
+use Rattle.std.specs.Prelude.{◌≡◌, ℕ, ◌<◌, ◌≤◌, List, [], All, None, length, vec_capacity}
 use Rattle.atomic_table.specs.Seated.{TableId}
 use Rattle.compat_check.specs.Meshes.{across_in, shape_of}
 use Rattle.mesh_names.specs.Names.{Name}
@@ -8,7 +8,7 @@ use Rattle.mesh_table.specs.Passes.{made_worker}
 use Rattle.mesh_table.specs.Sights.{Sight, setup_at}
 use Rattle.mesh_table.specs.Told.{IsOf, Stays, sight}
 use Rattle.mesh_table.specs.declared.rule.Site.{Site}
-use Rattle.table_passes.specs.Answers.{CanRefine, IsAimed, IsWorked}
+use Rattle.table_passes.specs.Answers.{CanRefine, IsAimed, IsWorked, NoneFull}
 use Rattle.table_passes.specs.Kept.{HasKept}
 use Rattle.table_passes.specs.declared.lists.Lists.{Lists}
 use Rattle.table_passes.specs.declared.work.Task.{Task}
@@ -34,6 +34,7 @@ pub record IsDone (k : Site) (t u : Task) : Type 0 where
   pub names : u.names.items ≡ t.names.items
   pub worked : IsWorked (shape_of k.mesh.now) (across_in k.mesh.now) (sight t.pass.seat) (sight u.pass.seat) t.names.items u.answers.items
   pub kept : HasKept k u.pass
+  pub failed : u.pass.lists.failed ≡ None → NoneFull u.answers.items
 
 -- the task's pass was made by the owner from this view
 abbrev pub IsMade : Sight → Task → Type 0

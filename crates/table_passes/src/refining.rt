@@ -4,7 +4,7 @@ ghost use Rattle.compat_check.specs.Meshes.{across_in, shape_of};
 ghost use Rattle.mesh_table.specs.Sights.{setup_at};
 ghost use Rattle.mesh_table.specs.Told.{IsOf, Stays, sight};
 ghost use Rattle.table_passes.specs.Answers.{CanRefine, HasAnswered, IsAimed, is_full};
-ghost use Rattle.table_passes.specs.Kept.{HasKept};
+ghost use Rattle.table_passes.specs.Kept.{HasKept, failed_in};
 
 use crate::lists::failed_in;
 use crate::pass::Pass;
@@ -34,6 +34,7 @@ impl Pass {
         ensures can { is_full result ≡ false → CanRefine (setup_at table.now.site) (sight self.new.seat) }
         ensures answered { HasAnswered (shape_of table.now.site.mesh.now) (across_in table.now.site.mesh.now) (sight self.old.seat) (sight self.new.seat) name result }
         ensures kept { HasKept table.now.site self.new }
+        ensures failed { self.new.lists.failed ≡ failed_in result }
         ensures room { vec_capacity self.new.lists.published ≡ vec_capacity self.old.lists.published }
     {
         let answer = refine_name(

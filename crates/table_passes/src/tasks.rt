@@ -1,11 +1,11 @@
 //! Passes at work, each with its own names, in threads.
-ghost use Rattle.std.specs.Prelude.{◌≡◌, ◌<◌, ◌≤◌, [], All, length, vec_capacity};
+ghost use Rattle.std.specs.Prelude.{◌≡◌, ◌<◌, ◌≤◌, [], All, None, length, vec_capacity};
 ghost use Rattle.std.specs.List.{AllZip};
 ghost use Rattle.std.specs.Thread.{IsSync};
 ghost use Rattle.compat_check.specs.Meshes.{across_in, shape_of};
 ghost use Rattle.mesh_table.specs.Sights.{setup_at};
 ghost use Rattle.mesh_table.specs.Told.{IsOf, Stays, sight};
-ghost use Rattle.table_passes.specs.Answers.{CanRefine, IsAimed, IsWorked};
+ghost use Rattle.table_passes.specs.Answers.{CanRefine, IsAimed, IsWorked, NoneFull};
 ghost use Rattle.table_passes.specs.Kept.{HasKept};
 ghost use Rattle.table_passes.specs.Tasks.{IsDone, IsReady, IsWorkers};
 
@@ -40,6 +40,7 @@ pub fn refine_names<G: Gate>(
     ensures worked { IsWorked (shape_of table.now.site.mesh.now) (across_in table.now.site.mesh.now) (sight pass.old.seat) (sight pass.new.seat) names.now answers.new.items }
     ensures capacity { vec_capacity answers.new ≡ vec_capacity answers.old }
     ensures kept { HasKept table.now.site pass.new }
+    ensures failed { pass.new.lists.failed ≡ None → NoneFull answers.new.items }
 {
     for name in names {
         let answer = pass.refine(table, *name, gate);

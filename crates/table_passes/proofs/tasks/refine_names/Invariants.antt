@@ -4,7 +4,7 @@ use Rattle.compat_check.specs.Meshes.{across_in, shape_of}
 use Rattle.mesh_table.specs.Lost.{AllLiving}
 use Rattle.mesh_table.specs.Told.{Stays, sight}
 use Rattle.patch_walk.specs.Works.{Works}
-use Rattle.table_passes.specs.Answers.{Ran}
+use Rattle.table_passes.specs.Answers.{NoneFull, Ran}
 use Rattle.table_passes.specs.Kept.{HasKept}
 use Rattle.table_passes.proofs.tasks.refine_names.Given as goal
 
@@ -19,5 +19,6 @@ invariant-loop-name g l = record {
   ran : Ran (shape_of l.table.site.mesh.now) (across_in l.table.site.mesh.now) (sight l.fn.pass.seat) (take l.name-index l.names) l.answers.items (sight l.pass.seat);
   capacity : vec_capacity l.answers ≡ vec_capacity l.fn.answers;
   kept : HasKept l.table.site l.pass;
+  none : NoneFull l.answers.items;
   list : vec_capacity l.pass.lists.published ≡ vec_capacity l.fn.pass.lists.published;
 }
