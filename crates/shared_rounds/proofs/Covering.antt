@@ -107,8 +107,8 @@ known_codes v (n ∷ ns) h i (inr e) = known_codes v ns (All-tail (λ (n : Name)
 -- the first half for needs that were dealt out
 module _ (s : Setup) (l : Layout) (u v : Sight) (workers : ℕ) (some : 0 < workers) (alone : u.ruling.lone ≡ false) (needs : List Name) (dealt : List (List Name))
     (shares : dealt ≡ map (λ (first : ℕ). every workers first needs) (range_with_len 0 workers)) where
-  now_ruling : v.ruling ≡ record (left_by workers u).ruling { workers = 0; lone = v.ruling.lone } → v.ruling ≡ record u.ruling { workers = 0; lone = v.ruling.lone }
-  now_ruling e = e ∙ (λ i. record (left_ruling workers u alone i) { workers = 0; lone = v.ruling.lone })
+  now_ruling : v.ruling ≡ record (left_by workers u).ruling { workers = 0; lone = false } → v.ruling ≡ record u.ruling { workers = 0; lone = false }
+  now_ruling e = e ∙ (λ i. record (left_ruling workers u alone i) { workers = 0; lone = false })
 
   known_needs : All (AllKnown v) dealt → AllKnown v needs
   known_needs h = shares_cover (λ (n : Name). HasEntry v.work.known (name_code n)) workers needs some (subst (All (AllKnown v)) shares h)

@@ -1,5 +1,5 @@
 -- The first half of a round, whole.
-use Rattle.std.proofs.Common.{◌≡◌, ℕ, ◌+◌, ◌-◌, ◌≤◌, List, [], ◌∷◌, ◌++◌, All, None, true, length, map, reverse, sym, ap, ◌∙◌, subst, arith}
+use Rattle.std.proofs.Common.{◌≡◌, ℕ, ◌+◌, ◌-◌, ◌≤◌, List, [], ◌∷◌, ◌++◌, All, None, false, true, length, map, reverse, sym, ap, ◌∙◌, subst, arith}
 use Rattle.std.proofs.lemmas.List.{length-append, length-map, length-reverse, reverse-reverse}
 use Rattle.std.proofs.lemmas.List.Elements.{All-nil, All-cons, All-head, All-tail}
 use Rattle.mesh_names.specs.Names.{Name}
@@ -48,15 +48,15 @@ both_all P (x ∷ xs) ys a b = All-cons P x (xs ++ ys) (All-head P x xs a) (both
 
 -- The passes are joined
 module _ (k : Site) (u w : Sight) (tasks : List (List Name)) (ds : List Joined) (joined : HasJoined k.layout u w ds) (out : u.ruling.workers ≡ length tasks) (dealt : names_of ds ≡ reverse tasks)
-    (new : u.claims ≡ []) (told : ClaimsTold (setup_at k) w) where
+    (new : u.claims ≡ []) (alone : u.ruling.lone ≡ false) (told : ClaimsTold (setup_at k) w) where
   count : length ds ≡ length tasks
   count = sym (length-map ds (λ (d : Joined). d.names.items)) ∙ ap length dealt ∙ length-reverse tasks
 
   pub first_home : w.ruling.workers ≡ 0
   first_home = let a = ap (λ (r : Ruling). r.workers) joined.ruling in let b = count in let c = out in omega arith
 
-  first_ruling : w.ruling ≡ record u.ruling { workers = 0; lone = w.ruling.lone }
-  first_ruling = joined.ruling ∙ (λ i. record u.ruling { workers = none i; lone = w.ruling.lone })
+  first_ruling : w.ruling ≡ record u.ruling { workers = 0; lone = false }
+  first_ruling = joined.ruling ∙ (λ i. record u.ruling { workers = none i; lone = joined.alone alone i })
     where
       none : u.ruling.workers - length ds ≡ 0
       none = let b = count in let c = out in omega arith
@@ -90,8 +90,8 @@ module _ (k : Site) (u w : Sight) (tasks : List (List Name)) (ds : List Joined) 
     one : length es ≡ 1
     one = sym (length-map es (λ (d : Joined). d.names.items)) ∙ ap length rest
 
-    last_ruling : v.ruling ≡ record u.ruling { workers = 0; lone = v.ruling.lone }
-    last_ruling = after.ruling ∙ (λ i. record (first_ruling i) { workers = none i; lone = v.ruling.lone })
+    last_ruling : v.ruling ≡ record u.ruling { workers = 0; lone = false }
+    last_ruling = after.ruling ∙ (λ i. record (first_ruling i) { workers = none i; lone = after.last (let n = one in omega arith) i })
       where
         none : w.ruling.workers + 1 - length es ≡ 0
         none = let a = first_home in let b = one in omega arith

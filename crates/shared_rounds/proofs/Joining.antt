@@ -1,5 +1,5 @@
 -- What the owner has once passes have worked and are joined.
-use Rattle.std.proofs.Common.{◌≡◌, ℕ, suc, ◌-◌, false, true≢false, List, [], ◌∷◌, ◌++◌, All, IfSome, Option, None, Some, length, map, reverse, take, drop, refl, sym, ap, ◌∙◌, subst, inl, inr, ⊎_elim, arith}
+use Rattle.std.proofs.Common.{◌≡◌, ℕ, suc, ◌-◌, ◌<◌, false, true≢false, List, [], ◌∷◌, ◌++◌, All, IfSome, Option, None, Some, length, map, reverse, take, drop, refl, sym, ap, ◌∙◌, subst, inl, inr, ⊎_elim, arith}
 use Rattle.std.specs.Prelude.{Ok, Err}
 use Rattle.std.specs.List.{AllZip}
 use Rattle.std.proofs.lemmas.List.{length-map, length-reverse, map-append, reverse-append, take_all}
@@ -77,6 +77,10 @@ joined_ruling v (w ∷ ws) = let e : v.ruling.workers - length ws - 1 ≡ v.ruli
 joined_alone : (v : Sight) (ws : List Sight) → v.ruling.lone ≡ false → (joined_all v ws).ruling.lone ≡ false
 joined_alone v [] e = e
 joined_alone v (w ∷ ws) e = refl
+
+joined_last : (v : Sight) (ws : List Sight) → 0 < length ws → (joined_all v ws).ruling.lone ≡ false
+joined_last v [] some = absurd (omega arith)
+joined_last v (w ∷ ws) some = refl
 
 joined_known : (v : Sight) (ws : List Sight) → KnowsMore v (joined_all v ws)
 joined_known v [] i h = h
@@ -237,6 +241,7 @@ has_joined k u v ts us ds done e en ea el ec = record {
   kind = ap (λ (w : Sight). w.kind) e ∙ joined_kind u (map view_of us);
   ruling = ap (λ (w : Sight). w.ruling) e ∙ joined_ruling u (map view_of us) ∙ (λ i. record u.ruling { workers = u.ruling.workers - count i; lone = (sym e i).ruling.lone });
   alone = λ one. ap (λ (w : Sight). w.ruling.lone) e ∙ joined_alone u (map view_of us) one;
+  last = λ some. ap (λ (w : Sight). w.ruling.lone) e ∙ joined_last u (map view_of us) (let n = count in omega arith);
   claims = ec;
   known = λ i h. subst (λ (w : Sight). HasEntry w.work.known i) (sym e) (joined_known u (map view_of us) i h);
   reached = all_told v ds (same_deeds (AreReached v) ds (reverse us) (en ∙ sym (map_reversed (λ (t : Task). t.names.items) us)) (ea ∙ sym (map_reversed (λ (t : Task). t.answers.items) us)) (el ∙ sym (map_reversed (λ (t : Task). t.pass.lists) us))

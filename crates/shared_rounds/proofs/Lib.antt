@@ -8,3 +8,4 @@ pub mod Knowing
 pub mod Failing
 pub mod Halves
 pub mod Covering
+pub mod Keeping

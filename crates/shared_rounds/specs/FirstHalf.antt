@@ -1,5 +1,5 @@
 -- What the first half of a round comes to.
-use Rattle.std.specs.Prelude.{◌≡◌, ℕ, List, All}
+use Rattle.std.specs.Prelude.{◌≡◌, ℕ, false, List, All}
 use Rattle.mesh_names.specs.Names.{Name}
 use Rattle.table_words.specs.Claims.{Failed, claim}
 use Rattle.table_words.specs.Entries.{HasEntry}
@@ -25,7 +25,7 @@ HasFailed v = (x m : ℕ) × HasEntry v.claims (claim x m Failed)
 -- all passes are joined: all names that they were dealt are known as bisected, and the claims are those of the blocks
 pub record IsRefined (l : Layout) (u v : Sight) (dealt : List (List Name)) (blocks : List Patch) : Type 0 where
   pub kind : v.kind ≡ u.kind
-  pub ruling : v.ruling ≡ record u.ruling { workers = 0; lone = v.ruling.lone }
+  pub ruling : v.ruling ≡ record u.ruling { workers = 0; lone = false }
   pub known : All (AllKnown v) dealt
   pub living : ClaimsLive v
   pub fits : AllFit l blocks
@@ -34,7 +34,7 @@ pub record IsRefined (l : Layout) (u v : Sight) (dealt : List (List Name)) (bloc
 -- all passes are joined, and the round is too large for the pool: the claims are those of the list
 pub record IsOverfull (s : Setup) (l : Layout) (u v : Sight) (held : List Held) : Type 0 where
   pub kind : v.kind ≡ u.kind
-  pub ruling : v.ruling ≡ record u.ruling { workers = 0; lone = v.ruling.lone }
+  pub ruling : v.ruling ≡ record u.ruling { workers = 0; lone = false }
   pub fits : HeldFit l held
   pub claims : AreHeld l v held
   pub cause : IsTooLarge s v

@@ -47,6 +47,7 @@ pub record HasJoined (l : Layout) (u v : Sight) (ds : List Joined) : Type 0 wher
   pub kind : v.kind ≡ u.kind
   pub ruling : v.ruling ≡ record u.ruling { workers = u.ruling.workers - length ds; lone = v.ruling.lone }
   pub alone : u.ruling.lone ≡ false → v.ruling.lone ≡ false
+  pub last : 0 < length ds → v.ruling.lone ≡ false
   pub claims : v.claims ≡ u.claims ++ all_claims l (map (λ d. d.lists) ds)
   pub known : (i : ℕ) → HasEntry u.work.known i → HasEntry v.work.known i
   pub reached : All (λ d. d.lists.failed ≡ None → IsReached v d) ds

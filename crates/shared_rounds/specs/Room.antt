@@ -22,7 +22,8 @@ abbrev pub count_all : List (List Name) → ℕ
 count_all [] = 0
 count_all (names ∷ rest) = length names + count_all rest
 
--- the lists are empty, and have room for so many names and passes beside worker 0's, and for as many claims as there can be: one for each block, and one without a block for each pass
+-- the lists are empty, and have room for so many names and passes beside worker 0's,
+-- and for as many claims as there can be: one for each block, and one without a block for each pass
 pub record HasHalfRoom (pool count passes : ℕ) (r : HalfRoom) : Type 0 where
   pub joined : (r.joined.items ≡ []) × (passes ≤ vec_capacity r.joined)
   pub names : (r.names.items ≡ []) × (count ≤ vec_capacity r.names)

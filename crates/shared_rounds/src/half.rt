@@ -1,5 +1,5 @@
 //! The first half of a round, whole: the passes work and are joined, worker 0 finishes what they put off, and the owner gathers the claims.
-ghost use Rattle.std.specs.Prelude.{◌≡◌, ℕ, ◌+◌, ◌++◌, ◌≤◌, ◌∷◌, [], All, IfErr, IfOk, None, length, map, reverse, true, vec_capacity};
+ghost use Rattle.std.specs.Prelude.{◌≡◌, ℕ, ◌+◌, ◌++◌, ◌≤◌, ◌∷◌, [], false, All, IfErr, IfOk, None, length, map, reverse, true, vec_capacity};
 ghost use Rattle.compat_check.specs.Meshes.{shape_of};
 ghost use Rattle.table_words.specs.Entries.{HasEntry};
 ghost use Rattle.table_words.specs.Views.{FirstHalf};
@@ -133,6 +133,7 @@ pub fn refine_all<R: Threads + Sync, G: Gate + Sync>(
     requires half { (sight owner.old.seat).ruling.phase ≡ FirstHalf }
     requires none { (sight owner.old.seat).ruling.high ≤ (sight owner.old.seat).ruling.low }
     requires new { (sight owner.old.seat).claims ≡ [] }
+    requires alone { (sight owner.old.seat).ruling.lone ≡ false }
     requires out { (sight owner.old.seat).ruling.workers ≡ length tasks.items }
     requires closed { IsClosed (setup_at table.now.site) (HasEntry (sight owner.old.seat).ruling.plan.target) }
     requires ready { All (IsReady table.now.table.shared.table_id table.now.site) tasks.items }

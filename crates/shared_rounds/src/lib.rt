@@ -1,5 +1,5 @@
 #![tactic(auto)]
-//! Rounds of the shared table with workers: the passes of a half are dealt their work, work in threads, and are joined; what they put off is finished by worker 0.
+//! Rounds of the shared table with workers: names are dealt out among passes, which work in threads and are joined, and worker 0 finishes what they put off; a round that coarsens nothing is finished, or rolled back.
 
 pub mod answers;
 pub mod gathering;
@@ -8,3 +8,4 @@ pub mod looks;
 pub mod needs;
 pub mod refining;
 pub mod room;
+pub mod rounds;

@@ -27,7 +27,7 @@ hold_all-requires-clause-room g c =
     let ds = c.work_first-joined.result.items in
     let out : u.ruling.workers ≡ length tasks = c.requires.out ∙ sym (length-map c.args.tasks.items (λ (t : Task). t.names.items)) in
     let long : length tasks ≡ length c.args.tasks.items = length-map c.args.tasks.items (λ (t : Task). t.names.items) in
-    let a = first_room k u w tasks ds c.work_first-joined.ensures.joined out c.work_first-joined.ensures.names c.requires.new c.work_first-joined.ensures.told in
+    let a = first_room k u w tasks ds c.work_first-joined.ensures.joined out c.work_first-joined.ensures.names c.requires.new c.requires.alone c.work_first-joined.ensures.told in
     let b = c.requires.room.held.1 in
     omega arith
 
@@ -41,7 +41,7 @@ returns-then-any_failed-clause-overfull g c =
     let out : u.ruling.workers ≡ length tasks = c.requires.out ∙ sym (length-map c.args.tasks.items (λ (t : Task). t.names.items)) in
     let l = k.layout in
     let t = subst (λ (xs : List Joined). (x m : ℕ) × HasEntry (all_claims l (map (λ (d : Joined). d.lists) xs)) (claim x m Failed)) c.deref.ensures.value (c.any_failed.ensures.some c.if-any_failed.true l) in
-    subst (IsOverfull (setup_at k) l u w) (sym c.hold_all.ensures.items) (first_overfull k u w tasks ds c.work_first-joined.ensures.joined out c.work_first-joined.ensures.names c.requires.new c.work_first-joined.ensures.told t)
+    subst (IsOverfull (setup_at k) l u w) (sym c.hold_all.ensures.items) (first_overfull k u w tasks ds c.work_first-joined.ensures.joined out c.work_first-joined.ensures.names c.requires.new c.requires.alone c.work_first-joined.ensures.told t)
 
 pub finish_rest-last-requires-clause-home : goal.finish_rest-last-requires-clause-home
 finish_rest-last-requires-clause-home g c κs within =
@@ -51,7 +51,7 @@ finish_rest-last-requires-clause-home g c κs within =
     let tasks = map (λ (t : Task). t.names.items) c.args.tasks.items in
     let ds = c.work_first-joined.result.items in
     let out : u.ruling.workers ≡ length tasks = c.requires.out ∙ sym (length-map c.args.tasks.items (λ (t : Task). t.names.items)) in
-    first_home k u w tasks ds c.work_first-joined.ensures.joined out c.work_first-joined.ensures.names c.requires.new c.work_first-joined.ensures.told
+    first_home k u w tasks ds c.work_first-joined.ensures.joined out c.work_first-joined.ensures.names c.requires.new c.requires.alone c.work_first-joined.ensures.told
 
 pub finish_rest-last-requires-clause-living : goal.finish_rest-last-requires-clause-living
 finish_rest-last-requires-clause-living g c κs within =
@@ -61,7 +61,7 @@ finish_rest-last-requires-clause-living g c κs within =
     let tasks = map (λ (t : Task). t.names.items) c.args.tasks.items in
     let ds = c.work_first-joined.result.items in
     let out : u.ruling.workers ≡ length tasks = c.requires.out ∙ sym (length-map c.args.tasks.items (λ (t : Task). t.names.items)) in
-    first_living k u w tasks ds c.work_first-joined.ensures.joined out c.work_first-joined.ensures.names c.requires.new c.work_first-joined.ensures.told
+    first_living k u w tasks ds c.work_first-joined.ensures.joined out c.work_first-joined.ensures.names c.requires.new c.requires.alone c.work_first-joined.ensures.told
     (subst (All (λ (d : Joined). d.lists.failed ≡ None)) c.deref.ensures.value (c.any_failed.ensures.none c.if-any_failed.false))
 
 pub finish_rest-last-requires-clause-aimed : goal.finish_rest-last-requires-clause-aimed
@@ -76,7 +76,7 @@ finish_rest-last-requires-clause-aimed g c κs within =
     let target = c.work_first-joined.ensures.joined.ruling in
     let P = λ (ns : List Name). All (IsAimed mesh u.ruling.plan.target) ns in
     subst (λ (xs : List Joined). All (All (IsAimed mesh w.ruling.plan.target)) (map (λ (d : Joined). d.names.items) xs)) (sym c.deref-2.ensures.value)
-    (subst (λ (r : Ruling). All (All (IsAimed mesh r.plan.target)) (map (λ (d : Joined). d.names.items) ds)) (sym target) (first_aimed k u w tasks ds c.work_first-joined.ensures.joined out c.work_first-joined.ensures.names c.requires.new c.work_first-joined.ensures.told P c.requires.aimed))
+    (subst (λ (r : Ruling). All (All (IsAimed mesh r.plan.target)) (map (λ (d : Joined). d.names.items) ds)) (sym target) (first_aimed k u w tasks ds c.work_first-joined.ensures.joined out c.work_first-joined.ensures.names c.requires.new c.requires.alone c.work_first-joined.ensures.told P c.requires.aimed))
 
 pub finish_rest-last-requires-clause-names : goal.finish_rest-last-requires-clause-names
 finish_rest-last-requires-clause-names g c κs within =
@@ -86,7 +86,7 @@ finish_rest-last-requires-clause-names g c κs within =
     let tasks = map (λ (t : Task). t.names.items) c.args.tasks.items in
     let ds = c.work_first-joined.result.items in
     let out : u.ruling.workers ≡ length tasks = c.requires.out ∙ sym (length-map c.args.tasks.items (λ (t : Task). t.names.items)) in
-    let a = first_off k u w tasks ds c.work_first-joined.ensures.joined out c.work_first-joined.ensures.names c.requires.new c.work_first-joined.ensures.told in
+    let a = first_off k u w tasks ds c.work_first-joined.ensures.joined out c.work_first-joined.ensures.names c.requires.new c.requires.alone c.work_first-joined.ensures.told in
     let b = c.requires.room.names.1 in
     (c.requires.room.names.0, subst (λ (xs : List Joined). length (all_put_off xs) ≤ vec_capacity c.args.room.names) (sym c.deref-2.ensures.value) (omega arith))
 
@@ -98,7 +98,7 @@ finish_rest-last-requires-clause-room g c κs within =
     let tasks = map (λ (t : Task). t.names.items) c.args.tasks.items in
     let ds = c.work_first-joined.result.items in
     let out : u.ruling.workers ≡ length tasks = c.requires.out ∙ sym (length-map c.args.tasks.items (λ (t : Task). t.names.items)) in
-    let a = first_off k u w tasks ds c.work_first-joined.ensures.joined out c.work_first-joined.ensures.names c.requires.new c.work_first-joined.ensures.told in
+    let a = first_off k u w tasks ds c.work_first-joined.ensures.joined out c.work_first-joined.ensures.names c.requires.new c.requires.alone c.work_first-joined.ensures.told in
     let old = c.requires.room.last in
     let b = old.answers.1 in
     subst (λ (xs : List Joined). HasRoomOf k.layout.pool (length (all_put_off xs)) c.args.room.last) (sym c.deref-2.ensures.value)
@@ -116,7 +116,7 @@ hold_both-requires-clause-room g c =
     let es = c.finish_rest-last.result.items in
     let rest : map (λ (d : Joined). d.names.items) es ≡ all_put_off ds ∷ [] = c.finish_rest-last.ensures.names ∙ ap (λ (xs : List Joined). all_put_off xs ∷ []) c.deref-2.ensures.value in
     let long : length tasks ≡ length c.args.tasks.items = length-map c.args.tasks.items (λ (t : Task). t.names.items) in
-    let a = last_room k u w tasks ds c.work_first-joined.ensures.joined out c.work_first-joined.ensures.names c.requires.new c.work_first-joined.ensures.told v es c.finish_rest-last.ensures.joined rest c.finish_rest-last.ensures.told in
+    let a = last_room k u w tasks ds c.work_first-joined.ensures.joined out c.work_first-joined.ensures.names c.requires.new c.requires.alone c.work_first-joined.ensures.told v es c.finish_rest-last.ensures.joined rest c.finish_rest-last.ensures.told in
     let b = c.requires.room.held.1 in
     omega arith
 
@@ -133,7 +133,7 @@ returns-then-any_failed-2-clause-overfull g c =
     let rest : map (λ (d : Joined). d.names.items) es ≡ all_put_off ds ∷ [] = c.finish_rest-last.ensures.names ∙ ap (λ (xs : List Joined). all_put_off xs ∷ []) c.deref-2.ensures.value in
     let l = k.layout in
     let t = subst (λ (xs : List Joined). (x m : ℕ) × HasEntry (all_claims l (map (λ (d : Joined). d.lists) xs)) (claim x m Failed)) c.deref-3.ensures.value (c.any_failed-2.ensures.some c.if-any_failed-2.true l) in
-    subst (IsOverfull (setup_at k) l u v) (sym c.hold_both.ensures.items) (last_overfull k u w tasks ds c.work_first-joined.ensures.joined out c.work_first-joined.ensures.names c.requires.new c.work_first-joined.ensures.told v es c.finish_rest-last.ensures.joined rest c.finish_rest-last.ensures.told t)
+    subst (IsOverfull (setup_at k) l u v) (sym c.hold_both.ensures.items) (last_overfull k u w tasks ds c.work_first-joined.ensures.joined out c.work_first-joined.ensures.names c.requires.new c.requires.alone c.work_first-joined.ensures.told v es c.finish_rest-last.ensures.joined rest c.finish_rest-last.ensures.told t)
 
 pub gather_both-requires-clause-room : goal.gather_both-requires-clause-room
 gather_both-requires-clause-room g c =
@@ -146,7 +146,7 @@ gather_both-requires-clause-room g c =
     let v = sight c.finish_rest-last.new.owner.seat in
     let es = c.finish_rest-last.result.items in
     let rest : map (λ (d : Joined). d.names.items) es ≡ all_put_off ds ∷ [] = c.finish_rest-last.ensures.names ∙ ap (λ (xs : List Joined). all_put_off xs ∷ []) c.deref-2.ensures.value in
-    let a = last_blocks k u w tasks ds c.work_first-joined.ensures.joined out c.work_first-joined.ensures.names c.requires.new c.work_first-joined.ensures.told v es c.finish_rest-last.ensures.joined rest c.finish_rest-last.ensures.told in
+    let a = last_blocks k u w tasks ds c.work_first-joined.ensures.joined out c.work_first-joined.ensures.names c.requires.new c.requires.alone c.work_first-joined.ensures.told v es c.finish_rest-last.ensures.joined rest c.finish_rest-last.ensures.told in
     let b = c.requires.room.blocks.1 in
     omega arith
 
@@ -161,7 +161,7 @@ returns-clause-refined g c =
     let v = sight c.finish_rest-last.new.owner.seat in
     let es = c.finish_rest-last.result.items in
     let rest : map (λ (d : Joined). d.names.items) es ≡ all_put_off ds ∷ [] = c.finish_rest-last.ensures.names ∙ ap (λ (xs : List Joined). all_put_off xs ∷ []) c.deref-2.ensures.value in
-    subst (IsRefined k.layout u v tasks) (sym c.gather_both.ensures.items) (last_refined k u w tasks ds c.work_first-joined.ensures.joined out c.work_first-joined.ensures.names c.requires.new c.work_first-joined.ensures.told v es c.finish_rest-last.ensures.joined rest c.finish_rest-last.ensures.told
+    subst (IsRefined k.layout u v tasks) (sym c.gather_both.ensures.items) (last_refined k u w tasks ds c.work_first-joined.ensures.joined out c.work_first-joined.ensures.names c.requires.new c.requires.alone c.work_first-joined.ensures.told v es c.finish_rest-last.ensures.joined rest c.finish_rest-last.ensures.told
     (subst (All (λ (d : Joined). d.lists.failed ≡ None)) c.deref.ensures.value (c.any_failed.ensures.none c.if-any_failed.false))
     (subst (All (λ (d : Joined). d.lists.failed ≡ None)) c.deref-3.ensures.value (c.any_failed-2.ensures.none c.if-any_failed-2.false))
     c.finish_rest-last.ensures.last)

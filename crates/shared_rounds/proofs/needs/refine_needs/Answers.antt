@@ -38,6 +38,13 @@ refine_all-requires-clause-new g c κs within =
     let out = c.in_ok-tasks.ensures.left in
     ap (λ (v : Sight). v.claims) out ∙ left_claims n u ∙ c.requires.new
 
+pub refine_all-requires-clause-alone : goal.refine_all-requires-clause-alone
+refine_all-requires-clause-alone g c κs within =
+    let u = sight c.args.owner.now.seat in
+    let n = c.args.workers in
+    let out = c.in_ok-tasks.ensures.left in
+    ap (λ (v : Sight). v.ruling.lone) out ∙ ap (λ (r : Ruling). r.lone) (left_ruling n u c.requires.alone)
+
 pub refine_all-requires-clause-out : goal.refine_all-requires-clause-out
 refine_all-requires-clause-out g c κs within =
     let u = sight c.args.owner.now.seat in
