@@ -48,11 +48,11 @@ abbrev pub IsGoneOrLeft : Setup → Sight → List PatchName → List PatchName 
 IsGoneOrLeft s v before after p = ((after ≡ before) × IsGone s v (name_code p.first)) ⊎ (after ≡ before ++ p ∷ [])
 
 -- a pass went through the patches: each is gone, or left, where a child of it was still bisected; and these blocks it retired
-pub record IsLateWorked (k : Site) (u v : Sight) (ps left : List PatchName) (blocks : List ℕ) : Type 0 where
+pub record IsLateWorked (k : Site) (u v : Sight) (ps rest : List PatchName) (bs : List ℕ) : Type 0 where
   pub keeps : StillKnows u v
-  pub gone : AreGoneBut (setup_at k) v ps left
-  pub left : All (IsRetirable (shape_of k.mesh.now) (across_in k.mesh.now) u.work.plan.retire) left
-  pub blocks : AreRetired v blocks
+  pub gone : AreGoneBut (setup_at k) v ps rest
+  pub left : All (IsRetirable (shape_of k.mesh.now) (across_in k.mesh.now) u.work.plan.retire) rest
+  pub blocks : AreRetired v bs
 
 -- the pass can begin with its patches
 pub record IsLateReady (id : TableId) (k : Site) (t : LateTask) : Type 0 where

@@ -21,14 +21,14 @@ use std::thread::{Threads, join_mut};
 fn retire_or_leave<G: Gate>(
     table: &MeshTable,
     pass: &mut Pass,
-    patch: PatchName,
+    patch: &PatchName,
     retired: &mut Vec<u32>,
     left: &mut Vec<PatchName>,
     gate: &G,
 )
     requires fit { IsOf table.now.table.shared.table_id pass.old.seat }
     requires can { CanRetire (setup_at table.now.site) (sight pass.old.seat) }
-    requires aimed { IsRetirable (shape_of table.now.site.mesh.now) (across_in table.now.site.mesh.now) (sight pass.old.seat).work.plan.retire patch }
+    requires aimed { IsRetirable (shape_of table.now.site.mesh.now) (across_in table.now.site.mesh.now) (sight pass.old.seat).work.plan.retire patch.now }
     requires listed { AreRetired (sight pass.old.seat) retired.old.items }
     requires room { (length retired.old.items < vec_capacity retired.old) × (length left.old.items < vec_capacity left.old) }
     ensures stays { Stays pass.old.seat pass.new.seat }
@@ -36,16 +36,16 @@ fn retire_or_leave<G: Gate>(
     ensures number { pass.new.number ≡ pass.old.number }
     ensures lists { pass.new.lists ≡ pass.old.lists }
     ensures keeps { StillKnows (sight pass.old.seat) (sight pass.new.seat) }
-    ensures gone { IsGoneOrLeft (setup_at table.now.site) (sight pass.new.seat) left.old.items left.new.items patch }
+    ensures gone { IsGoneOrLeft (setup_at table.now.site) (sight pass.new.seat) left.old.items left.new.items patch.now }
     ensures listed { AreRetired (sight pass.new.seat) retired.new.items }
     ensures count { length retired.new.items ≤ length retired.old.items + 1 }
     ensures capacity { (vec_capacity retired.new ≡ vec_capacity retired.old) × (vec_capacity left.new ≡ vec_capacity left.old) }
 {
-    match pass.retire(table, retired, patch, gate) {
+    match pass.retire(table, retired, *patch, gate) {
         Ok(_) => return,
         Err(_) => {}
     }
-    left.push_reserved(patch);
+    left.push_reserved(*patch);
 }
 
 /// Retires patches one after the other. One of which a child is still bisected is left, and comes to the end of the list of such.
@@ -71,7 +71,7 @@ pub fn retire_patches<G: Gate>(
     ensures capacity { (vec_capacity retired.new ≡ vec_capacity retired.old) × (vec_capacity left.new ≡ vec_capacity left.old) }
 {
     for patch in patches {
-        retire_or_leave(table, pass, *patch, retired, left, gate);
+        retire_or_leave(table, pass, patch, retired, left, gate);
     }
 }
 
