@@ -26,7 +26,7 @@ use Rattle.mesh_table.specs.declared.rule.Site.{Site}
 use Rattle.mesh_table.specs.Sights.{Sight, seat_at, views_of, setup_at}
 use Rattle.mesh_table.specs.Holds.{Holds, Sat}
 use Rattle.mesh_table.specs.Told.{moved, passed}
-use Rattle.mesh_table.specs.SecondHalf.{WorksLate, MayOpen, having, passed_grown, arriving_late, with_children, with_mate, mate_told, opened, dying}
+use Rattle.mesh_table.specs.SecondHalf.{WorksLate, MayOpen, having, passed_grown, arriving_late, with_children, with_mate, mate_told, opened, saw_died, dying}
 use Rattle.mesh_table.proofs.Bridge.{St, after, stepped, seen, unmoved, allows, in_work, in_none, contents_at}
 use Rattle.mesh_table.proofs.Claiming.{link_head}
 use Rattle.mesh_table.proofs.Walking.{same_words}
@@ -154,19 +154,23 @@ module _ (k : Site) (id i : ℕ) (me : Sat) (late : WorksLate me.0) where
         mate s h same = let does = works s same in sym (here s) ∙ mate_named (setup_at k) (words_at k.layout s.words) (length s.views) (views_of (seat_at s.views)) h.lawful id b c does.0 does.1 leads (subst (λ (a : Sight). HasEntry a.work.had (b, c)) (sym same) had)
 
     -- DIED of such a block
-    pub looks_dying : (c : ℕ) → HasEntry me.0.work.had (b, c) → i ≡ address k.layout (OfBlock b Died) → (slots : ℕ) → Allows (Holds k) slots id me i (λ n. n) (moved (λ n v. dying c n v) me)
-    looks_dying c had ei slots = allows k slots id i (λ n. n) me (moved (λ n v. dying c n v) me) (λ s h l same _.
+    pub looks_dying : (c : ℕ) → HasEntry me.0.work.had (b, c) → i ≡ address k.layout (OfBlock b Died) → (slots : ℕ) → Allows (Holds k) slots id me i (λ n. n) (moved (λ n v. dying b c n v) me)
+    looks_dying c had ei slots = allows k slots id i (λ n. n) me (moved (λ n v. dying b c n v) me) (λ s h l same _.
         let f = seat_at s.views in
         let n = get_or s.words i 0 in
         let w = words_at k.layout s.words in
         let here : w.died b ≡ n = contents_at k.layout s.words k.layout.pool (λ a. OfBlock a Died) b room ∙ ap (λ (j : ℕ). get_or s.words j 0) (sym ei) in
         let does = works s same in
         dite (ℕ_discrete n 0)
-        (λ z. (me.0, unmoved k s h i n id me.0 l refl (sym same), (refl, sym (ap (λ (y : Bool). cond y me.0 (opened c me.0)) (eq-eqb n 0 z)))))
-        (λ o. let u = opened c (f id) in (
+        (λ z. let u = saw_died b n (f id) in (
+          u,
+          seen k s h i n id u l refl (in_none f id u refl refl refl refl refl refl),
+          (refl, ap (saw_died b n) (same ∙ sym (ap (λ (y : Bool). cond y me.0 (opened c me.0)) (eq-eqb n 0 z)))),
+        ))
+        (λ o. let u = saw_died b n (opened c (f id)) in (
           u,
           stepped k s h i n id u w _ l (same_words k id i me s) (in_work f id u refl refl refl refl refl) (ByWorkDead (id, does.0, does.1, b, c, subst (λ (a : Sight). HasEntry a.work.had (b, c)) (sym same) had, omega arith, refl)),
-          (refl, ap (opened c) same ∙ sym (ap (λ (y : Bool). cond y me.0 (opened c me.0)) (ne_eqb n 0 o))),
+          (refl, ap (λ (a : Sight). saw_died b n (opened c a)) same ∙ sym (ap (λ (y : Bool). saw_died b n (cond y me.0 (opened c me.0))) (ne_eqb n 0 o))),
         )))
 
   -- the LINK word of a name that is not of the target

@@ -5,7 +5,7 @@ use Rattle.table_words.specs.Places.{child_place}
 use Rattle.table_words.specs.Setup.{Setup}
 use Rattle.table_words.specs.Views.{Worker, SecondHalf, Still, Past}
 use Rattle.table_state.specs.Lists.{IsClosed}
-use Rattle.mesh_table.specs.Saw.{SawHad, SawRetire}
+use Rattle.mesh_table.specs.Saw.{SawDied, SawHad, SawRetire}
 use Rattle.mesh_table.specs.Sights.{Sight}
 use Rattle.mesh_table.specs.Holds.{Sat}
 use Rattle.mesh_table.specs.Told.{passed}
@@ -45,9 +45,13 @@ mate_told s b k m n m' = (m'.1 ≡ m.1) × (m'.0 ≡ with_mate s b n m.0) × (n 
 abbrev pub opened : ℕ → Sight → Sight
 opened k v = record v { work = record v.work { open_ = k ∷ v.work.open_ } }
 
+-- the account says that a load of the block's DIED found n
+abbrev pub saw_died : ℕ → ℕ → Sight → Sight
+saw_died b n v = record v { saw = SawDied b n ∷ v.saw }
+
 -- what DIED shows of a block that the last finished round has for the name
-abbrev pub dying : ℕ → ℕ → Sight → Sight
-dying k n v = cond (n == 0) v (opened k v)
+abbrev pub dying : ℕ → ℕ → ℕ → Sight → Sight
+dying b k n v = saw_died b n (cond (n == 0) v (opened k v))
 
 -- a name that is not of the target stands at the place, at the last finished round
 pub record MayOpen (v : Sight) (x k : ℕ) : Type 0 where

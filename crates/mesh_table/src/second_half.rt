@@ -62,9 +62,9 @@ impl<'m> MeshTable<'m> {
         requires block { block < self.now.site.layout.pool }
         requires had { HasEntry (sight seat.old).work.had (block, name_code name) }
         ensures stays { Stays seat.old seat.new }
-        ensures view { sight seat.new ≡ dying (name_code name) result (sight seat.old) }
+        ensures view { sight seat.new ≡ dying block (name_code name) result (sight seat.old) }
     {
-        self.get::<Brand, ElemName>(seat, self.site.layout.died(block), name)
+        self.get::<Brand, (ElemName, u32)>(seat, self.site.layout.died(block), (name, block))
     }
 
     /// Loads the LINK word of an element that is not of the target: it is not bisected.

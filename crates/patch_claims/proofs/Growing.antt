@@ -4,7 +4,7 @@ use Rattle.std.proofs.Math.Pow.{pow_mono}
 use Rattle.std.proofs.lemmas.List.{append_assoc}
 use Rattle.mesh_names.specs.Names.{Name}
 use Rattle.mesh_names.specs.Partners.{Across}
-use Rattle.mesh_table.specs.Saw.{Saw, SawClaim, SawDraw, SawFree, SawEnd, SawBisected, SawBirth, SawHad, SawRetire}
+use Rattle.mesh_table.specs.Saw.{Saw, SawClaim, SawDraw, SawFree, SawEnd, SawBisected, SawBirth, SawHad, SawDied, SawRetire}
 use Rattle.mesh_table.specs.Sights.{Sight}
 use Rattle.mesh_table.specs.Told.{arrived}
 use Rattle.patch_walk.specs.Wiser.{Wiser, KnowsBisected}
@@ -32,6 +32,7 @@ births_both (SawFree n ∷ es) ys = births_both es ys
 births_both (SawEnd k ∷ es) ys = births_both es ys
 births_both (SawBisected k ∷ es) ys = births_both es ys
 births_both (SawHad k ∷ es) ys = births_both es ys
+births_both (SawDied b n ∷ es) ys = births_both es ys
 births_both (SawRetire b n ∷ es) ys = births_both es ys
 births_both (SawBirth b ∷ es) ys = one_more (births (es ++ ys)) (births es) (births ys) (births_both es ys)
 

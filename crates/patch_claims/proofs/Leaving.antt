@@ -1,5 +1,6 @@
 -- What a pass of the second half keeps, over two calls, and what it was told of the last finished round.
-use Rattle.std.proofs.Common.{◌≡◌, ℕ, zero, suc, ◌+◌, ◌<◌, ◌≤◌, ◌==◌, Bool, true, false, cond, List, [], ◌∷◌, ◌++◌, refl, sym, ap, ◌∙◌, subst, inl, inr, arith, ne_eqb}
+use Rattle.std.proofs.Common.{◌≡◌, ℕ, zero, suc, ◌+◌, ◌<◌, ◌≤◌, ◌==◌, Bool, true, false, cond, List, [], ◌∷◌, ◌++◌, reverse, refl, sym, ap, ◌∙◌, subst, inl, inr, arith, ne_eqb}
+use Rattle.std.proofs.lemmas.List.{reverse-append}
 use Rattle.mesh_names.specs.Names.{Name}
 use Rattle.mesh_names.specs.Triangles.{Shape, size, level}
 use Rattle.table_words.specs.Entries.{HasEntry, EntryAt}
@@ -8,12 +9,14 @@ use Rattle.table_words.specs.Places.{child_place}
 use Rattle.table_words.specs.Setup.{Setup}
 use Rattle.table_words.specs.Views.{Read}
 use Rattle.table_state.specs.Lists.{IsClosed}
+use Rattle.mesh_table.specs.Saw.{Saw, SawDied}
 use Rattle.mesh_table.specs.Sights.{Sight, setup_at}
 use Rattle.mesh_table.specs.declared.rule.Site.{Site}
-use Rattle.mesh_table.specs.SecondHalf.{IsOld, members_before, retiring, with_children, with_mate}
+use Rattle.mesh_table.specs.SecondHalf.{IsOld, dying, members_before, opened, retiring, saw_died, with_children, with_mate}
 use Rattle.compat_check.specs.Meshes.{shape_of}
-use Rattle.patch_walk.specs.Finished.{StillKnows, AbsentAbove}
+use Rattle.patch_walk.specs.Finished.{StillKnows, NothingRetired, AbsentAbove}
 use Rattle.patch_walk.proofs.Above.{parent_level}
+use Rattle.patch_walk.proofs.Climbing.{Later}
 use Rattle.patch_walk.proofs.Names.{child_named}
 
 pub still_more : {u v w : Sight} → StillKnows u v → StillKnows v w → StillKnows u w
@@ -98,3 +101,52 @@ mate_keeps s b n v = by (n == 0)
 pub retired_if : (t : Bool) (b : ℕ) (r : List ℕ) → t ≡ true → HasEntry (cond t (b ∷ r) r) b
 retired_if true b r e = inl refl
 retired_if false b r e = absurd (cc)
+
+-- a load of DIED keeps it, retires nothing, and is told
+module _ (b k n : ℕ) (v : Sight) where
+  abbrev loaded : Bool → Sight
+  loaded t = saw_died b n (cond t v (opened k v))
+
+  pub dying_keeps : StillKnows v (dying b k n v)
+  dying_keeps = by (n == 0)
+    where
+      by : (t : Bool) → StillKnows v (loaded t)
+      by true = record { kind = refl; claims = refl; owned = refl; read = refl; half = refl; round = refl; number = refl; plan = refl; retired = λ x e. e; stood = λ x e. e; had = λ x e. e; open_ = λ x e. e; absent = λ x e. e }
+      by false = record { kind = refl; claims = refl; owned = refl; read = refl; half = refl; round = refl; number = refl; plan = refl; retired = λ x e. e; stood = λ x e. e; had = λ x e. e; open_ = λ x e. inr e; absent = λ x e. e }
+
+  pub dying_idle : NothingRetired v (dying b k n v)
+  dying_idle = by (n == 0)
+    where
+      by : (t : Bool) → NothingRetired v (loaded t)
+      by true = (refl, refl)
+      by false = (refl, refl)
+
+  pub dying_saw : (dying b k n v).saw ≡ SawDied b n ∷ v.saw
+  dying_saw = by (n == 0)
+    where
+      by : (t : Bool) → (loaded t).saw ≡ SawDied b n ∷ v.saw
+      by true = refl
+      by false = refl
+
+  pub dying_open : (n ≡ 0 → ⊥) → HasEntry (dying b k n v).work.open_ k
+  dying_open some = subst (λ (t : Bool). HasEntry (loaded t).work.open_ k) (sym (ne_eqb n 0 some)) (inl refl)
+
+-- the second member's places are told without a retirement
+pub mate_idle : (s : Setup) (b n : ℕ) (v : Sight) → NothingRetired v (with_mate s b n v)
+mate_idle s b n v = by (n == 0)
+  where
+    by : (t : Bool) → NothingRetired v (cond t v (record v { work = record v.work { stood = with_children s b n true v.work.stood; had = (b, n) ∷ v.work.had } }))
+    by true = (refl, refl)
+    by false = (refl, refl)
+
+-- the list of the retired blocks after a retirement
+pub retired_more : (t : Bool) (b : ℕ) (blocks more : List ℕ) (r : List ℕ) → r ≡ reverse blocks → (t ≡ true → more ≡ blocks ++ b ∷ []) → (t ≡ false → more ≡ blocks) → cond t (b ∷ r) r ≡ reverse more
+retired_more true b blocks more r e yes_ no_ = ap (λ (xs : List ℕ). b ∷ xs) e ∙ sym (reverse-append blocks (b ∷ [])) ∙ ap reverse (sym (yes_ refl))
+retired_more false b blocks more r e yes_ no_ = e ∙ ap reverse (sym (no_ refl))
+
+pub mate_later : (s : Setup) (b n : ℕ) (u v : Sight) → Later u v → Later u (with_mate s b n v)
+mate_later s b n u v l = by (n == 0)
+  where
+    by : (t : Bool) → Later u (cond t v (record v { work = record v.work { stood = with_children s b n true v.work.stood; had = (b, n) ∷ v.work.had } }))
+    by true = l
+    by false = l

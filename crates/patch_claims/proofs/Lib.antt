@@ -8,3 +8,4 @@ pub mod Leaving
 pub mod Letters
 pub mod Listing
 pub mod Swept
+pub mod Deeper

@@ -23,6 +23,10 @@ pub record StillKnows (u v : Sight) : Type 0 where
   pub open_ : (a : ℕ) → HasEntry u.work.open_ a → HasEntry v.work.open_ a
   pub absent : (a : ℕ) → HasEntry u.work.absent a → HasEntry v.work.absent a
 
+-- the pass retired nothing meanwhile
+abbrev pub NothingRetired : Sight → Sight → Type 0
+NothingRetired u v = (v.work.retired ≡ u.work.retired) × (v.work.given ≡ u.work.given)
+
 -- the last finished round bisects the name k by the member t of the block, and its children's places are found
 abbrev pub Has : Setup → Sight → ℕ → ℕ → Bool → Type 0
 Has s v k b t = HasEntry v.work.had (b, k) × ((u : Bool) → HasEntry v.work.stood (child_place s.elements b t u, s.child k u))

@@ -10,7 +10,7 @@ ghost use Rattle.mesh_table.specs.Saw.{Saw, SawEnd, SawHad};
 ghost use Rattle.mesh_table.specs.SecondHalf.{WorksLate};
 ghost use Rattle.mesh_table.specs.Sights.{setup_at};
 ghost use Rattle.mesh_table.specs.Told.{IsOf, MayWalk, Stays, sight};
-ghost use Rattle.patch_walk.specs.Finished.{AbsentAbove, Has, StillKnows};
+ghost use Rattle.patch_walk.specs.Finished.{AbsentAbove, Has, NothingRetired, StillKnows};
 
 use crate::visits::walk_to;
 use mesh_names::name::ElemName;
@@ -33,6 +33,7 @@ pub fn visit_finished(
     requires round { (sight pass.old).work.round ≡ round }
     ensures stays { Stays pass.old pass.new }
     ensures keeps { StillKnows (sight pass.old) (sight pass.new) }
+    ensures idle { NothingRetired (sight pass.old) (sight pass.new) }
     ensures none { IfNone result (HasEntry (sight pass.new).work.absent (name_code name)) }
     ensures some { IfSome result (λ p. (p.0 < table.now.site.layout.pool) × Has (setup_at table.now.site) (sight pass.new) (name_code name) p.0 p.1) }
     ensures saw { MatchOption result ((sight pass.new).saw ≡ SawEnd (name_code name) ∷ (sight pass.old).saw) (λ p. (sight pass.new).saw ≡ SawHad (name_code name) ∷ (sight pass.old).saw) }
@@ -65,6 +66,7 @@ pub fn stand_finished(
     requires level { level (shape_of table.now.site.mesh.now) name ≤ 24 }
     ensures stays { Stays pass.old pass.new }
     ensures keeps { StillKnows (sight pass.old) (sight pass.new) }
+    ensures idle { NothingRetired (sight pass.old) (sight pass.new) }
     ensures saw { (news : List Saw) × ((sight pass.new).saw ≡ news ++ (sight pass.old).saw) }
     ensures none { IfNone result (AbsentAbove (sight pass.new) name) }
     ensures some { IfSome result (λ at. IsElemAt table.now.site.layout at × MayWalk (setup_at table.now.site) (sight pass.new) (place_number table.now.site.layout at) (name_code name)) }

@@ -4,3 +4,5 @@ pub mod Zips
 pub mod Sharing
 pub mod Making
 pub mod Keeping
+pub mod Leaving
+pub mod Taking
