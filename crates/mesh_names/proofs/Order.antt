@@ -9,6 +9,7 @@ use Rattle.std.specs.declared.cmp.Ordering.{Ordering}
 use Rattle.std.specs.declared.cmp.Ordering.TheVariants.{Less, Equal, Greater}
 use Rattle.mesh_names.specs.Names.{letters, digit, name_cmp}
 use Rattle.mesh_names.specs.Letters.{length-letters}
+use Rattle.mesh_names.specs.Order.{ranked}
 
 -- the number whose d bits begin with a word
 abbrev pub front : ℕ → List Bool → ℕ
@@ -123,3 +124,31 @@ name_by_front r l b r' l' b' h k h' k' =
     then-assoc (nat_cmp r r') (nat_cmp (b * 2 ^ (24 - l) % 4294967296) (b' * 2 ^ (24 - l') % 4294967296)) (nat_cmp l l')
     ∙ (λ i. ordering_then (nat_cmp r r') (ordering_then (nat_cmp (shifted l b h k i) (shifted l' b' h' k' i)) (nat_cmp (sym (long l b) i) (sym (long l' b') i))))
     ∙ ap (ordering_then (nat_cmp r r')) (sym (words_by_front 24 (reverse (letters l b)) (reverse (letters l' b')) (omega (arith, long l b)) (omega (arith, long l' b'))))
+
+-- what a comparison of numbers of two parts comes to, from those of the parts
+by_parts : (a b a' b' x y : ℕ) → (a < a' → x < y) → (a' < a → y < x) → (a ≡ a' → nat_cmp b b' ≡ nat_cmp x y) → nat_cmp x y ≡ by_front a a' b b'
+by_parts a b a' b' x y low high same = three (dec_lt a a') (dec_lt a' a)
+  where
+    three : Dec (a < a') → Dec (a' < a) → nat_cmp x y ≡ by_front a a' b b'
+    three (yes h) e = sym (nat_cmp_is x y Less (low h)) ∙ less a a' b b' h
+    three (no h) (yes g) = sym (nat_cmp_is x y Greater (high g)) ∙ greater a a' b b' g
+    three (no h) (no g) = let e : a ≡ a' = omega (arith, h, g) in sym (same e) ∙ equal a a' b b' e
+
+at_same : (k x y b b' : ℕ) → k + b ≡ x → k + b' ≡ y → nat_cmp b b' ≡ nat_cmp x y
+at_same k x y b b' p q = nat_cmp-add k b b' ∙ (λ i. nat_cmp (p i) (q i))
+
+by_level : (a l a' l' : ℕ) → l < 32 → l' < 32 → nat_cmp (a * 32 + l) (a' * 32 + l') ≡ by_front a a' l l'
+by_level a l a' l' h h' = by_parts a l a' l' (a * 32 + l) (a' * 32 + l') (λ d. omega arith) (λ d. omega arith) (λ e. at_same (a * 32) (a * 32 + l) (a' * 32 + l') l l' (omega arith) (omega arith))
+
+by_word : (a f a' f' : ℕ) → f < 16777216 → f' < 16777216 → nat_cmp (a * 16777216 + f) (a' * 16777216 + f') ≡ by_front a a' f f'
+by_word a f a' f' h h' = by_parts a f a' f' (a * 16777216 + f) (a' * 16777216 + f') (λ d. omega arith) (λ d. omega arith) (λ e. at_same (a * 16777216) (a * 16777216 + f) (a' * 16777216 + f') f f' (omega arith) (omega arith))
+
+-- one comparison of numbers is three
+pub ranked_cmp : (r f l r' f' l' : ℕ) → f < 16777216 → f' < 16777216 → l < 32 → l' < 32 → nat_cmp (ranked r f l) (ranked r' f' l') ≡ ordering_then (ordering_then (nat_cmp r r') (nat_cmp f f')) (nat_cmp l l')
+ranked_cmp r f l r' f' l' h h' k k' =
+    by_level (r * 16777216 + f) l (r' * 16777216 + f') l' k k'
+    ∙ ap (λ (o : Ordering). ordering_then o (nat_cmp l l')) (by_word r f r' f' h h')
+
+-- a word at the front of 24 bits has 24 bits
+pub front_is_low : (level bits : ℕ) → level ≤ 24 → bits < 2 ^ level → bits * 2 ^ (24 - level) % 4294967296 < 16777216
+front_is_low level bits h k = let e = shifted level bits h k in let small : front 24 (reverse (letters level bits)) < 2 ^ 24 = front-lt 24 (reverse (letters level bits)) in omega arith

@@ -1,5 +1,5 @@
 -- The order of names is total, and only equal names tie.
-use Rattle.std.specs.Prelude.{◌≡◌, Bool, true, false, reverse, refl}
+use Rattle.std.specs.Prelude.{◌≡◌, ℕ, ◌+◌, ◌*◌, Bool, true, false, reverse, refl}
 use Rattle.std.proofs.Common.{sym, ap, ◌∙◌}
 use Rattle.std.proofs.lemmas.List.{reverse-reverse}
 use Rattle.std.specs.Cmp.{IsTotalOrder, then_total, on_total, nat_cmp_total, bool_cmp_total}
@@ -9,6 +9,10 @@ use Rattle.std.specs.Ordering.{nat_cmp, bool_cmp, ordering_then}
 use Rattle.std.specs.declared.cmp.Ordering.{Ordering}
 use Rattle.std.specs.declared.cmp.Ordering.TheVariants.{Less, Equal, Greater}
 use Rattle.mesh_names.specs.Names.{Name, name_cmp}
+
+-- an index, a word at the front of 24 bits, and its length, as one number
+abbrev pub ranked : ℕ → ℕ → ℕ → ℕ
+ranked root front level = (root * 16777216 + front) * 32 + level
 
 -- the order is total
 pub name_cmp_total : IsTotalOrder name_cmp

@@ -5,6 +5,7 @@ ghost use Rattle.std.specs.Cmp.{partial_order_from_own_ties};
 ghost use Rattle.std.specs.Cmp.Rules.{comparing};
 ghost use Rattle.std.specs.Ordering.{as_partial_cmp};
 ghost use Rattle.mesh_names.specs.Names.{bits_of, child_name, depth, letters, name_cmp, name_eq, parent_of};
+ghost use Rattle.mesh_names.specs.Order.{ranked};
 
 use std::cmp::Ordering;
 use std::marker::Model;
@@ -131,6 +132,14 @@ impl ElemName {
     }
 }
 
+// Three numbers as one: of two such numbers that one is less whose first part is, or where those are equal the second, and then the third.
+fn ranked(root: u32, front: u32, level: u8) -> u64
+    requires { (root < 65535) × (front < 16777216) × (level < 32) }
+    ensures { result ≡ ranked root front level }
+{
+    (root as u64 * 16_777_216 + front as u64) * 32 + level as u64
+}
+
 impl PartialEq for ElemName {
     ghost eq = { name_eq };
 
@@ -158,10 +167,8 @@ impl Ord for ElemName {
     fn cmp(&self, other: &ElemName) -> Ordering {
         let front = self.bits << (24 - self.level);
         let other_front = other.bits << (24 - other.level);
-        self.root
-            .cmp(&other.root)
-            .then(front.cmp(&other_front))
-            .then(self.level.cmp(&other.level))
+        let rank = ranked(self.root, front, self.level);
+        rank.cmp(&ranked(other.root, other_front, other.level))
     }
 }
 
