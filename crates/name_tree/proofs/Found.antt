@@ -1,6 +1,6 @@
 -- The names of a tree, as a walk finds them.
-use Rattle.std.proofs.Common.{◌≡◌, ◌⊎◌, ℕ, zero, suc, ◌+◌, ◌*◌, ◌<◌, ◌≤◌, Bool, true, false, cond, List, [], ◌∷◌, ◌++◌, map, length, refl, sym, ap, ◌∙◌, subst, arith, append-nil, Option, Some, None, option_map, unwrap_or, is_some, inl, inr, ⊎_elim, append_assoc, length-append}
-use Rattle.std.specs.FinMap.{contains_key, contains_key-keys, get, keys}
+use Rattle.std.proofs.Common.{◌≡◌, ◌⊎◌, ℕ, suc, ◌+◌, ◌*◌, ◌<◌, ◌≤◌, Bool, true, false, cond, List, [], ◌∷◌, ◌++◌, refl, sym, ap, ◌∙◌, subst, arith, append-nil, Option, Some, None, option_map, unwrap_or, is_some, inl, inr, ⊎_elim, append_assoc, length-append}
+use Rattle.std.specs.FinMap.{contains_key-keys, keys}
 use Rattle.std.specs.FinSet.{contains, contains-from_list, from_list}
 use Rattle.std.specs.List.{Contains, dedup}
 use Rattle.std.specs.List.Sorted.{IsPermutation, IsSorted, IsStrictlySortedBy}
@@ -13,12 +13,11 @@ use Rattle.mesh_names.specs.Order.{name_cmp_total}
 use Rattle.mesh_names.specs.Forests.{Has, IsListOf}
 use Rattle.mesh_names.proofs.Neighbours.{none_some}
 use Rattle.mesh_names.proofs.Sets.{In, both_sides, has-in, in-has, item-in, in-append, in-first, in-second, tied-same, within-both}
-use Rattle.name_tree.specs.Held.{Gathers, IsBelow, IsLive, held}
+use Rattle.name_tree.specs.Held.{Gathers, IsLive, held}
 use Rattle.name_tree.specs.NodeSlots.{slots_of}
 use Rattle.name_tree.specs.Slots.{Slot, Slots, live_at, live_of}
 use Rattle.name_tree.specs.Trees.{Pairs, Root, Under, live_in, node_at, pairs_of, place}
 use Rattle.name_tree.specs.declared.nodes.Entry.{Entry}
-use Rattle.name_tree.specs.declared.nodes.Node.{Node}
 use Rattle.name_tree.specs.declared.nodes.Nodes.{Nodes}
 use Rattle.name_tree.proofs.LiveNames.{get-live}
 use Rattle.name_tree.proofs.Places.{no_child, to_child}
@@ -33,12 +32,12 @@ has-held s n =
 
 module _ (t : Nodes) where
   -- an entry at the node of a name is that of the name
-  at-node : (n : Name) (i : ℕ) → place (pairs_of t) n.0 n.1 ≡ Some i → live_in (pairs_of t) t.nodes.items n ≡ (node_at t.nodes.items i).entry
-  at-node n i there = ap (λ (o : Option ℕ). unwrap_or (option_map (λ k. (node_at t.nodes.items k).entry) o) None) there
+  at-node : (n : Name) (i : ℕ) → place (pairs_of t) n.0 n.1 ≡ Some i → live_in (pairs_of t) t.nodes n ≡ (node_at t.nodes i).entry
+  at-node n i there = ap (λ (o : Option ℕ). unwrap_or (option_map (λ k. (node_at t.nodes k).entry) o) None) there
 
   -- a name without a node has no entry
   nowhere : (n : Name) → place (pairs_of t) n.0 n.1 ≡ None → IsLive t n → ⊥
-  nowhere n none l = none_some l.entry (sym (ap (λ (o : Option ℕ). unwrap_or (option_map (λ k. (node_at t.nodes.items k).entry) o) None) none) ∙ l.is)
+  nowhere n none l = none_some l.entry (sym (ap (λ (o : Option ℕ). unwrap_or (option_map (λ k. (node_at t.nodes k).entry) o) None) none) ∙ l.is)
 
   -- nothing at a name, and nothing below it
   none_deeper : (r : ℕ) (w u : List Bool) → ((b : Bool) → place (pairs_of t) r (b ∷ w) ≡ None) → (c : Bool) → place (pairs_of t) r ((c ∷ u) ++ w) ≡ None
@@ -53,20 +52,20 @@ module _ (t : Nodes) where
           under (Some i) = pairs_of t (Under i)
 
   one_entry : Name → ℕ → List Name
-  one_entry name i = cond (is_some (node_at t.nodes.items i).entry) (name ∷ []) []
+  one_entry name i = cond (is_some (node_at t.nodes i).entry) (name ∷ []) []
 
   -- the name itself
-  module _ (name : Name) (i : ℕ) (there : place (pairs_of t) name.0 name.1 ≡ Some i) (low : depth name ≤ 24) (old now : List Name) (step : now ≡ old ++ cond (is_some (node_at t.nodes.items i).entry) (name ∷ []) []) where
+  module _ (name : Name) (i : ℕ) (there : place (pairs_of t) name.0 name.1 ≡ Some i) (low : depth name ≤ 24) (old now : List Name) (step : now ≡ old ++ cond (is_some (node_at t.nodes i).entry) (name ∷ []) []) where
     kept_one : (n : Name) → Has (from_list old) n → Has (from_list now) n
-    kept_one n h = subst (λ (l : List Name). Has (from_list l) n) (sym step) (in-has n (old ++ cond (is_some (node_at t.nodes.items i).entry) (name ∷ []) []) (in-first n old _ (has-in n old h)))
+    kept_one n h = subst (λ (l : List Name). Has (from_list l) n) (sym step) (in-has n (old ++ cond (is_some (node_at t.nodes i).entry) (name ∷ []) []) (in-first n old _ (has-in n old h)))
 
     live_one : (n : Name) → Has (from_list now) n → Has (from_list old) n ⊎ IsLive t n
     live_one n h = ⊎_elim
         (λ (k : In n old). inl (in-has n old k))
-        (λ k. by (node_at t.nodes.items i).entry refl k)
-        (in-append n old (cond (is_some (node_at t.nodes.items i).entry) (name ∷ []) []) (has-in n (old ++ cond (is_some (node_at t.nodes.items i).entry) (name ∷ []) []) (subst (λ (l : List Name). Has (from_list l) n) step h)))
+        (λ k. by (node_at t.nodes i).entry refl k)
+        (in-append n old (cond (is_some (node_at t.nodes i).entry) (name ∷ []) []) (has-in n (old ++ cond (is_some (node_at t.nodes i).entry) (name ∷ []) []) (subst (λ (l : List Name). Has (from_list l) n) step h)))
       where
-        by : (o : Option Entry) → (node_at t.nodes.items i).entry ≡ o → In n (cond (is_some o) (name ∷ []) []) → Has (from_list old) n ⊎ IsLive t n
+        by : (o : Option Entry) → (node_at t.nodes i).entry ≡ o → In n (cond (is_some o) (name ∷ []) []) → Has (from_list old) n ⊎ IsLive t n
         by None e k = absurd k
         by (Some x) e k = ⊎_elim
             (λ (p : n ≡ name). inr (subst (λ (y : Name). IsLive t y) (sym p) (record { low = low; entry = x; is = at-node name i there ∙ e })))
@@ -74,9 +73,9 @@ module _ (t : Nodes) where
             k
 
     own : IsLive t name → Has (from_list now) name
-    own l = subst (λ (ks : List Name). Has (from_list ks) name) (sym step) (in-has name (old ++ cond (is_some (node_at t.nodes.items i).entry) (name ∷ []) []) (in-second name old _ (by (node_at t.nodes.items i).entry refl)))
+    own l = subst (λ (ks : List Name). Has (from_list ks) name) (sym step) (in-has name (old ++ cond (is_some (node_at t.nodes i).entry) (name ∷ []) []) (in-second name old _ (by (node_at t.nodes i).entry refl)))
       where
-        by : (o : Option Entry) → (node_at t.nodes.items i).entry ≡ o → In name (cond (is_some o) (name ∷ []) [])
+        by : (o : Option Entry) → (node_at t.nodes i).entry ≡ o → In name (cond (is_some o) (name ∷ []) [])
         by None e = absurd (none_some l.entry (sym (at-node name i there ∙ e) ∙ l.is))
         by (Some x) e = inl refl
 
@@ -117,7 +116,7 @@ module _ (t : Nodes) where
   none_longer name deep b u l = let low = l.low in omega (arith, low, deep, length-append (b ∷ u) name.1)
 
   -- without a pair there is nothing below
-  pub none_under : (name : Name) (i : ℕ) → place (pairs_of t) name.0 name.1 ≡ Some i → (node_at t.nodes.items i).below ≡ None → (b : Bool) (u : List Bool) → IsLive t (name.0, (b ∷ u) ++ name.1) → ⊥
+  pub none_under : (name : Name) (i : ℕ) → place (pairs_of t) name.0 name.1 ≡ Some i → (node_at t.nodes i).below ≡ None → (b : Bool) (u : List Bool) → IsLive t (name.0, (b ∷ u) ++ name.1) → ⊥
   none_under name i there none b u l = nowhere (name.0, (b ∷ u) ++ name.1) (none_deeper name.0 name.1 u (λ c. no_child (pairs_of t) name.0 i c name.1 there none) b) l
 
   -- no macro element, no names
@@ -176,11 +175,11 @@ held-live t n h = by (low_or_deep n)
 
     by : (depth n ≤ 24) ⊎ (24 < depth n) → IsLive t n
     by c = ⊎_elim
-        (λ (low : depth n ≤ 24). some (live_in (pairs_of t) t.nodes.items n) refl low)
+        (λ (low : depth n ≤ 24). some (live_in (pairs_of t) t.nodes n) refl low)
         (λ (deep : 24 < depth n). absurd (both_sides (is_some (live_at (slots_of t) n)) there (ap (λ (o : Option Slot). is_some (unwrap_or o None)) (slot-deep t n deep))))
         c
       where
-        some : (o : Option Entry) → live_in (pairs_of t) t.nodes.items n ≡ o → depth n ≤ 24 → IsLive t n
+        some : (o : Option Entry) → live_in (pairs_of t) t.nodes n ≡ o → depth n ≤ 24 → IsLive t n
         some None e low = absurd (both_sides (is_some (live_at (slots_of t) n)) there (ap is_some (live-slot t n low ∙ e)))
         some (Some x) e low = record { low = low; entry = x; is = e }
 

@@ -5,3 +5,4 @@ pub mod LiveNames
 pub mod InOrders
 pub mod SlotsOfNodes
 pub mod Found
+mod NodeLists

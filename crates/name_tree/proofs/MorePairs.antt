@@ -161,69 +161,69 @@ adds-top tops nodes r q low none blank_pair = record {
   others (Under j) ne = refl
 
 -- a pair is named under a node of a tree that is kept
-module _ (t u : Nodes) (i q : ℕ) (k : IsKept t) (n : IsNamed (pairs_of t) i) (none : (node_at t.nodes.items i).below ≡ None) (free : IsFree t q)
-    (nodes : u.nodes.items ≡ set t.nodes.items i (record (node_at t.nodes.items i) { below = Some q })) (tops : u.tops.items ≡ t.tops.items) (spare : u.spare.items ≡ t.spare.items) where
+module _ (t u : Nodes) (i q : ℕ) (k : IsKept t) (n : IsNamed (pairs_of t) i) (none : (node_at t.nodes i).below ≡ None) (free : IsFree t q)
+    (nodes : u.nodes ≡ set t.nodes i (record (node_at t.nodes i) { below = Some q })) (tops : u.tops.items ≡ t.tops.items) (spare : u.spare.items ≡ t.spare.items) where
   abbrev after_join : List Node
-  after_join = set t.nodes.items i (record (node_at t.nodes.items i) { below = Some q })
+  after_join = set t.nodes i (record (node_at t.nodes i) { below = Some q })
 
-  pub joined-low : i < length t.nodes.items
+  pub joined-low : i < length t.nodes
   joined-low = let a = named-within (pairs_of t) i k.count k.tree.within n in let w = k.whole in omega arith
 
   joined_named : pairs_of u ≡ pair_at t.tops.items after_join
   joined_named = λ j. pair_at (tops j) (nodes j)
 
   pub joined-adds : Adds (pairs_of t) (pairs_of u) (Under i) q
-  joined-adds = subst (λ (f : Pairs). Adds (pairs_of t) f (Under i) q) (sym joined_named) (adds-join t.tops.items t.nodes.items i q joined-low none free.blank n free.unnamed)
+  joined-adds = subst (λ (f : Pairs). Adds (pairs_of t) f (Under i) q) (sym joined_named) (adds-join t.tops.items t.nodes i q joined-low none free.blank n free.unnamed)
 
   pub joined-kept : IsKept u
   joined-kept = record {
     count = k.count;
-    whole = ap length nodes ∙ length-set t.nodes.items i _ ∙ k.whole;
+    whole = ap length nodes ∙ length-set t.nodes i _ ∙ k.whole;
     small = k.small;
     tree = subst (λ (l : List ℕ). IsTree (pairs_of u) k.count l) (sym spare) (tree-added (pairs_of t) (pairs_of u) (Under i) q k.count t.spare.items joined-adds free.unnamed (let a = free.inside in let w = k.whole in omega arith) free.unspared k.tree);
-    blanks = subst (λ (l : List Node). All (IsBlank l) u.spare.items) (sym nodes) (subst (λ (l : List ℕ). All (IsBlank after_join) l) (sym spare) (blanks-else t.tops.items t.nodes.items k.count i t.spare.items _ k.tree n k.blanks));
+    blanks = subst (λ (l : List Node). All (IsBlank l) u.spare.items) (sym nodes) (subst (λ (l : List ℕ). All (IsBlank after_join) l) (sym spare) (blanks-else t.tops.items t.nodes k.count i t.spare.items _ k.tree n k.blanks));
   }
 
-  pub joined-entries : (j : ℕ) → (node_at u.nodes.items j).entry ≡ (node_at t.nodes.items j).entry
-  joined-entries j = ap (λ (l : List Node). (node_at l j).entry) nodes ∙ entries-join t.nodes.items i (Some q) j joined-low
+  pub joined-entries : (j : ℕ) → (node_at u.nodes j).entry ≡ (node_at t.nodes j).entry
+  joined-entries j = ap (λ (l : List Node). (node_at l j).entry) nodes ∙ entries-join t.nodes i (Some q) j joined-low
 
-  pub joined-empty : (b : Bool) → (node_at u.nodes.items (2 * q + digit b)).entry ≡ None
-  joined-empty b = joined-entries (2 * q + digit b) ∙ ap (λ (x : Node). x.entry) (blank-side t.nodes.items q b free.blank)
+  pub joined-empty : (b : Bool) → (node_at u.nodes (2 * q + digit b)).entry ≡ None
+  joined-empty b = joined-entries (2 * q + digit b) ∙ ap (λ (x : Node). x.entry) (blank-side t.nodes q b free.blank)
 
 -- a pair is named under a node no longer
-module _ (t u : Nodes) (i q : ℕ) (k : IsKept t) (n : IsNamed (pairs_of t) i) (is : (node_at t.nodes.items i).below ≡ Some q) (empty : IsBlank t.nodes.items q)
-    (nodes : u.nodes.items ≡ set t.nodes.items i (record (node_at t.nodes.items i) { below = None })) (tops : u.tops.items ≡ t.tops.items) where
+module _ (t u : Nodes) (i q : ℕ) (k : IsKept t) (n : IsNamed (pairs_of t) i) (is : (node_at t.nodes i).below ≡ Some q) (empty : IsBlank t.nodes q)
+    (nodes : u.nodes ≡ set t.nodes i (record (node_at t.nodes i) { below = None })) (tops : u.tops.items ≡ t.tops.items) where
   abbrev after_part : List Node
-  after_part = set t.nodes.items i (record (node_at t.nodes.items i) { below = None })
+  after_part = set t.nodes i (record (node_at t.nodes i) { below = None })
 
-  part_low : i < length t.nodes.items
+  part_low : i < length t.nodes
   part_low = let a = named-within (pairs_of t) i k.count k.tree.within n in let w = k.whole in omega arith
 
   parted_named : pairs_of u ≡ pair_at t.tops.items after_part
   parted_named = λ j. pair_at (tops j) (nodes j)
 
-  others : (s : Source) → s ≢ Under i → pair_at t.tops.items t.nodes.items s ≡ pair_at t.tops.items after_part s
+  others : (s : Source) → s ≢ Under i → pair_at t.tops.items t.nodes s ≡ pair_at t.tops.items after_part s
   others (Root r) ne = refl
-  others (Under j) ne = ap (λ (x : Node). x.below) (sym (get_or-set_other t.nodes.items i j (record (node_at t.nodes.items i) { below = None }) blank (λ (e : j ≡ i). ne (ap Under e))))
+  others (Under j) ne = ap (λ (x : Node). x.below) (sym (get_or-set_other t.nodes i j (record (node_at t.nodes i) { below = None }) blank (λ (e : j ≡ i). ne (ap Under e))))
 
   pub parted-adds : Adds (pairs_of u) (pairs_of t) (Under i) q
   parted-adds = subst (λ (f : Pairs). Adds f (pairs_of t) (Under i) q) (sym parted_named) (record {
-    before = ap (λ (x : Node). x.below) (get_or-set_same t.nodes.items i (record (node_at t.nodes.items i) { below = None }) blank part_low);
+    before = ap (λ (x : Node). x.below) (get_or-set_same t.nodes i (record (node_at t.nodes i) { below = None }) blank part_low);
     after = is;
     others = others;
-    bare = λ b. ap (λ (x : Node). x.below) (blank-side t.nodes.items q b empty);
+    bare = λ b. ap (λ (x : Node). x.below) (blank-side t.nodes q b empty);
   })
 
   apart : q ≢ n.pair
   apart e =
-      let own : node_at t.nodes.items i ≡ blank = ap (node_at t.nodes.items) (sym n.is ∙ ap (λ (p : ℕ). 2 * p + digit n.side) (sym e)) ∙ blank-side t.nodes.items q n.side empty in
+      let own : node_at t.nodes i ≡ blank = ap (node_at t.nodes) (sym n.is ∙ ap (λ (p : ℕ). 2 * p + digit n.side) (sym e)) ∙ blank-side t.nodes q n.side empty in
       none_some q (sym (ap (λ (x : Node). x.below) own) ∙ is)
 
-  whole : length u.nodes.items ≡ 2 * k.count
-  whole = ap length nodes ∙ length-set t.nodes.items i _ ∙ k.whole
+  whole : length u.nodes ≡ 2 * k.count
+  whole = ap length nodes ∙ length-set t.nodes i _ ∙ k.whole
 
   blanks : All (IsBlank after_part) t.spare.items
-  blanks = blanks-else t.tops.items t.nodes.items k.count i t.spare.items _ k.tree n k.blanks
+  blanks = blanks-else t.tops.items t.nodes k.count i t.spare.items _ k.tree n k.blanks
 
   pub parted-kept : u.spare.items ≡ t.spare.items → IsKept u
   parted-kept spare = record {
@@ -240,11 +240,11 @@ module _ (t u : Nodes) (i q : ℕ) (k : IsKept t) (n : IsNamed (pairs_of t) i) (
     whole = whole;
     small = k.small;
     tree = subst (λ (l : List ℕ). IsTree (pairs_of u) k.count l) (sym spare) (tree-given (pairs_of u) (pairs_of t) (Under i) q k.count t.spare.items parted-adds k.tree);
-    blanks = subst (λ (l : List Node). All (IsBlank l) u.spare.items) (sym nodes) (subst (λ (l : List ℕ). All (IsBlank after_part) l) (sym spare) (All-push (IsBlank after_part) t.spare.items q blanks (blank-else t.nodes.items n.pair q i n.side _ apart n.is empty)));
+    blanks = subst (λ (l : List Node). All (IsBlank l) u.spare.items) (sym nodes) (subst (λ (l : List ℕ). All (IsBlank after_part) l) (sym spare) (All-push (IsBlank after_part) t.spare.items q blanks (blank-else t.nodes n.pair q i n.side _ apart n.is empty)));
   }
 
 -- one pair more in a tree that is kept
-pub kept-wider : (t u : Nodes) (k : IsKept t) → k.count < 2147483647 → length u.nodes.items ≡ length t.nodes.items + 2 → ((i : ℕ) → node_at u.nodes.items i ≡ node_at t.nodes.items i) → u.tops.items ≡ t.tops.items → u.spare.items ≡ [] → IsKept u × IsFree u k.count
+pub kept-wider : (t u : Nodes) (k : IsKept t) → k.count < 2147483647 → length u.nodes ≡ length t.nodes + 2 → ((i : ℕ) → node_at u.nodes i ≡ node_at t.nodes i) → u.tops.items ≡ t.tops.items → u.spare.items ≡ [] → IsKept u × IsFree u k.count
 kept-wider t u k few longer nodes tops none = (
   record {
     count = k.count + 1;
@@ -257,7 +257,7 @@ kept-wider t u k few longer nodes tops none = (
       others = λ i j d low high. absurd (omega (arith, ap length none));
       inside = nothing (λ q. q < k.count + 1);
     };
-    blanks = nothing (IsBlank u.nodes.items);
+    blanks = nothing (IsBlank u.nodes);
   },
   record {
     inside = let w = k.whole in omega arith;
@@ -267,29 +267,29 @@ kept-wider t u k few longer nodes tops none = (
   },
 ) where
   same : pairs_of u ≡ pairs_of t
-  same = pairs-same t.tops.items u.tops.items t.nodes.items u.nodes.items tops nodes
+  same = pairs-same t.tops.items u.tops.items t.nodes u.nodes tops nodes
 
   nothing : (P : ℕ → Type 0) → All P u.spare.items
   nothing P i d low = absurd (omega (arith, ap length none))
 
-  past : (i : ℕ) → length t.nodes.items ≤ i → node_at t.nodes.items i ≡ blank
-  past i high = get_or_past t.nodes.items i blank high
+  past : (i : ℕ) → length t.nodes ≤ i → node_at t.nodes i ≡ blank
+  past i high = get_or_past t.nodes i blank high
 
 pub empty_list : (l : List ℕ) → length l ≡ 0 → l ≡ []
 empty_list [] e = refl
 empty_list (x ∷ l) e = absurd (omega arith)
 
 -- a pair is named at a macro element of a tree that is kept
-pub planted-kept : (t u : Nodes) (r q : ℕ) → IsKept t → r < length t.tops.items → pairs_of t (Root r) ≡ None → IsFree t q → u.nodes.items ≡ t.nodes.items → u.tops.items ≡ set t.tops.items r (Some q) → u.spare.items ≡ t.spare.items → IsKept u
+pub planted-kept : (t u : Nodes) (r q : ℕ) → IsKept t → r < length t.tops.items → pairs_of t (Root r) ≡ None → IsFree t q → u.nodes ≡ t.nodes → u.tops.items ≡ set t.tops.items r (Some q) → u.spare.items ≡ t.spare.items → IsKept u
 planted-kept t u r q k low none free nodes tops spare = record {
   count = k.count;
   whole = ap length nodes ∙ k.whole;
   small = k.small;
   tree = subst (λ (l : List ℕ). IsTree (pairs_of u) k.count l) (sym spare) (tree-added (pairs_of t) (pairs_of u) (Root r) q k.count t.spare.items adds free.unnamed (let a = free.inside in let w = k.whole in omega arith) free.unspared k.tree);
-  blanks = subst (λ (l : List Node). All (IsBlank l) u.spare.items) (sym nodes) (subst (λ (l : List ℕ). All (IsBlank t.nodes.items) l) (sym spare) k.blanks);
+  blanks = subst (λ (l : List Node). All (IsBlank l) u.spare.items) (sym nodes) (subst (λ (l : List ℕ). All (IsBlank t.nodes) l) (sym spare) k.blanks);
 } where
-  planted : pairs_of u ≡ pair_at (set t.tops.items r (Some q)) t.nodes.items
+  planted : pairs_of u ≡ pair_at (set t.tops.items r (Some q)) t.nodes
   planted = λ j. pair_at (tops j) (nodes j)
 
   adds : Adds (pairs_of t) (pairs_of u) (Root r) q
-  adds = subst (λ (f : Pairs). Adds (pairs_of t) f (Root r) q) (sym planted) (adds-top t.tops.items t.nodes.items r q low none free.blank)
+  adds = subst (λ (f : Pairs). Adds (pairs_of t) f (Root r) q) (sym planted) (adds-top t.tops.items t.nodes r q low none free.blank)

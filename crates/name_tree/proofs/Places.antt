@@ -240,14 +240,14 @@ live-entries nodes nodes' same pairs n = by (place pairs n.0 n.1)
     by None = refl
     by (Some i) = same i
 
-pub grows-live : (old new : Nodes) (s : Source) (q : ℕ) → Grows old new s q → (n : Name) → live_in (pairs_of new) new.nodes.items n ≡ live_in (pairs_of old) old.nodes.items n
-grows-live old new s q g n = live-adds (pairs_of old) (pairs_of new) s q new.nodes.items g.adds g.empty n ∙ live-entries old.nodes.items new.nodes.items g.entries (pairs_of old) n
+pub grows-live : (old new : Nodes) (s : Source) (q : ℕ) → Grows old new s q → (n : Name) → live_in (pairs_of new) new.nodes n ≡ live_in (pairs_of old) old.nodes n
+grows-live old new s q g n = live-adds (pairs_of old) (pairs_of new) s q new.nodes g.adds g.empty n ∙ live-entries old.nodes new.nodes g.entries (pairs_of old) n
 
-pub shrinks-live : (old new : Nodes) (i q : ℕ) → Shrinks old new i q → (n : Name) → live_in (pairs_of new) new.nodes.items n ≡ live_in (pairs_of old) old.nodes.items n
-shrinks-live old new i q h n = sym (live-adds (pairs_of new) (pairs_of old) (Under i) q new.nodes.items h.adds h.empty n) ∙ live-entries old.nodes.items new.nodes.items h.entries (pairs_of old) n
+pub shrinks-live : (old new : Nodes) (i q : ℕ) → Shrinks old new i q → (n : Name) → live_in (pairs_of new) new.nodes n ≡ live_in (pairs_of old) old.nodes n
+shrinks-live old new i q h n = sym (live-adds (pairs_of new) (pairs_of old) (Under i) q new.nodes h.adds h.empty n) ∙ live-entries old.nodes new.nodes h.entries (pairs_of old) n
 
-pub stays-live : (old new : Nodes) → Stays old new → (n : Name) → live_in (pairs_of new) new.nodes.items n ≡ live_in (pairs_of old) old.nodes.items n
-stays-live old new h n = ap (λ (f : Pairs). live_in f new.nodes.items n) (λ i s. h.pairs s i) ∙ live-entries old.nodes.items new.nodes.items h.entries (pairs_of old) n
+pub stays-live : (old new : Nodes) → Stays old new → (n : Name) → live_in (pairs_of new) new.nodes n ≡ live_in (pairs_of old) old.nodes n
+stays-live old new h n = ap (λ (f : Pairs). live_in f new.nodes n) (λ i s. h.pairs s i) ∙ live-entries old.nodes new.nodes h.entries (pairs_of old) n
 
 -- a node with a pair below it keeps its place where another pair is given back
 pub place-left : (f g : Pairs) (s : Source) (q p : ℕ) (n : Name) (i : ℕ) → Adds f g s q → place g n.0 n.1 ≡ Some i → g (Under i) ≡ Some p → place f n.0 n.1 ≡ Some i

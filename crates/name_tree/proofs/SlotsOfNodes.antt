@@ -122,9 +122,9 @@ found-out f q (n ∷ ns) out = by (f n) (found-out f q ns (λ (r : among q ns). 
 
 module _ (t : Nodes) (q : Name) where
   abbrev slot : Name → Option Slot
-  slot = slot_in (pairs_of t) t.nodes.items
+  slot = slot_in (pairs_of t) t.nodes
 
-  pub slot-low : depth q ≤ 24 → get (slots_of t) q ≡ slot_in (pairs_of t) t.nodes.items q
+  pub slot-low : depth q ≤ 24 → get (slots_of t) q ≡ slot_in (pairs_of t) t.nodes q
   unfolding slots_of
   slot-low low =
       get-from_entries name_cmp_total (gathered slot (names_within (length t.tops.items) 24)) q
@@ -135,7 +135,7 @@ module _ (t : Nodes) (q : Name) where
           ⊎_elim
           (λ (small : q.0 < length t.tops.items). found-among slot q (names_within (length t.tops.items) 24) (among-names q (length t.tops.items) 24 small low))
           (λ (large : length t.tops.items ≤ q.0).
-          let none : slot q ≡ None = ap (option_map (λ i. (node_at t.nodes.items i).entry)) (top-nowhere (pairs_of t) q (get_or_past t.tops.items q.0 None large)) in
+          let none : slot q ≡ None = ap (option_map (λ i. (node_at t.nodes i).entry)) (top-nowhere (pairs_of t) q (get_or_past t.tops.items q.0 None large)) in
           found-none slot q (names_within (length t.tops.items) 24) none ∙ sym none)
           h
 
@@ -149,27 +149,27 @@ pub low_or_deep : (q : Name) → (depth q ≤ 24) ⊎ (24 < depth q)
 low_or_deep q = ⊎_elim (λ (e : 24 < depth q). inr e) (λ (e : depth q ≤ 24). inl e) (cases_lt 24 (depth q))
 
 -- nodes in which the same stands by name
-pub same-entries : (t u : Nodes) → ((n : Name) → live_in (pairs_of u) u.nodes.items n ≡ live_in (pairs_of t) t.nodes.items n) → live_of (slots_of u) ≡ live_of (slots_of t)
+pub same-entries : (t u : Nodes) → ((n : Name) → live_in (pairs_of u) u.nodes n ≡ live_in (pairs_of t) t.nodes n) → live_of (slots_of u) ≡ live_of (slots_of t)
 same-entries t u h = same_live (slots_of u) (slots_of t) (λ q.
     ⊎_elim
     (λ (low : depth q ≤ 24). ap (λ (o : Option Slot). unwrap_or o None) (slot-low u q low) ∙ h q ∙ ap (λ (o : Option Slot). unwrap_or o None) (sym (slot-low t q low)))
     (λ (deep : 24 < depth q). ap (λ (o : Option Slot). unwrap_or o None) (slot-deep u q deep ∙ sym (slot-deep t q deep)))
     (low_or_deep q))
 
-pub live-slot : (t : Nodes) (q : Name) → depth q ≤ 24 → live_at (slots_of t) q ≡ live_in (pairs_of t) t.nodes.items q
+pub live-slot : (t : Nodes) (q : Name) → depth q ≤ 24 → live_at (slots_of t) q ≡ live_in (pairs_of t) t.nodes q
 live-slot t q low = ap (λ (o : Option Slot). unwrap_or o None) (slot-low t q low)
 
 -- a name without a node has no slot
 pub no-slot : (t : Nodes) (q : Name) → place (pairs_of t) q.0 q.1 ≡ None → get (slots_of t) q ≡ None
 no-slot t q none =
     ⊎_elim
-    (λ (low : depth q ≤ 24). slot-low t q low ∙ ap (option_map (λ i. (node_at t.nodes.items i).entry)) none)
+    (λ (low : depth q ≤ 24). slot-low t q low ∙ ap (option_map (λ i. (node_at t.nodes i).entry)) none)
     (λ (deep : 24 < depth q). slot-deep t q deep)
     (low_or_deep q)
 
 -- a name with a node has a slot
-pub some-slot : (t : Nodes) (q : Name) (i : ℕ) → depth q ≤ 24 → place (pairs_of t) q.0 q.1 ≡ Some i → get (slots_of t) q ≡ Some (node_at t.nodes.items i).entry
-some-slot t q i low there = slot-low t q low ∙ ap (option_map (λ i. (node_at t.nodes.items i).entry)) there
+pub some-slot : (t : Nodes) (q : Name) (i : ℕ) → depth q ≤ 24 → place (pairs_of t) q.0 q.1 ≡ Some i → get (slots_of t) q ≡ Some (node_at t.nodes i).entry
+some-slot t q i low there = slot-low t q low ∙ ap (option_map (λ i. (node_at t.nodes i).entry)) there
 
 pub slot-there : (t : Nodes) (q : Name) (i : ℕ) → depth q ≤ 24 → place (pairs_of t) q.0 q.1 ≡ Some i → contains_key (slots_of t) q ≡ true
 slot-there t q i low there = ap is_some (some-slot t q i low there)
@@ -188,21 +188,21 @@ keeps-slots t u h q there =
 
 -- another entry in the node of a name
 module _ (t u : Nodes) (k : IsKept t) (n : Name) (i : ℕ) (e : Slot) (low : depth n ≤ 24) (there : place (pairs_of t) n.0 n.1 ≡ Some i)
-    (nodes : u.nodes.items ≡ set t.nodes.items i (record (node_at t.nodes.items i) { entry = e })) (tops : u.tops.items ≡ t.tops.items) where
+    (nodes : u.nodes ≡ set t.nodes i (record (node_at t.nodes i) { entry = e })) (tops : u.tops.items ≡ t.tops.items) where
   abbrev put_in : List Node
-  put_in = set t.nodes.items i (record (node_at t.nodes.items i) { entry = e })
+  put_in = set t.nodes i (record (node_at t.nodes i) { entry = e })
 
-  inside : i < length t.nodes.items
+  inside : i < length t.nodes
   inside = let a = named-within (pairs_of t) i k.count k.tree.within (named-place (pairs_of t) n.0 n.1 i there) in let w = k.whole in omega arith
 
-  below_same : (j : ℕ) → (node_at put_in j).below ≡ (node_at t.nodes.items j).below
+  below_same : (j : ℕ) → (node_at put_in j).below ≡ (node_at t.nodes j).below
   below_same j =
       ⊎_elim
-      (λ (is : j ≡ i). ap (λ (x : ℕ). (node_at put_in x).below) is ∙ ap (λ (x : Node). x.below) (get_or-set_same t.nodes.items i (record (node_at t.nodes.items i) { entry = e }) blank inside) ∙ ap (λ (x : ℕ). (node_at t.nodes.items x).below) (sym is))
-      (λ (ne : j ≢ i). ap (λ (x : Node). x.below) (get_or-set_other t.nodes.items i j (record (node_at t.nodes.items i) { entry = e }) blank ne))
+      (λ (is : j ≡ i). ap (λ (x : ℕ). (node_at put_in x).below) is ∙ ap (λ (x : Node). x.below) (get_or-set_same t.nodes i (record (node_at t.nodes i) { entry = e }) blank inside) ∙ ap (λ (x : ℕ). (node_at t.nodes x).below) (sym is))
+      (λ (ne : j ≢ i). ap (λ (x : Node). x.below) (get_or-set_other t.nodes i j (record (node_at t.nodes i) { entry = e }) blank ne))
       (nat_either j i)
 
-  same_pairs : (s : Source) → pair_at t.tops.items put_in s ≡ pair_at t.tops.items t.nodes.items s
+  same_pairs : (s : Source) → pair_at t.tops.items put_in s ≡ pair_at t.tops.items t.nodes s
   same_pairs (Root r) = refl
   same_pairs (Under j) = below_same j
 
@@ -212,23 +212,23 @@ module _ (t u : Nodes) (k : IsKept t) (n : Name) (i : ℕ) (e : Slot) (low : dep
   pub put-kept : u.spare.items ≡ t.spare.items → IsKept u
   put-kept spare = record {
     count = k.count;
-    whole = ap length nodes ∙ length-set t.nodes.items i _ ∙ k.whole;
+    whole = ap length nodes ∙ length-set t.nodes i _ ∙ k.whole;
     small = k.small;
     tree = subst (λ (l : List ℕ). IsTree (pairs_of u) k.count l) (sym spare) (subst (λ (f : Pairs). IsTree f k.count t.spare.items) (sym put-pairs) k.tree);
-    blanks = subst (λ (l : List Node). All (IsBlank l) u.spare.items) (sym nodes) (subst (λ (l : List ℕ). All (IsBlank put_in) l) (sym spare) (blanks-else t.tops.items t.nodes.items k.count i t.spare.items _ k.tree (named-place (pairs_of t) n.0 n.1 i there) k.blanks));
+    blanks = subst (λ (l : List Node). All (IsBlank l) u.spare.items) (sym nodes) (subst (λ (l : List ℕ). All (IsBlank put_in) l) (sym spare) (blanks-else t.tops.items t.nodes k.count i t.spare.items _ k.tree (named-place (pairs_of t) n.0 n.1 i there) k.blanks));
   }
 
   at_name : (q : Name) → q ≡ n → slot_in (pairs_of t) put_in q ≡ Some e
-  at_name q is = ap (slot_in (pairs_of t) put_in) is ∙ ap (option_map (λ j. (node_at put_in j).entry)) there ∙ ap (λ (x : Node). Some x.entry) (get_or-set_same t.nodes.items i (record (node_at t.nodes.items i) { entry = e }) blank inside)
+  at_name q is = ap (slot_in (pairs_of t) put_in) is ∙ ap (option_map (λ j. (node_at put_in j).entry)) there ∙ ap (λ (x : Node). Some x.entry) (get_or-set_same t.nodes i (record (node_at t.nodes i) { entry = e }) blank inside)
 
-  other_name : (q : Name) → q ≢ n → slot_in (pairs_of t) put_in q ≡ slot_in (pairs_of t) t.nodes.items q
+  other_name : (q : Name) → q ≢ n → slot_in (pairs_of t) put_in q ≡ slot_in (pairs_of t) t.nodes q
   other_name q ne = by (place (pairs_of t) q.0 q.1) refl
     where
-      by : (o : Option ℕ) → place (pairs_of t) q.0 q.1 ≡ o → option_map (λ j. (node_at put_in j).entry) o ≡ option_map (λ j. (node_at t.nodes.items j).entry) o
+      by : (o : Option ℕ) → place (pairs_of t) q.0 q.1 ≡ o → option_map (λ j. (node_at put_in j).entry) o ≡ option_map (λ j. (node_at t.nodes j).entry) o
       by None at = refl
-      by (Some j) at = ap (λ (x : Node). Some x.entry) (get_or-set_other t.nodes.items i j (record (node_at t.nodes.items i) { entry = e }) blank (λ (same : j ≡ i). let one = one_place (pairs_of t) k.tree.apart q.0 n.0 q.1 n.1 j at (there ∙ ap Some (sym same)) in ne (λ x. (one.0 x, one.1 x))))
+      by (Some j) at = ap (λ (x : Node). Some x.entry) (get_or-set_other t.nodes i j (record (node_at t.nodes i) { entry = e }) blank (λ (same : j ≡ i). let one = one_place (pairs_of t) k.tree.apart q.0 n.0 q.1 n.1 j at (there ∙ ap Some (sym same)) in ne (λ x. (one.0 x, one.1 x))))
 
-  in_new : (q : Name) → slot_in (pairs_of u) u.nodes.items q ≡ slot_in (pairs_of t) put_in q
+  in_new : (q : Name) → slot_in (pairs_of u) u.nodes q ≡ slot_in (pairs_of t) put_in q
   in_new q = λ j. slot_in (put-pairs j) (nodes j) q
 
   pub put-slots : slots_of u ≡ insert (slots_of t) n e
@@ -247,14 +247,14 @@ module _ (t u : Nodes) (k : IsKept t) (n : Name) (i : ℕ) (e : Slot) (low : dep
       ∙ sym (get-insert name_cmp_total (slots_of t) n e q))
       (is_or_not (eq_by_cmp name_cmp q n)))
 
-pub node-inside : (t : Nodes) (n : Name) (i : ℕ) → IsKept t → place (pairs_of t) n.0 n.1 ≡ Some i → i < length t.nodes.items
+pub node-inside : (t : Nodes) (n : Name) (i : ℕ) → IsKept t → place (pairs_of t) n.0 n.1 ≡ Some i → i < length t.nodes
 node-inside t n i k there = let a = named-within (pairs_of t) i k.count k.tree.within (named-place (pairs_of t) n.0 n.1 i there) in let w = k.whole in omega arith
 
 pub new-slots : (t : Nodes) → t.tops.items ≡ [] → slots_of t ≡ empty
 new-slots t none = same_map name_cmp_total name_cmp-same (slots_of t) empty (λ q. no-slot t q (top-nowhere (pairs_of t) q (ap (λ (l : List (Option ℕ)). slice_index_or l q.0 None) none)) ∙ sym (get-empty name_cmp q))
 
 -- other indices in all entries
-module _ (t u : Nodes) (moved : List ℕ) (moved_at : (i : ℕ) → node_at u.nodes.items i ≡ moved_node moved (node_at t.nodes.items i)) (long : length u.nodes.items ≡ length t.nodes.items) (tops : u.tops.items ≡ t.tops.items) where
+module _ (t u : Nodes) (moved : List ℕ) (moved_at : (i : ℕ) → node_at u.nodes i ≡ moved_node moved (node_at t.nodes i)) (long : length u.nodes ≡ length t.nodes) (tops : u.tops.items ≡ t.tops.items) where
   moved_pair : (s : Source) → pairs_of u s ≡ pairs_of t s
   moved_pair (Root r) = ap (λ (l : List (Option ℕ)). slice_index_or l r None) tops
   moved_pair (Under j) = ap (λ (x : Node). x.below) (moved_at j)
@@ -268,16 +268,16 @@ module _ (t u : Nodes) (moved : List ℕ) (moved_at : (i : ℕ) → node_at u.no
     whole = long ∙ k.whole;
     small = k.small;
     tree = subst (λ (l : List ℕ). IsTree (pairs_of u) k.count l) (sym spare) (subst (λ (f : Pairs). IsTree f k.count t.spare.items) (sym moved-pairs) k.tree);
-    blanks = subst (λ (l : List ℕ). All (IsBlank u.nodes.items) l) (sym spare) (λ i d low. let b = k.blanks i d low in record { zero = moved_at _ ∙ ap (moved_node moved) b.zero; one = moved_at _ ∙ ap (moved_node moved) b.one });
+    blanks = subst (λ (l : List ℕ). All (IsBlank u.nodes) l) (sym spare) (λ i d low. let b = k.blanks i d low in record { zero = moved_at _ ∙ ap (moved_node moved) b.zero; one = moved_at _ ∙ ap (moved_node moved) b.one });
   }
 
-  moved_slot_in : (o : Option ℕ) → unwrap_or (option_map (λ i. (node_at u.nodes.items i).entry) o) None ≡ moved_slot moved (unwrap_or (option_map (λ i. (node_at t.nodes.items i).entry) o) None)
+  moved_slot_in : (o : Option ℕ) → unwrap_or (option_map (λ i. (node_at u.nodes i).entry) o) None ≡ moved_slot moved (unwrap_or (option_map (λ i. (node_at t.nodes i).entry) o) None)
   moved_slot_in None = refl
   moved_slot_in (Some i) = ap (λ (x : Node). x.entry) (moved_at i)
 
   pub moved-live : (n : Name) → live_at (slots_of u) n ≡ moved_slot moved (live_at (slots_of t) n)
   moved-live n =
       ⊎_elim
-      (λ (low : depth n ≤ 24). live-slot u n low ∙ ap (λ (f : Pairs). live_in f u.nodes.items n) moved-pairs ∙ moved_slot_in (place (pairs_of t) n.0 n.1) ∙ ap (moved_slot moved) (sym (live-slot t n low)))
+      (λ (low : depth n ≤ 24). live-slot u n low ∙ ap (λ (f : Pairs). live_in f u.nodes n) moved-pairs ∙ moved_slot_in (place (pairs_of t) n.0 n.1) ∙ ap (moved_slot moved) (sym (live-slot t n low)))
       (λ (deep : 24 < depth n). ap (λ (o : Option Slot). unwrap_or o None) (slot-deep u n deep) ∙ ap (λ (o : Option Slot). moved_slot moved (unwrap_or o None)) (sym (slot-deep t n deep)))
       (low_or_deep n)

@@ -13,8 +13,8 @@ pub record Adds (f g : Pairs) (s : Source) (q : ℕ) : Type 0 where
 
 -- a pair that can be named
 pub record IsFree (t : Nodes) (p : ℕ) : Type 0 where
-  pub inside : 2 * p + 1 < length t.nodes.items
-  pub blank : IsBlank t.nodes.items p
+  pub inside : 2 * p + 1 < length t.nodes
+  pub blank : IsBlank t.nodes p
   pub unnamed : (s : Source) → pairs_of t s ≡ Some p → ⊥
   pub unspared : All (λ q. q ≢ p) t.spare.items
 
@@ -29,22 +29,22 @@ pub record IsNamed (pairs : Pairs) (i : ℕ) : Type 0 where
 -- no entry and no pair has changed
 pub record Stays (old new : Nodes) : Type 0 where
   pub pairs : (s : Source) → pairs_of new s ≡ pairs_of old s
-  pub entries : (i : ℕ) → (node_at new.nodes.items i).entry ≡ (node_at old.nodes.items i).entry
+  pub entries : (i : ℕ) → (node_at new.nodes i).entry ≡ (node_at old.nodes i).entry
 
 -- an empty pair is named in addition, and no entry has changed
 pub record Grows (old new : Nodes) (s : Source) (q : ℕ) : Type 0 where
   pub adds : Adds (pairs_of old) (pairs_of new) s q
   pub small : q < 2147483648
-  pub entries : (i : ℕ) → (node_at new.nodes.items i).entry ≡ (node_at old.nodes.items i).entry
-  pub empty : (b : Bool) → (node_at new.nodes.items (2 * q + digit b)).entry ≡ None
+  pub entries : (i : ℕ) → (node_at new.nodes i).entry ≡ (node_at old.nodes i).entry
+  pub empty : (b : Bool) → (node_at new.nodes (2 * q + digit b)).entry ≡ None
 
 -- an empty pair is named no longer, and no entry has changed
 pub record Shrinks (old new : Nodes) (place q : ℕ) : Type 0 where
   pub adds : Adds (pairs_of new) (pairs_of old) (Under place) q
-  pub entries : (i : ℕ) → (node_at new.nodes.items i).entry ≡ (node_at old.nodes.items i).entry
-  pub empty : (b : Bool) → (node_at new.nodes.items (2 * q + digit b)).entry ≡ None
+  pub entries : (i : ℕ) → (node_at new.nodes i).entry ≡ (node_at old.nodes i).entry
+  pub empty : (b : Bool) → (node_at new.nodes (2 * q + digit b)).entry ≡ None
 
 -- no pair is named otherwise than before, and all entries stand as before
 pub record Keeps (old new : Nodes) : Type 0 where
   pub pairs : (s : Source) (p : ℕ) → pairs_of old s ≡ Some p → pairs_of new s ≡ Some p
-  pub live : (n : Name) → live_in (pairs_of new) new.nodes.items n ≡ live_in (pairs_of old) old.nodes.items n
+  pub live : (n : Name) → live_in (pairs_of new) new.nodes n ≡ live_in (pairs_of old) old.nodes n

@@ -16,7 +16,7 @@ held slots = from_list (keys (live_of slots))
 pub record IsLive (t : Nodes) (n : Name) : Type 0 where
   pub low : depth n ≤ 24
   pub entry : Entry
-  pub is : live_in (pairs_of t) t.nodes.items n ≡ Some entry
+  pub is : live_in (pairs_of t) t.nodes n ≡ Some entry
 
 -- n lies at or below the name
 abbrev pub IsBelow : Name → Name → Type 0

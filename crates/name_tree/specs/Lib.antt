@@ -1,4 +1,5 @@
 pub mod Letters
+pub mod NodeLists
 pub mod Trees
 pub mod Paths
 pub mod Growth

@@ -28,7 +28,7 @@ gathered f (n ∷ ns) = with_slot n (f n) (gathered f ns)
 
 -- a slot for each name that has a node
 unfoldable pub slots_of : Nodes → Slots
-slots_of t = from_entries (gathered (slot_in (pairs_of t) t.nodes.items) (names_within (length t.tops.items) 24))
+slots_of t = from_entries (gathered (slot_in (pairs_of t) t.nodes) (names_within (length t.tops.items) 24))
 
 -- a node whose entry has a new index
 abbrev pub moved_node : List ℕ → Node → Node

@@ -27,7 +27,7 @@ pair_at tops nodes (Root r) = slice_index_or tops r None
 pair_at tops nodes (Under i) = (node_at nodes i).below
 
 abbrev pub pairs_of : Nodes → Pairs
-pairs_of t = pair_at t.tops.items t.nodes.items
+pairs_of t = pair_at t.tops.items t.nodes
 
 -- the node on one side of a pair: the pairs lie one after another
 abbrev pub side_of : Bool → Option ℕ → Option ℕ
@@ -67,10 +67,10 @@ pub record IsBlank (nodes : List Node) (p : ℕ) : Type 0 where
 -- a tree as it is kept: nodes in whole pairs, and those that were given back empty
 pub record IsKept (t : Nodes) : Type 0 where
   pub count : ℕ
-  pub whole : length t.nodes.items ≡ 2 * count
+  pub whole : length t.nodes ≡ 2 * count
   pub small : count ≤ 2 ^ 31
   pub tree : IsTree (pairs_of t) count t.spare.items
-  pub blanks : All (IsBlank t.nodes.items) t.spare.items
+  pub blanks : All (IsBlank t.nodes) t.spare.items
 
 -- the places of a name's first letters, as far as `end` letters
 abbrev pub LeadsTo : Pairs → Name → ℕ → List ℕ → Type 0

@@ -20,8 +20,8 @@ impl Nodes {
         node: u32,
         found: &mut Vec<ElemName>,
     ) -> Result<(), AllocError>
-        requires { node < length self.now.nodes.items }
-        ensures { OnOk result (found.new.items ≡ found.old.items ++ cond (is_some (node_at self.now.nodes.items node).entry) (name ∷ []) []) }
+        requires { node < length self.now.nodes }
+        ensures { OnOk result (found.new.items ≡ found.old.items ++ cond (is_some (node_at self.now.nodes node).entry) (name ∷ []) []) }
     {
         if self.entry(node).is_some() {
             found.push(name)?;

@@ -5,15 +5,10 @@ ghost use Rattle.name_tree.specs.Trees.{IsBlank, IsKept, Root, Source, Under, li
 ghost use Rattle.name_tree.specs.Paths.{IsPath};
 ghost use Rattle.name_tree.specs.Growth.{Adds, Grows, IsFree, IsNamed, Keeps, Stays, Shrinks};
 
-use crate::nodes::{Node, Nodes};
+use crate::nodes::Nodes;
 use crate::path::Path;
 use mesh_names::name::ElemName;
 use std::alloc::AllocError;
-
-const BLANK: Node = Node {
-    entry: None,
-    below: None,
-};
 
 /// The node on one side of a pair.
 pub(crate) fn child_place(pair: u32, side: bool) -> u32
@@ -27,17 +22,14 @@ impl Nodes {
     // Two nodes more, with nothing in them.
     fn widen(&mut self) -> Result<(), AllocError>
         requires { IsKept self.old }
-        ensures ok { IfOk result (λ _. length self.new.nodes.items ≡ length self.old.nodes.items + 2) }
-        ensures err { IfErr result (λ _. self.new.nodes.items ≡ self.old.nodes.items) }
-        ensures nodes { (i : ℕ) → node_at self.new.nodes.items i ≡ node_at self.old.nodes.items i }
+        ensures ok { IfOk result (λ _. length self.new.nodes ≡ length self.old.nodes + 2) }
+        ensures err { IfErr result (λ _. self.new.nodes ≡ self.old.nodes) }
+        ensures nodes { (i : ℕ) → node_at self.new.nodes i ≡ node_at self.old.nodes i }
         ensures tops { self.new.tops.items ≡ self.old.tops.items }
         ensures spare { self.new.spare.items ≡ self.old.spare.items }
     {
-        self.nodes.try_reserve(2)?;
         self.spare.try_reserve(self.nodes.len() / 2 + 1)?;
-        self.nodes.push_reserved(BLANK);
-        self.nodes.push_reserved(BLANK);
-        Ok(())
+        self.nodes.widen()
     }
 
     // A pair that is not named, with nothing in it.
@@ -45,7 +37,7 @@ impl Nodes {
         requires { IsKept self.old }
         ensures kept { IsKept self.new }
         ensures free { IfOk result (IsFree self.new) }
-        ensures nodes { (i : ℕ) → node_at self.new.nodes.items i ≡ node_at self.old.nodes.items i }
+        ensures nodes { (i : ℕ) → node_at self.new.nodes i ≡ node_at self.old.nodes i }
         ensures tops { self.new.tops.items ≡ self.old.tops.items }
     {
         if let Some(pair) = self.spare.pop() {
@@ -63,7 +55,7 @@ impl Nodes {
     fn sprout(&mut self, place: u32) -> Result<u32, AllocError>
         requires kept { IsKept self.old }
         requires named { IsNamed (pairs_of self.old) place }
-        requires none { (node_at self.old.nodes.items place).below ≡ None }
+        requires none { (node_at self.old.nodes place).below ≡ None }
         ensures kept { IsKept self.new }
         ensures ok { IfOk result (Grows self.old self.new (Under place)) }
         ensures err { IfErr result (λ _. Stays self.old self.new) }
@@ -89,7 +81,7 @@ impl Nodes {
 
     // Makes the list of macro elements as long as to have this one.
     fn reach(&mut self, root: u32) -> Result<(), AllocError>
-        ensures nodes { self.new.nodes.items ≡ self.old.nodes.items }
+        ensures nodes { self.new.nodes ≡ self.old.nodes }
         ensures spare { self.new.spare.items ≡ self.old.spare.items }
         ensures tops { (s : Source) → pairs_of self.new s ≡ pairs_of self.old s }
         ensures long { IfOk result (λ _. root < length self.new.tops.items) }
@@ -146,8 +138,8 @@ impl Nodes {
     fn part(&mut self, place: u32, pair: u32)
         requires kept { IsKept self.old }
         requires named { IsNamed (pairs_of self.old) place }
-        requires below { (node_at self.old.nodes.items place).below ≡ Some pair }
-        requires blank { IsBlank self.old.nodes.items pair }
+        requires below { (node_at self.old.nodes place).below ≡ Some pair }
+        requires blank { IsBlank self.old.nodes pair }
         ensures kept { IsKept self.new }
         ensures shrinks { Shrinks self.old self.new place pair }
     {
@@ -164,7 +156,7 @@ impl Nodes {
         requires path { IsPath (pairs_of self.old) path.old }
         ensures kept { IsKept self.new }
         ensures path { IsPath (pairs_of self.new) path.new }
-        ensures same { (n : Name) → live_in (pairs_of self.new) self.new.nodes.items n ≡ live_in (pairs_of self.old) self.old.nodes.items n }
+        ensures same { (n : Name) → live_in (pairs_of self.new) self.new.nodes n ≡ live_in (pairs_of self.old) self.old.nodes n }
     {
         let Some(parent) = name.parent() else {
             return;

@@ -4,6 +4,7 @@
 mod gathering;
 mod growing;
 mod letters;
+mod node_list;
 mod nodes;
 mod path;
 mod tree;

@@ -1,9 +1,9 @@
 //! The nodes of a tree of names, in pairs.
 ghost use Rattle.std.specs.Prelude.{◌≡◌, ℕ, ◌*◌, ◌+◌, ◌<◌, ◌≤◌, [], true, All, None, length, slice_index_or, slice_set};
-ghost use Rattle.name_tree.specs.Slots.{moved_slot};
 ghost use Rattle.name_tree.specs.NodeSlots.{moved_node};
 ghost use Rattle.name_tree.specs.Trees.{IsBlank, blank, node_at};
 
+use crate::node_list::NodeList;
 use std::alloc::Global;
 
 /// The index and the value that a name has.
@@ -25,7 +25,7 @@ pub(crate) struct Node {
 #[derive(Drop)]
 pub(crate) struct Nodes {
     pub(crate) tops: Vec<Option<u32>>,
-    pub(crate) nodes: Vec<Node>,
+    pub(crate) nodes: NodeList,
     /// Pairs that were given back, with nothing in them.
     pub(crate) spare: Vec<u32>,
 }
@@ -34,12 +34,12 @@ impl Nodes {
     /// No nodes. Takes no memory.
     pub(crate) fn new(alloc: Global) -> Nodes
         ensures tops { result.tops.items ≡ [] }
-        ensures nodes { result.nodes.items ≡ [] }
+        ensures nodes { result.nodes ≡ [] }
         ensures spare { result.spare.items ≡ [] }
     {
         Nodes {
             tops: Vec::new(alloc),
-            nodes: Vec::new(alloc),
+            nodes: NodeList::new(alloc),
             spare: Vec::new(alloc),
         }
     }
@@ -56,76 +56,57 @@ impl Nodes {
 
     /// The pair below a node, if there is one.
     pub(crate) fn below(&self, place: u32) -> Option<u32>
-        requires { place < length self.now.nodes.items }
-        ensures { result ≡ (node_at self.now.nodes.items place).below }
+        requires { place < length self.now.nodes }
+        ensures { result ≡ (node_at self.now.nodes place).below }
     {
-        self.nodes[place as usize].below
+        self.nodes.below(place)
     }
 
     /// What stands in a node.
     pub(crate) fn entry(&self, place: u32) -> Option<Entry>
-        requires { place < length self.now.nodes.items }
-        ensures { result ≡ (node_at self.now.nodes.items place).entry }
+        requires { place < length self.now.nodes }
+        ensures { result ≡ (node_at self.now.nodes place).entry }
     {
-        self.nodes[place as usize].entry
+        self.nodes.entry(place)
     }
 
     /// Puts an entry into a node, or takes it out.
     pub(crate) fn put(&mut self, place: u32, entry: Option<Entry>)
-        requires { place < length self.old.nodes.items }
-        ensures nodes { self.new.nodes.items ≡ slice_set self.old.nodes.items place (record (node_at self.old.nodes.items place) { entry = entry }) }
+        requires { place < length self.old.nodes }
+        ensures nodes { self.new.nodes ≡ slice_set self.old.nodes place (record (node_at self.old.nodes place) { entry = entry }) }
         ensures tops { self.new.tops.items ≡ self.old.tops.items }
         ensures spare { self.new.spare.items ≡ self.old.spare.items }
     {
-        let below = self.nodes[place as usize].below;
-        self.nodes[place as usize] = Node { entry, below };
+        self.nodes.put(place, entry);
     }
 
     /// Says which pair is below a node, if there is one.
     pub(crate) fn join(&mut self, place: u32, below: Option<u32>)
-        requires { place < length self.old.nodes.items }
-        ensures nodes { self.new.nodes.items ≡ slice_set self.old.nodes.items place (record (node_at self.old.nodes.items place) { below = below }) }
+        requires { place < length self.old.nodes }
+        ensures nodes { self.new.nodes ≡ slice_set self.old.nodes place (record (node_at self.old.nodes place) { below = below }) }
         ensures tops { self.new.tops.items ≡ self.old.tops.items }
         ensures spare { self.new.spare.items ≡ self.old.spare.items }
     {
-        let entry = self.nodes[place as usize].entry;
-        self.nodes[place as usize] = Node { entry, below };
+        self.nodes.join(place, below);
     }
 
     /// Whether nothing stands in a pair.
     pub(crate) fn is_blank(&self, pair: u32) -> bool
-        requires { 2 * pair + 1 < length self.now.nodes.items }
-        ensures { result ≡ true → IsBlank self.now.nodes.items pair }
+        requires { 2 * pair + 1 < length self.now.nodes }
+        ensures { result ≡ true → IsBlank self.now.nodes pair }
     {
-        let zero = self.nodes[pair as usize * 2];
-        let one = self.nodes[pair as usize * 2 + 1];
+        let zero = self.nodes.node(pair as usize * 2);
+        let one = self.nodes.node(pair as usize * 2 + 1);
         zero.entry.is_none() && zero.below.is_none() && one.entry.is_none() && one.below.is_none()
     }
 
     /// Gives each entry the index that stands at the place of its old one.
     pub(crate) fn renumber(&mut self, moved: &[u32])
-        ensures nodes { (i : ℕ) → node_at self.new.nodes.items i ≡ moved_node moved.now (node_at self.old.nodes.items i) }
-        ensures length { length self.new.nodes.items ≡ length self.old.nodes.items }
+        ensures nodes { (i : ℕ) → node_at self.new.nodes i ≡ moved_node moved.now (node_at self.old.nodes i) }
+        ensures length { length self.new.nodes ≡ length self.old.nodes }
         ensures tops { self.new.tops.items ≡ self.old.tops.items }
         ensures spare { self.new.spare.items ≡ self.old.spare.items }
     {
-        for node in self.nodes.iter_mut() {
-            node.entry = renumbered(node.entry, moved);
-        }
+        self.nodes.renumber(moved);
     }
-}
-
-// An entry with the index that stands at the place of its old one.
-fn renumbered(slot: Option<Entry>, moved: &[u32]) -> Option<Entry>
-    ensures { result ≡ moved_slot moved.now slot }
-{
-    let entry = slot?;
-    let index = match moved.get(entry.index as usize) {
-        Some(index) => *index,
-        None => entry.index,
-    };
-    Some(Entry {
-        index,
-        value: entry.value,
-    })
 }

@@ -1,5 +1,4 @@
-use Rattle.std.proofs.Common.{◌≡◌, ◌≤◌, false, true, sym, ap, ◌∙◌, arith, Some}
-use Rattle.std.proofs.Common.{rules}
+use Rattle.std.proofs.Common.{◌≤◌, false, true, sym, ◌∙◌, arith}
 use Rattle.mesh_names.specs.Names.{depth}
 use Rattle.name_tree.specs.Trees.{Under, pairs_of}
 use Rattle.name_tree.proofs.Found.{child-place, gathers_alone, gathers_both, none_longer, none_under}

@@ -1,4 +1,4 @@
-use Rattle.std.proofs.Common.{◌≡◌, List, [], sym, subst, ◌∙◌, arith}
+use Rattle.std.proofs.Common.{sym, subst, ◌∙◌, arith}
 use Rattle.mesh_names.specs.Names.{Name}
 use Rattle.name_tree.specs.Held.{Gathers}
 use Rattle.name_tree.specs.Trees.{Root, pairs_of}

@@ -4,7 +4,7 @@ use Rattle.name_tree.proofs.nodes.Nodes.reach.Given as goal
 
 abbrev pub invariant-loop-self : goal.invariant-loop-self
 invariant-loop-self l = record {
-  nodes : l.self.nodes.items ≡ l.fn.self.nodes.items;
+  nodes : l.self.nodes ≡ l.fn.self.nodes;
   spare : l.self.spare.items ≡ l.fn.self.spare.items;
   pairs : (s : Source) → pairs_of l.self s ≡ pairs_of l.fn.self s;
 }

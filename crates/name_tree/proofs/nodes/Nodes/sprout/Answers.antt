@@ -9,7 +9,7 @@ pub join-requires : goal.join-requires
 join-requires c =
     let k = c.in_ok-pair.ensures.kept in
     let e = c.in_ok-pair.ensures in
-    let same = pairs-same c.args.self.now.tops.items c.fresh.new.self.tops.items c.args.self.now.nodes.items c.fresh.new.self.nodes.items e.tops e.nodes in
+    let same = pairs-same c.args.self.now.tops.items c.fresh.new.self.tops.items c.args.self.now.nodes c.fresh.new.self.nodes e.tops e.nodes in
     let low = named-within (pairs_of c.fresh.new.self) c.args.place k.count k.tree.within (subst (λ (f : Pairs). IsNamed f c.args.place) (sym same) c.requires.named) in
     let whole = k.whole in
     omega arith
@@ -19,7 +19,7 @@ returns-clause-kept c =
     let k = c.in_ok-pair.ensures in
     let none = ap (λ (x : Node). x.below) (k.nodes c.args.place) ∙ c.requires.none in
     let j = c.join.ensures in
-    let same = pairs-same c.args.self.now.tops.items c.fresh.new.self.tops.items c.args.self.now.nodes.items c.fresh.new.self.nodes.items k.tops k.nodes in
+    let same = pairs-same c.args.self.now.tops.items c.fresh.new.self.tops.items c.args.self.now.nodes c.fresh.new.self.nodes k.tops k.nodes in
     joined-kept c.fresh.new.self c.join.new.self c.args.place c.in_ok-pair.pair k.kept (subst (λ (f : Pairs). IsNamed f c.args.place) (sym same) c.requires.named) none k.free j.nodes j.tops j.spare
 
 pub returns-clause-ok : goal.returns-clause-ok
@@ -27,7 +27,7 @@ returns-clause-ok c =
     let k = c.in_ok-pair.ensures in
     let none = ap (λ (x : Node). x.below) (k.nodes c.args.place) ∙ c.requires.none in
     let j = c.join.ensures in
-    let same = pairs-same c.args.self.now.tops.items c.fresh.new.self.tops.items c.args.self.now.nodes.items c.fresh.new.self.nodes.items k.tops k.nodes in
+    let same = pairs-same c.args.self.now.tops.items c.fresh.new.self.tops.items c.args.self.now.nodes c.fresh.new.self.nodes k.tops k.nodes in
     let n = subst (λ (f : Pairs). IsNamed f c.args.place) (sym same) c.requires.named in
     let inside = k.free.inside in
     let whole = k.kept.whole in

@@ -1,4 +1,4 @@
-use Rattle.std.proofs.Common.{List, ◌<◌, sym, subst, ap, ◌∙◌, arith}
+use Rattle.std.proofs.Common.{List, sym, subst, ap, ◌∙◌, arith}
 use Rattle.std.proofs.lemmas.List.Filters.{dedup_is}
 use Rattle.mesh_names.specs.Names.{Name, name_eq}
 use Rattle.mesh_names.specs.Forests.{Has, IsListOf, Names}
