@@ -1,5 +1,5 @@
 use Rattle.std.proofs.Common.{◌∙◌, Bool, ap, sym}
-use Rattle.std.specs.Prelude.{None, Some, option_map}
+use Rattle.std.specs.Prelude.{None, option_map}
 use Rattle.mesh_names.specs.Names.{Name}
 use Rattle.compat_check.specs.Meshes.{across_in, shape_of}
 use Rattle.compat_check.proofs.Walks.{stored_at}
