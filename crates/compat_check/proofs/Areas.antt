@@ -9,7 +9,7 @@ use Rattle.macro_file.specs.Limits.{AtMost}
 use mir.Val.{to_z, of_z, SFits}
 use Rattle.macro_file.specs.declared.text.MacroVertex.{MacroVertex}
 use Rattle.mesh_names.specs.Triangles.{Triple, corner_of}
-use Rattle.compat_check.specs.Faults.{IsFlat, IsOutside, point_of, point_at, doubled_area}
+use Rattle.compat_check.specs.Faults.{IsFlat, IsOutside, point_of, doubled_area}
 
 same_bits : (p q : ℤ) → SFits w128 p → SFits w128 q → of_z w128 p ≡ of_z w128 q → p ≡ q
 same_bits p q f g e = sym (to_z-of_z w128 p f) ∙ ap (to_z w128) e ∙ to_z-of_z w128 q g

@@ -1,6 +1,6 @@
 -- The check of a triangulation asks for no grades.
-use Rattle.std.proofs.Common.{◌≡◌, ℕ, ◌<◌, List, [], length, map, refl, sym, ap, ◌∙◌, subst}
-use Rattle.std.specs.Prelude.{ℤ, pos, Option, true, false, slice_index_or}
+use Rattle.std.proofs.Common.{◌≡◌, List, [], length, map}
+use Rattle.std.specs.Prelude.{ℤ, Option, true, false}
 use Rattle.macro_file.specs.declared.text.MacroText.{MacroText}
 use Rattle.macro_file.specs.declared.text.MacroElem.{MacroElem}
 use Rattle.macro_file.specs.declared.text.MacroVertex.{MacroVertex}

@@ -27,6 +27,8 @@ pub mod Firsts
 mod OneGrading
 mod Causes
 mod AskingNoGrades
+mod Climbs
 pub mod Halving
 mod Placing
 mod Exact
+mod Words

@@ -1,6 +1,6 @@
 -- Where the corners of a child lie, and that no corner lies outside of the range.
-use Rattle.std.proofs.Common.{◌≡◌, ℕ, Bool, true, false, cond, List, [], ◌∷◌, refl, sym, ap, ◌∙◌, arith, zero-le, subst}
-use Rattle.std.specs.Prelude.{ℤ, pos, ◌+ℤ◌, Option, Some, None, slice_get, slice_index_or}
+use Rattle.std.proofs.Common.{◌≡◌, Bool, true, false, cond, List, [], ◌∷◌, refl, sym, ap, ◌∙◌, arith, zero-le, subst}
+use Rattle.std.specs.Prelude.{ℤ, ◌+ℤ◌, Option, Some, None, slice_get}
 use Rattle.std.proofs.lemmas.Int.{ints}
 use Rattle.macro_file.specs.declared.text.MacroVertex.{MacroVertex}
 use Rattle.mesh_names.specs.Names.{Name}
@@ -58,3 +58,11 @@ second_within mesh parent ps e = subst (λ (qs : List Point). IsWithin (corner q
 
 pub point_of_middle : (mesh : Mesh) (n : Name) (ps : List Point) (m : Point) → ps ≡ points mesh n → m ≡ between (corner ps 0) (corner ps 1) → m ≡ point mesh.vertices (midpoint (triangle (shape_of mesh) n))
 point_of_middle mesh n ps m e lies = lies ∙ ap (λ (qs : List Point). between (corner qs 0) (corner qs 1)) e ∙ sym (middle_lies mesh.vertices (triangle (shape_of mesh) n).0 (triangle (shape_of mesh) n).1)
+
+-- the points of a child have three entries
+pub three_corners : (qs ps : List Point) (b : Bool) → qs ≡ child_points ps b → corner qs 0 ∷ corner qs 1 ∷ corner qs 2 ∷ [] ≡ child_points ps b
+three_corners qs ps b e = ap (λ (rs : List Point). corner rs 0 ∷ corner rs 1 ∷ corner rs 2 ∷ []) e ∙ computed b
+  where
+    computed : (c : Bool) → corner (child_points ps c) 0 ∷ corner (child_points ps c) 1 ∷ corner (child_points ps c) 2 ∷ [] ≡ child_points ps c
+    computed true = refl
+    computed false = refl

@@ -1,11 +1,10 @@
 -- Steps of a walk, and what lies around a name.
-use Rattle.std.proofs.Common.{◌≡◌, ℕ, ◌<◌, Bool, refl, sym, ap, ◌∙◌, subst, List, [], ◌∷◌}
-use Rattle.std.specs.Prelude.{Option, Some, None, MatchOption}
+use Rattle.std.proofs.Common.{◌≡◌, ℕ, Bool, sym, ap, ◌∙◌, subst, List, [], ◌∷◌}
+use Rattle.std.specs.Prelude.{Option, Some, None}
 use Rattle.mesh_names.specs.Names.{Name}
 use Rattle.mesh_names.specs.Partners.{Across, partner}
-use Rattle.mesh_names.specs.Triangles.{size}
 use Rattle.compat_check.specs.Around.{IsAbove, IsAround}
-use Rattle.compat_check.specs.Meshes.{Mesh, across_in, shape_of}
+use Rattle.compat_check.specs.Meshes.{Mesh, across_in}
 use Rattle.compat_check.specs.Steps.{IsStep, around_by, partner_above}
 use Rattle.compat_check.specs.declared.around.Above.{Above}
 use Rattle.compat_check.specs.declared.around.Around.{Around}

@@ -1,7 +1,7 @@
 -- The corners of a name as keys of vertices.
 use Rattle.std.specs.Prelude.{◌≡◌, ℕ, ◌<◌, List, slice_index_or}
 use Rattle.mesh_names.specs.Names.{Name}
-use Rattle.mesh_names.specs.Triangles.{Shape, Triangle, size, triangle}
+use Rattle.mesh_names.specs.Triangles.{Shape, Triangle, Vertex, size, triangle}
 use Rattle.mesh_names.specs.Patches.{vertex_of, IsKey}
 use Rattle.mesh_names.specs.declared.patch.VertexKey.{VertexKey}
 use Rattle.mesh_names.specs.declared.patch.VertexKey.TheVariants.{Macro, Patch}
@@ -24,3 +24,9 @@ pub record AreCorners (mesh : Mesh) (n : Name) (keys : List VertexKey) : Type 0 
   pub stand : triangle_by (shape_of mesh) keys ≡ triangle (shape_of mesh) n
   pub keys_are : (k : ℕ) → k < 3 → IsKey (across_in mesh) (key_at keys k)
   pub of_mesh : (k : ℕ) → k < 3 → IsOfMesh (shape_of mesh) (key_at keys k)
+
+-- the key stands for the vertex, and is its only key
+pub record IsKeyOf (mesh : Mesh) (v : Vertex) (key : VertexKey) : Type 0 where
+  pub stands : vertex_of (shape_of mesh) key ≡ v
+  pub is : IsKey (across_in mesh) key
+  pub of_mesh : IsOfMesh (shape_of mesh) key

@@ -12,6 +12,7 @@ pub mod Grading
 pub mod Tables
 pub mod Partnership
 pub mod Checks
+pub mod Climbing
 pub mod Passes
 pub mod Points
 pub mod Within

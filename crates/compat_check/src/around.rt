@@ -1,4 +1,4 @@
-//! Partners and corners of names, by one walk down a name's word.
+//! Partners and corners of names, by short walks up.
 ghost use Rattle.std.specs.Prelude.{◌≡◌, ◌<◌, ◌≤◌, IfSome, Some, [], ◌∷◌, option_map};
 ghost use Rattle.mesh_names.specs.Names.{Name, depth};
 ghost use Rattle.mesh_names.specs.Triangles.{size, level, triangle, midpoint};
@@ -7,8 +7,10 @@ ghost use Rattle.mesh_names.specs.Patches.{patch_by, patch_of, vertex_of, IsKey}
 ghost use Rattle.compat_check.specs.Meshes.{across_in, edge_of, shape_of, edge_name};
 ghost use Rattle.compat_check.specs.Around.{IsAround};
 ghost use Rattle.compat_check.specs.Partnership.{SharesEdge};
-ghost use Rattle.compat_check.specs.Corners.{AreCorners, IsOfMesh};
+ghost use Rattle.compat_check.specs.Climbing.{IsEnd, vertex_at};
+ghost use Rattle.compat_check.specs.Corners.{AreCorners, IsKeyOf, IsOfMesh};
 
+use crate::climbing::{climbed, moved, place_above};
 use crate::mesh::MacroMesh;
 use mesh_names::laws;
 use mesh_names::name::ElemName;
@@ -88,6 +90,38 @@ impl MacroMesh {
         }
     }
 
+    // The partner of a name at which a climb ends.
+    fn end_partner(&self, name: ElemName) -> Option<(ElemName, bool)>
+        requires root { name.0 < size (shape_of self.now) }
+        requires end { IsEnd name.1 }
+        ensures { result ≡ partner (across_in self.now) name.0 name.1 }
+    {
+        let _few = name.depth();
+        let Some((parent, last)) = name.split() else {
+            return self.top_partner(name.root(), 2);
+        };
+        let Some((above, _)) = parent.split() else {
+            return self.top_partner(name.root(), !last as u8);
+        };
+        Some((above.child_at(!last).child_at(!last), true))
+    }
+
+    /// The partner of a name, by a climb that ends where the refinement edge lies inside of an
+    /// element above or is an edge of the macro element.
+    pub(crate) fn turned_partner(&self, name: ElemName) -> Option<(ElemName, bool)>
+        requires root { name.0 < size (shape_of self.now) }
+        requires level { level (shape_of self.now) name ≤ 24 }
+        ensures { result ≡ partner (across_in self.now) name.0 name.1 }
+    {
+        laws::partners_pair();
+        let _ = &self.sides;
+        let top = climbed(name);
+        match self.end_partner(top) {
+            None => None,
+            Some((other, turned)) => Some((moved(other, turned, name, top), turned)),
+        }
+    }
+
     // The partner of a child of a name.
     fn child_partner(&self, parent: &Around, side: bool) -> Option<(ElemName, bool)>
         requires root { parent.now.name.0 < size (shape_of self.now) }
@@ -125,7 +159,7 @@ impl MacroMesh {
         }
     }
 
-    /// A name with its partner. The recursion is as deep as the word is long, at most 24.
+    /// A name with its partner, and its parent with its own.
     pub(crate) fn around(&self, name: ElemName) -> Around
         requires root { name.0 < size (shape_of self.now) }
         requires level { level (shape_of self.now) name ≤ 24 }
@@ -133,13 +167,19 @@ impl MacroMesh {
         ensures partner { result.partner ≡ partner (across_in self.now) name.0 name.1 }
         ensures around { IsAround self.now result }
     {
-        match name.split() {
-            None => Around {
-                name,
-                partner: self.top_partner(name.root(), 2),
-                above: None,
-            },
-            Some((parent, side)) => self.around_child(&self.around(parent), side),
+        let partner = self.turned_partner(name);
+        let above = match name.split() {
+            None => None,
+            Some((parent, side)) => Some(Above {
+                name: parent,
+                side,
+                partner: self.turned_partner(parent),
+            }),
+        };
+        Around {
+            name,
+            partner,
+            above,
         }
     }
 
@@ -156,7 +196,7 @@ impl MacroMesh {
         laws::partners_pair();
         laws::partner_is_only();
         let _ = &self.sides;
-        match self.around(name).partner {
+        match self.turned_partner(name) {
             None => None,
             Some((other, _)) => Some(other),
         }
@@ -168,7 +208,7 @@ impl MacroMesh {
         requires level { level (shape_of self.now) name ≤ 24 }
         ensures { result ≡ patch_of (across_in self.now) name }
     {
-        patch_with(name, self.around(name).partner)
+        patch_with(name, self.turned_partner(name))
     }
 
     /// The key of the midpoint of a name's refinement edge.
@@ -185,34 +225,46 @@ impl MacroMesh {
         VertexKey::Patch(patch_with(around.name, around.partner).first)
     }
 
-    // The corners of a macro element.
-    fn top_corners(&self, name: ElemName) -> [VertexKey; 3]
-        requires root { name.0 < size (shape_of self.now) }
-        requires top { name.1 ≡ [] }
-        ensures { AreCorners self.now name result }
-    {
-        self.triples[name.root() as usize].map(VertexKey::Macro)
-    }
-
-    // A name with its partner and its corners, as deep as the word is long.
-    fn placed(&self, name: ElemName) -> (Around, [VertexKey; 3])
+    // The key of the midpoint of a name's refinement edge.
+    fn owner_key(&self, name: ElemName) -> VertexKey
         requires root { name.0 < size (shape_of self.now) }
         requires level { level (shape_of self.now) name ≤ 24 }
-        ensures name { result.0.name ≡ name }
-        ensures around { IsAround self.now result.0 }
-        ensures corners { AreCorners self.now name result.1 }
+        ensures { IsKeyOf self.now (midpoint (triangle (shape_of self.now) name)) result }
     {
-        let Some((parent, side)) = name.split() else {
-            return (self.around(name), self.top_corners(name));
-        };
-        let (around, [first, second, apex]) = self.placed(parent);
-        let middle = self.midpoint_key(&around);
-        let corners = if side {
-            [second, apex, middle]
-        } else {
-            [apex, first, middle]
-        };
-        (self.around_child(&around, side), corners)
+        laws::partners_share();
+        laws::partners_pair();
+        let _ = &self.sides;
+        VertexKey::Patch(patch_with(name, self.turned_partner(name)).first)
+    }
+
+    // The key of a corner of a macro element.
+    fn top_corner(&self, name: ElemName, corner: u8) -> VertexKey
+        requires root { name.0 < size (shape_of self.now) }
+        requires top { name.1 ≡ [] }
+        requires corner { corner < 3 }
+        ensures { IsKeyOf self.now (vertex_at (triangle (shape_of self.now) name) corner) result }
+    {
+        VertexKey::Macro(self.triples[name.root() as usize][corner as usize])
+    }
+
+    /// The corner of a name with this number: it is one of the macro element, or the midpoint of the
+    /// refinement edge of the lowest element above that does not have it.
+    pub fn corner(&self, name: ElemName, corner: u8) -> VertexKey
+        requires root { name.0 < size (shape_of self.now) }
+        requires level { level (shape_of self.now) name ≤ 24 }
+        requires corner { corner < 3 }
+        ensures { IsKeyOf self.now (vertex_at (triangle (shape_of self.now) name) corner) result }
+    {
+        let mut at = name;
+        let mut place = corner;
+        while let Some((parent, side)) = at.split() {
+            if place == 2 {
+                return self.owner_key(parent);
+            }
+            place = place_above(place, side);
+            at = parent;
+        }
+        self.top_corner(at, place)
     }
 
     /// The corners of a name: each key names the owner of its patch.
@@ -221,6 +273,10 @@ impl MacroMesh {
         requires level { level (shape_of self.now) name ≤ 24 }
         ensures { AreCorners self.now name result }
     {
-        self.placed(name).1
+        [
+            self.corner(name, 0),
+            self.corner(name, 1),
+            self.corner(name, 2),
+        ]
     }
 }

@@ -7,6 +7,7 @@
 
 mod around;
 pub mod checking;
+mod climbing;
 mod earlier;
 pub mod edges;
 mod grading;

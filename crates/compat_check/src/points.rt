@@ -7,6 +7,7 @@ ghost use Rattle.compat_check.specs.Meshes.{shape_of};
 ghost use Rattle.compat_check.specs.Points.{IsVertexOf, between, labels, point, points};
 ghost use Rattle.compat_check.specs.Within.{IsWithin, child_points, corner, labels_by};
 
+use crate::climbing::letter_after;
 use crate::mesh::MacroMesh;
 use mesh_names::name::ElemName;
 use mesh_names::patch::VertexKey;
@@ -82,16 +83,24 @@ impl MacroMesh {
     }
 
     /// Where the corners of a name lie, x and y in fine units. A new vertex lies halfway between the
-    /// ends of the refinement edge that it bisects, rounded down. Takes no memory; the recursion is as
-    /// deep as the word is long.
+    /// ends of the refinement edge that it bisects, rounded down. Takes no memory.
     pub fn points(&self, name: ElemName) -> [(i64, i64); 3]
         requires { name.0 < size (shape_of self.now) }
         ensures { result ≡ points self.now name }
     {
-        match name.split() {
-            None => self.macro_points(name),
-            Some((parent, side)) => child_points(self.points(parent), side),
+        let _few = self.element_count();
+        let [one, two, three] = self.macro_points(ElemName::top(name.root()));
+        let (mut first, mut second, mut apex) = (one, two, three);
+        for letters in 0..name.depth() {
+            let [one, two, three] = child_points(
+                [first, second, apex],
+                letter_after(name, letters),
+            );
+            first = one;
+            second = two;
+            apex = three;
         }
+        [first, second, apex]
     }
 
     /// Where a vertex lies, by its key, x and y in fine units. Takes no memory.

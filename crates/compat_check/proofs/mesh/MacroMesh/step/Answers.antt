@@ -1,4 +1,4 @@
-use Rattle.std.proofs.Common.{◌∙◌, ap, sym, subst}
+use Rattle.std.proofs.Common.{◌∙◌, subst}
 use Rattle.mesh_names.specs.Names.{Name}
 use Rattle.compat_check.specs.Around.{IsAbove}
 use Rattle.compat_check.specs.Meshes.{across_in}
