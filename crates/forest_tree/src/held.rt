@@ -115,10 +115,10 @@ impl<'a> HeldFinder<'a> {
     }
 }
 
-impl Asked for HeldNames {
+impl Asked for HeldFinder<'_> {
     ghost names = { λ s. s };
 
-    fn has(&self, name: ElemName) -> bool {
+    fn has(&mut self, name: ElemName) -> bool {
         self.contains(name)
     }
 }
