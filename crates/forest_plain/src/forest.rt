@@ -139,7 +139,7 @@ impl<'m> PlainForest<'m> {
     {
         let _checked = self.mesh.element_count();
         let deepest = greatest_level(self.mesh, list);
-        try_rows(self.mesh, &self.members, deepest, rows)
+        try_rows(self.mesh, &mut self.members.finder(), deepest, rows)
     }
 
     // The least forest, where the list has the leaves and the rows can be done, with the marks of
@@ -190,7 +190,7 @@ impl Forest for PlainForest<'_> {
     }
 
     fn is_leaf(&mut self, name: ElemName) -> bool {
-        is_leaf(self.mesh, &self.members, name)
+        is_leaf(self.mesh, &mut self.members.finder(), name)
     }
 
     fn leaves(&mut self) -> Result<Vec<ElemName>, RoundRefusal> {

@@ -10,7 +10,7 @@ ghost use Rattle.forest_plain.specs.LeafMarks.{joined_in, leaf_mark};
 ghost use Rattle.forest_plain.specs.MarkMaps.{mark_in};
 
 use crate::marks::Marks;
-use crate::names::Asked;
+use crate::name_set::NameSet;
 use mesh_names::name::ElemName;
 use std::alloc::{AllocError, Global};
 use std::collections::BTreeMap;
@@ -36,18 +36,18 @@ impl LeafMarks {
     }
 
     /// The marks below 0 of those leaves that are no members of the refined forest.
-    pub fn of_leaves<S: Asked>(
+    pub fn of_leaves(
         alloc: Global,
         leaves: &[ElemName],
         marks: &Marks,
-        refined: &S,
+        refined: &NameSet,
     ) -> Result<LeafMarks, AllocError>
-        ensures marks { IfOk result (λ m. (n : Name) → allowance (leaf_mark m n) ≡ cond (set.contains {R = name_cmp} (from_list leaves.now) n && not (set.contains (S.names refined.now) n)) (allowance (mark_in marks.now n)) 0) }
+        ensures marks { IfOk result (λ m. (n : Name) → allowance (leaf_mark m n) ≡ cond (set.contains {R = name_cmp} (from_list leaves.now) n && not (set.contains refined.now n)) (allowance (mark_in marks.now n)) 0) }
         ensures parents { IfOk result (λ m. (n : Name) (side : Bool) → 0 < allowance (leaf_mark m (child_at n side)) → Has (from_list m.parents.items) n) }
     {
         let mut found = LeafMarks::new(alloc);
         for leaf in leaves {
-            if !refined.has(*leaf) {
+            if !refined.contains(*leaf) {
                 found.add(*leaf, marks.of(*leaf))?;
             }
         }

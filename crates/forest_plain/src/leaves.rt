@@ -15,10 +15,14 @@ use mesh_names::name::ElemName;
 use std::alloc::{AllocError, Global};
 
 /// Whether the name is a leaf of the forest of these members.
-pub fn is_leaf<S: Asked>(mesh: &MacroMesh, members: &S, name: ElemName) -> bool
-    ensures { IsTrue result ↔ IsLeaf (shape_of mesh.now) (S.names members.now) name }
+pub fn is_leaf<S: Asked>(mesh: &MacroMesh, members: &mut S, name: ElemName) -> bool
+    ensures leaf { IsTrue result ↔ IsLeaf (shape_of mesh.now) (S.names members.old) name }
+    ensures same { S.names members.new ≡ S.names members.old }
 {
-    if name.root() >= mesh.element_count() || members.has(name) {
+    if name.root() >= mesh.element_count() {
+        return false;
+    }
+    if members.has(name) {
         return false;
     }
     match name.parent() {
@@ -37,19 +41,20 @@ pub fn leaf_list(
     ensures { IfOk result (λ v. IsListOf (leaves (shape_of mesh.now) members.now) v.items) }
 {
     let names = members.to_vec(alloc)?;
-    leaves_beside(alloc, mesh, members, &names)
+    let mut finder = members.finder();
+    leaves_beside(alloc, mesh, &mut finder, &names)
 }
 
 /// The leaves in the order of names, where the list has the members.
 pub fn leaves_beside<S: Asked>(
     alloc: Global,
     mesh: &MacroMesh,
-    members: &S,
+    members: &mut S,
     names: &[ElemName],
 ) -> Result<Vec<ElemName>, AllocError>
-    requires forest { IsForest (shape_of mesh.now) (S.names members.now) }
-    requires names { IsListOf (S.names members.now) names.now }
-    ensures { IfOk result (λ v. IsListOf (leaves (shape_of mesh.now) (S.names members.now)) v.items) }
+    requires forest { IsForest (shape_of mesh.now) (S.names members.old) }
+    requires names { IsListOf (S.names members.old) names.now }
+    ensures { IfOk result (λ v. IsListOf (leaves (shape_of mesh.now) (S.names members.old)) v.items) }
 {
     let mut found = Vec::new(alloc);
     add_tops(mesh, members, &mut found)?;
@@ -63,11 +68,12 @@ pub fn leaves_beside<S: Asked>(
 // Adds the macro elements that are not members.
 fn add_tops<S: Asked>(
     mesh: &MacroMesh,
-    members: &S,
+    members: &mut S,
     found: &mut Vec<ElemName>,
 ) -> Result<(), AllocError>
     requires { found.old.items ≡ [] }
-    ensures { OnOk result (IsUnsplit (tops (size (shape_of mesh.now))) (S.names members.now) (set_of found.new.items)) }
+    ensures unsplit { OnOk result (IsUnsplit (tops (size (shape_of mesh.now))) (S.names members.old) (set_of found.new.items)) }
+    ensures same { S.names members.new ≡ S.names members.old }
 {
     for root in 0..mesh.element_count() {
         add_leaf(members, ElemName::top(root), found)?;
@@ -77,12 +83,13 @@ fn add_tops<S: Asked>(
 
 // Adds the children of these names that are not members.
 fn add_children<S: Asked>(
-    members: &S,
+    members: &mut S,
     names: &[ElemName],
     found: &mut Vec<ElemName>,
 ) -> Result<(), AllocError>
     requires { All (λ n. depth n < 24) names.now }
-    ensures { OnOk result ((all : List Name) → IsUnsplit all (S.names members.now) (set_of found.old.items) → IsUnsplit (all ++ children names.now) (S.names members.now) (set_of found.new.items)) }
+    ensures same { S.names members.new ≡ S.names members.old }
+    ensures unsplit { OnOk result ((all : List Name) → IsUnsplit all (S.names members.old) (set_of found.old.items) → IsUnsplit (all ++ children names.now) (S.names members.old) (set_of found.new.items)) }
 {
     for name in names {
         add_leaf(members, name.child_at(false), found)?;
@@ -93,11 +100,12 @@ fn add_children<S: Asked>(
 
 // Adds the name unless it is a member.
 fn add_leaf<S: Asked>(
-    members: &S,
+    members: &mut S,
     name: ElemName,
     found: &mut Vec<ElemName>,
 ) -> Result<(), AllocError>
-    ensures { OnOk result (set_of found.new.items ≡ cond (set.contains (S.names members.now) name) (set_of found.old.items) (set.insert (set_of found.old.items) name)) }
+    ensures same { S.names members.new ≡ S.names members.old }
+    ensures found { OnOk result (set_of found.new.items ≡ cond (set.contains (S.names members.old) name) (set_of found.old.items) (set.insert (set_of found.old.items) name)) }
 {
     if !members.has(name) {
         found.push(name)?;

@@ -89,11 +89,26 @@ impl NameSet {
     }
 }
 
-impl Asked for NameSet {
-    ghost names = { λ s. s };
+/// Looks names up in a set.
+#[derive(Clone, Copy)]
+pub struct NameFinder<'a> {
+    set: &'a NameSet,
+}
 
-    fn has(&self, name: ElemName) -> bool {
-        self.contains(name)
+impl NameSet {
+    /// For names that are looked up in turn.
+    pub fn finder(&self) -> NameFinder<'_>
+        ensures { result.set.now ≡ self.entry.now }
+    {
+        NameFinder { set: self }
+    }
+}
+
+impl Asked for NameFinder<'_> {
+    ghost names = { λ f. f.set.now };
+
+    fn has(&mut self, name: ElemName) -> bool {
+        self.set.contains(name)
     }
 }
 

@@ -6,14 +6,15 @@ ghost use Rattle.mesh_names.specs.Forests.{Names};
 use mesh_names::name::ElemName;
 use std::alloc::AllocError;
 
-/// Names of which each can be looked up.
+/// Names that are looked up in turn.
 pub trait Asked {
     // The names.
     ghost names: { Self → Names };
 
     /// Whether the name is one of these. Takes no memory.
-    fn has(&self, name: ElemName) -> bool
-        ensures { result ≡ set.contains (names self.now) name };
+    fn has(&mut self, name: ElemName) -> bool
+        ensures found { result ≡ set.contains (names self.old) name }
+        ensures same { names self.new ≡ names self.old };
 }
 
 /// Names to which others are added.

@@ -17,15 +17,16 @@ use mesh_names::rows::{MarkRow, Place, What};
 /// every leaf.
 pub fn try_rows<S: Asked>(
     mesh: &MacroMesh,
-    members: &S,
+    members: &mut S,
     deepest: u32,
     rows: &[MarkRow],
 ) -> Result<(), RoundRefusal>
-    requires deepest { All (λ row. BisectsEvery row → IsDeepestLeaf (shape_of mesh.now) (S.names members.now) deepest) rows.now }
+    requires deepest { All (λ row. BisectsEvery row → IsDeepestLeaf (shape_of mesh.now) (S.names members.old) deepest) rows.now }
     requires small { deepest < 512 }
     requires formed { All IsWellFormed rows.now }
-    ensures ok { OnOk result (All (IsFine (shape_of mesh.now) (S.names members.now)) rows.now) }
-    ensures refused { IfErr result (IsFirstFault (shape_of mesh.now) (S.names members.now) rows.now) }
+    ensures same { S.names members.new ≡ S.names members.old }
+    ensures ok { OnOk result (All (IsFine (shape_of mesh.now) (S.names members.old)) rows.now) }
+    ensures refused { IfErr result (IsFirstFault (shape_of mesh.now) (S.names members.old) rows.now) }
 {
     for row in rows {
         if let Err(refusal) = try_row(mesh, members, deepest, row) {
@@ -57,15 +58,16 @@ fn is_of_every(row: &MarkRow) -> bool
 // Tries one row.
 fn try_row<S: Asked>(
     mesh: &MacroMesh,
-    members: &S,
+    members: &mut S,
     deepest: u32,
     row: &MarkRow,
 ) -> Result<(), RoundRefusal>
-    requires deepest { BisectsEvery row.now → IsDeepestLeaf (shape_of mesh.now) (S.names members.now) deepest }
+    requires deepest { BisectsEvery row.now → IsDeepestLeaf (shape_of mesh.now) (S.names members.old) deepest }
     requires small { deepest < 512 }
     requires formed { IsWellFormed row.now }
-    ensures ok { OnOk result (IsFine (shape_of mesh.now) (S.names members.now) row.now) }
-    ensures refused { IfErr result (IsRowFault (shape_of mesh.now) (S.names members.now) row.now) }
+    ensures same { S.names members.new ≡ S.names members.old }
+    ensures ok { OnOk result (IsFine (shape_of mesh.now) (S.names members.old) row.now) }
+    ensures refused { IfErr result (IsRowFault (shape_of mesh.now) (S.names members.old) row.now) }
 {
     let Some(reached) = reached(mesh, members, deepest, row) else {
         return Err(RoundRefusal::NotALeaf { row: row.row });
@@ -94,13 +96,14 @@ fn times(row: &MarkRow) -> u32
 
 // The greatest level of the leaves that a row names; `None` where its element is no leaf. Where it
 // names a corner, it is that of the corner's element.
-fn reached<S: Asked>(mesh: &MacroMesh, members: &S, deepest: u32, row: &MarkRow) -> Option<u32>
-    requires deepest { BisectsEvery row.now → IsDeepestLeaf (shape_of mesh.now) (S.names members.now) deepest }
+fn reached<S: Asked>(mesh: &MacroMesh, members: &mut S, deepest: u32, row: &MarkRow) -> Option<u32>
+    requires deepest { BisectsEvery row.now → IsDeepestLeaf (shape_of mesh.now) (S.names members.old) deepest }
     requires small { deepest < 512 }
-    ensures named { IfSome result (λ _. NamesLeaf (shape_of mesh.now) (S.names members.now) row.now) }
-    ensures deepest { Bisects row.now → IfSome result (IsDeepest (shape_of mesh.now) (S.names members.now) row.now) }
+    ensures same { S.names members.new ≡ S.names members.old }
+    ensures named { IfSome result (λ _. NamesLeaf (shape_of mesh.now) (S.names members.old) row.now) }
+    ensures deepest { Bisects row.now → IfSome result (IsDeepest (shape_of mesh.now) (S.names members.old) row.now) }
     ensures small { IfSome result (λ g. g < 512) }
-    ensures none { IfNone result (NamesLeaf (shape_of mesh.now) (S.names members.now) row.now → ⊥) }
+    ensures none { IfNone result (NamesLeaf (shape_of mesh.now) (S.names members.old) row.now → ⊥) }
 {
     match named(row.place) {
         None => Some(deepest),
@@ -109,10 +112,11 @@ fn reached<S: Asked>(mesh: &MacroMesh, members: &S, deepest: u32, row: &MarkRow)
 }
 
 // The level of the name, where it is a leaf.
-fn level_of_leaf<S: Asked>(mesh: &MacroMesh, members: &S, name: ElemName) -> Option<u32>
-    ensures some { IfSome result (λ g. IsLeaf (shape_of mesh.now) (S.names members.now) name × (g ≡ level (shape_of mesh.now) name)) }
+fn level_of_leaf<S: Asked>(mesh: &MacroMesh, members: &mut S, name: ElemName) -> Option<u32>
+    ensures same { S.names members.new ≡ S.names members.old }
+    ensures some { IfSome result (λ g. IsLeaf (shape_of mesh.now) (S.names members.old) name × (g ≡ level (shape_of mesh.now) name)) }
     ensures small { IfSome result (λ g. g < 512) }
-    ensures none { IfNone result (IsLeaf (shape_of mesh.now) (S.names members.now) name → ⊥) }
+    ensures none { IfNone result (IsLeaf (shape_of mesh.now) (S.names members.old) name → ⊥) }
 {
     if is_leaf(mesh, members, name) {
         Some(mesh.level(name))

@@ -107,3 +107,11 @@ within-tried s t u n (Err b) h w e f = λ q i. w q (subst (λ (v : Names). Has v
 pub apart-tried : {E : Type 0} (s t u : Names) (n : Name) (r : Result Bool E) → contains s n ≡ false → IsApart s t → OnOk r (u ≡ insert t n) → OnErr r (u ≡ t) → IsApart s u
 apart-tried s t u n (Ok b) h w e f = apart-insert s t u n h w e
 apart-tried s t u n (Err b) h w e f = λ q i. w q (subst (λ (v : Names). Has v q) f i)
+
+-- of names that are out of the old set, those in the new one are those in both together
+pub out-of-both : (old fresh list : Names) (n : Name) → ((m : Name) → Has list m → contains old m ≡ false) → (contains list n && not (contains fresh n)) ≡ (contains list n && not (contains (union old fresh) n))
+out-of-both old fresh list n out = by (contains list n) refl
+  where
+    by : (b : Bool) → contains list n ≡ b → (b && not (contains fresh n)) ≡ (b && not (contains (union old fresh) n))
+    by true h = ap not (in-second-of old fresh n (contains fresh n) (out n h) refl)
+    by false h = refl

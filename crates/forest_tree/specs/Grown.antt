@@ -6,11 +6,11 @@ use Rattle.forest_tree.specs.declared.lessened.Lessened.{Lessened}
 
 -- the members before the round
 abbrev pub start_of : Grown → Names
-start_of g = g.members.now
+start_of g = g.members
 
 -- and the new ones
 abbrev pub grown_of : Grown → Names
-grown_of g = union g.members.now g.fresh
+grown_of g = union g.members g.fresh
 
 -- the members of the refined forest
 abbrev pub whole_of : Lessened → Names

@@ -127,7 +127,7 @@ impl Forest for TreeForest<'_> {
     }
 
     fn is_leaf(&mut self, name: ElemName) -> bool {
-        is_leaf(self.mesh, &self.members, name)
+        is_leaf(self.mesh, &mut self.members.finder(), name)
     }
 
     fn leaves(&mut self) -> Result<Vec<ElemName>, RoundRefusal> {

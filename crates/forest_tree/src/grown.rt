@@ -3,18 +3,18 @@ ghost use Rattle.std.specs.Prelude.{◌≡◌};
 ghost use Rattle.std.specs.FinSet as set;
 ghost use Rattle.forest_tree.specs.Apart.{IsApart};
 
-use crate::held::HeldNames;
+use crate::held::{HeldFinder, HeldNames};
 use forest_plain::name_set::NameSet;
-use forest_plain::names::{Asked, Growing};
+use forest_plain::names::Growing;
 use mesh_names::name::ElemName;
 use std::alloc::{AllocError, Global};
 
 /// The members of a forest, and beside them those that a round adds.
 #[derive(Drop)]
 pub struct Grown<'a> {
-    members: &'a HeldNames,
+    members: HeldFinder<'a>,
     fresh: NameSet,
-    ghost apart: { IsApart members.now fresh },
+    ghost apart: { IsApart members fresh },
 }
 
 impl<'a> Grown<'a> {
@@ -26,7 +26,7 @@ impl<'a> Grown<'a> {
         ensures fresh { result.fresh ≡ set.empty }
     {
         Grown {
-            members,
+            members: members.finder(),
             fresh: NameSet::new(alloc),
         }
     }
@@ -38,16 +38,6 @@ impl<'a> Grown<'a> {
     {
         let Grown { members: _, fresh } = self;
         fresh
-    }
-}
-
-impl Asked for Grown<'_> {
-    ghost use Rattle.forest_tree.specs.Grown.{grown_of};
-
-    ghost names = { grown_of };
-
-    fn has(&self, name: ElemName) -> bool {
-        self.members.contains(name) || self.fresh.contains(name)
     }
 }
 

@@ -7,7 +7,7 @@ ghost use Rattle.mesh_names.specs.Forests.{Has, IsListOf};
 use crate::slots::{forget_all, make_ready, put_all, take_out_all};
 use forest_plain::names::Asked;
 use mesh_names::name::ElemName;
-use name_tree::NameTree;
+use name_tree::{Finder, NameTree};
 use std::alloc::{AllocError, Global};
 use std::marker::Model;
 
@@ -75,10 +75,50 @@ impl HeldNames {
     }
 }
 
-impl Asked for HeldNames {
+/// Looks names up in a set, which does not change meanwhile: near names in turn take few steps each.
+#[derive(Drop)]
+pub struct HeldFinder<'a> {
+    finder: Finder<'a>,
+}
+
+impl<'a> Model for HeldFinder<'a> {
+    ghost use Rattle.std.specs.FinSet as set;
+    ghost use Rattle.std.specs.Coded.{coded_ℕ, coded_bool, coded_list, coded×};
+    ghost use Rattle.mesh_names.specs.Names.{name_cmp};
+    ghost use Rattle.name_tree.specs.Held.{held};
+
+    ghost Value = { set.FinSet name_cmp };
+
+    ghost coded = { set.code (coded× coded_ℕ (coded_list coded_bool)) };
+
+    ghost view = { λ a. held a.finder };
+}
+
+impl HeldNames {
+    /// For names that are looked up in turn.
+    pub fn finder(&self) -> HeldFinder<'_>
+        ensures { result ≡ self.entry.now }
+    {
+        HeldFinder {
+            finder: self.tree.finder(),
+        }
+    }
+}
+
+impl<'a> HeldFinder<'a> {
+    /// Whether the name is in the set. Takes no memory.
+    pub fn contains(&mut self, name: ElemName) -> bool
+        ensures found { result ≡ set.contains self.old name }
+        ensures same { self.new ≡ self.old }
+    {
+        self.finder.get(name).is_some()
+    }
+}
+
+impl Asked for HeldFinder<'_> {
     ghost names = { λ s. s };
 
-    fn has(&self, name: ElemName) -> bool {
+    fn has(&mut self, name: ElemName) -> bool {
         self.contains(name)
     }
 }

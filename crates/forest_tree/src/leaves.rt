@@ -20,5 +20,6 @@ pub(crate) fn leaf_list(
     ensures { IfOk result (λ v. IsListOf (leaves (shape_of mesh.now) members.now) v.items) }
 {
     let names = members.to_vec(alloc, mesh.element_count())?;
-    leaves_beside(alloc, mesh, members, &names)
+    let mut finder = members.finder();
+    leaves_beside(alloc, mesh, &mut finder, &names)
 }

@@ -48,9 +48,10 @@ pub(crate) fn refine(
     let needed = needed_names(alloc, &list, &marks)?;
     let mut grown = Grown::new(alloc, members);
     close(mesh, &mut grown, needed)?;
-    let leaf_marks = LeafMarks::of_leaves(alloc, &list, &marks, &grown)?;
+    let fresh = grown.into_fresh();
+    let leaf_marks = LeafMarks::of_leaves(alloc, &list, &marks, &fresh)?;
     Ok(Refinement {
-        fresh: grown.into_fresh(),
+        fresh,
         marks: leaf_marks,
     })
 }

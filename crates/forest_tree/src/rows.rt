@@ -26,7 +26,7 @@ pub(crate) fn try_all(
     ensures refused { IfErr result (IsRowsRefusal (shape_of mesh.now) members.now rows.now) }
 {
     let deepest = deepest(alloc, mesh, members, rows)?;
-    if let Err(refusal) = try_rows(mesh, members, deepest, rows) {
+    if let Err(refusal) = try_rows(mesh, &mut members.finder(), deepest, rows) {
         return Err(refusal);
     }
     Ok(())

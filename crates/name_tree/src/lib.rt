@@ -1,6 +1,7 @@
 //! A tree of names, with an index and a value for some of them.
 #![tactic(auto)]
 
+mod finder;
 mod gathering;
 mod growing;
 mod letters;
@@ -9,5 +10,6 @@ mod nodes;
 mod path;
 mod tree;
 
+pub use finder::Finder;
 pub use nodes::Entry;
 pub use tree::{Keyed, NameTree};

@@ -1,4 +1,4 @@
-use Rattle.std.proofs.Common.{◌≡◌, ◌∙◌, ◌&&◌, cond, not, sym, subst, ap, List}
+use Rattle.std.proofs.Common.{◌≡◌, Bool, ◌∙◌, ◌&&◌, cond, not, sym, subst, ap, List}
 use Rattle.std.specs.FinSet.{contains, empty, from_list, union}
 use Rattle.mesh_names.specs.Names.{Name, name_cmp}
 use Rattle.mesh_names.specs.Forests.{IsForest, Names}
@@ -14,11 +14,11 @@ use Rattle.forest_tree.specs.Apart.{IsApart}
 use Rattle.forest_tree.specs.Grown.{grown_of, start_of}
 use Rattle.forest_tree.specs.Refinement.{refined_by}
 use Rattle.forest_tree.specs.declared.grown.Grown.{Grown}
-use Rattle.forest_tree.proofs.Beside.{union-empty}
+use Rattle.forest_tree.proofs.Beside.{out-of-both, union-empty}
 use Rattle.forest_tree.proofs.refining.refine.Goals as goal
 
 begun : (g : Grown) (old : Names) → start_of g ≡ old → g.fresh ≡ empty → grown_of g ≡ old
-begun g old s e = union-empty g.members.now g.fresh e ∙ s
+begun g old s e = union-empty g.members g.fresh e ∙ s
 
 pub needed_names-requires : goal.needed_names-requires
 needed_names-requires c =
@@ -41,7 +41,7 @@ close-requires-clause-can c =
 pub returns-clause-apart : goal.returns-clause-apart
 returns-clause-apart c =
     let start = c.in_ok-close.ensures.start ∙ c.new-grown.ensures.start in
-    subst (λ (s : Names). IsApart s c.into_fresh.result) start c.into_fresh.ensures.apart
+    subst (λ (s : Names). IsApart s c.into_fresh-fresh.result) start c.into_fresh-fresh.ensures.apart
 
 pub returns-clause-ready : goal.returns-clause-ready
 returns-clause-ready c =
@@ -56,10 +56,12 @@ returns-clause-ready c =
     let mark = mark_in c.in_ok-marks.marks in
     let begin = begun c.new-grown.result old c.new-grown.ensures.start c.new-grown.ensures.fresh in
     let start = c.in_ok-close.ensures.start ∙ c.new-grown.ensures.start in
-    let whole = ap (λ (s : Names). union s c.close.new.members.fresh) start ∙ ap (union old) (sym c.into_fresh.ensures.fresh) in
-    let refined = refined_least shape old rows c.requires.forest checked.low c.requires.fine sides tells list marked mark c.in_ok-needed.needed.items (grown_of c.new-grown.result) (union old c.into_fresh.result)
+    let whole = ap (λ (s : Names). union s c.close.new.members.fresh) start ∙ ap (union old) (sym c.into_fresh-fresh.ensures.fresh) in
+    let refined = refined_least shape old rows c.requires.forest checked.low c.requires.fine sides tells list marked mark c.in_ok-needed.needed.items (grown_of c.new-grown.result) (union old c.into_fresh-fresh.result)
     c.in_ok-marks.ensures c.in_ok-needed.ensures begin (sym whole ∙ c.in_ok-close.ensures.least) in
-    ready shape sides tells old rows c.requires.forest list marked mark c.in_ok-marks.ensures (refined_by old (record { fresh = c.into_fresh.result; marks = c.in_ok-leaf_marks.leaf_marks })) refined
-    (subst (λ (s : Names). (n : Name) → allowance (leaf_mark c.in_ok-leaf_marks.leaf_marks n) ≡ cond (contains {R = name_cmp} (from_list list) n && not (contains s n)) (allowance (mark n)) 0) whole
-    (subst (λ (l : List Name). (n : Name) → allowance (leaf_mark c.in_ok-leaf_marks.leaf_marks n) ≡ cond (contains {R = name_cmp} (from_list l) n && not (contains (grown_of c.close.new.members) n)) (allowance (mark n)) 0) (c.deref-2.ensures.value ∙ sym c.deref.ensures.value) c.in_ok-leaf_marks.ensures.marks))
+    let told : (n : Name) → allowance (leaf_mark c.in_ok-leaf_marks.leaf_marks n) ≡ cond (contains {R = name_cmp} (from_list list) n && not (contains c.into_fresh-fresh.result n)) (allowance (mark n)) 0 =
+    subst (λ (l : List Name). (n : Name) → allowance (leaf_mark c.in_ok-leaf_marks.leaf_marks n) ≡ cond (contains {R = name_cmp} (from_list l) n && not (contains c.into_fresh-fresh.result n)) (allowance (mark n)) 0) (c.deref-2.ensures.value ∙ sym c.deref.ensures.value) c.in_ok-leaf_marks.ensures.marks in
+    ready shape sides tells old rows c.requires.forest list marked mark c.in_ok-marks.ensures (refined_by old (record { fresh = c.into_fresh-fresh.result; marks = c.in_ok-leaf_marks.leaf_marks })) refined
+    (λ n. told n
+    ∙ ap (λ (b : Bool). cond b (allowance (mark n)) 0) (out-of-both old c.into_fresh-fresh.result (from_list {R = name_cmp} list) n (λ m h. (marked.leaves m h).unsplit)))
     c.in_ok-leaf_marks.ensures.parents

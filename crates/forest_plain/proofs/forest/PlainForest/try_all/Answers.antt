@@ -1,4 +1,6 @@
-use Rattle.std.proofs.Common.{arith}
+use Rattle.std.proofs.Common.{arith, subst, sym}
+use Rattle.mesh_names.specs.Forests.{Names}
+use Rattle.forest_plain.specs.Rounds.{IsDeepestLeaf}
 use Rattle.compat_check.specs.Meshes.{shape_of}
 use Rattle.forest_plain.proofs.Refining.{leaves_rooted, some_leaf, deepest_leaf, leaf_level}
 use Rattle.forest_plain.proofs.forest.PlainForest.try_all.Goals as goal
@@ -10,7 +12,9 @@ pub greatest_level-deepest-requires-clause-some : goal.greatest_level-deepest-re
 greatest_level-deepest-requires-clause-some c = some_leaf (shape_of c.args.self.now.mesh.now) c.args.self.now.members c.args.list.now c.args.self.now.stands.forest c.requires.leaves c.element_count-checked.ensures.checked.some
 
 pub try_rows-requires-clause-deepest : goal.try_rows-requires-clause-deepest
-try_rows-requires-clause-deepest c i d h asks = deepest_leaf (shape_of c.args.self.now.mesh.now) c.args.self.now.members c.args.list.now c.args.self.now.stands.forest c.requires.leaves c.greatest_level-deepest.result c.greatest_level-deepest.ensures
+try_rows-requires-clause-deepest c i d h asks =
+    subst (λ (s : Names). IsDeepestLeaf (shape_of c.args.self.now.mesh.now) s c.greatest_level-deepest.result) (sym c.finder.ensures)
+    (deepest_leaf (shape_of c.args.self.now.mesh.now) c.args.self.now.members c.args.list.now c.args.self.now.stands.forest c.requires.leaves c.greatest_level-deepest.result c.greatest_level-deepest.ensures)
 
 pub try_rows-requires-clause-small : goal.try_rows-requires-clause-small
 try_rows-requires-clause-small c =
