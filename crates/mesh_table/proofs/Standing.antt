@@ -19,14 +19,14 @@ use Rattle.table_state.specs.Bisections.{IsPlaceOf}
 use Rattle.table_state.specs.Chains.{Covers, IsHead}
 use Rattle.table_state.specs.Ghosts.{Ghost, Placed, chained}
 use Rattle.table_state.specs.Rule.{Lawful, Rule}
-use Rattle.table_state.proofs.FoundAgain.{placed}
+use Rattle.table_state.proofs.FoundAgain.{placed, found_covers}
 use Rattle.table_steps.proofs.WorkerWalks.{first_word, next_named}
 use Rattle.table_steps.specs.Steps.{ByWorkHad, ByWorkPasses, ByWorkBoth, ByWorkDead, ByWorkOpen}
 use Rattle.mesh_table.specs.declared.rule.Site.{Site}
 use Rattle.mesh_table.specs.Sights.{Sight, seat_at, views_of, setup_at}
 use Rattle.mesh_table.specs.Holds.{Holds, Sat}
 use Rattle.mesh_table.specs.Told.{moved, passed}
-use Rattle.mesh_table.specs.SecondHalf.{WorksLate, MayOpen, having, passed_grown, arriving_late, with_children, with_mate, mate_told, opened, saw_died, dying}
+use Rattle.mesh_table.specs.SecondHalf.{WorksLate, MayOpen, having, passed_grown, arriving_late, with_children, with_mate, mate_told, opened, saw_died, dying, dying_told}
 use Rattle.mesh_table.proofs.Bridge.{St, after, stepped, seen, unmoved, allows, in_work, in_none, contents_at}
 use Rattle.mesh_table.proofs.Claiming.{link_head}
 use Rattle.mesh_table.proofs.Walking.{same_words}
@@ -85,6 +85,25 @@ mate_named s w n v (g, r) j b k kind late leads had =
     let u : Work = record (v.work j) { given = (b, k) ∷ (v.work j).given } in
     let t = ((gives s w n v g r j kind late b k leads had).works j).given b k (subst (λ (a : Work). HasEntry a.given (b, k)) (sym (update_same v.work j u)) (inl refl)) in
     let p = t.2 in (r.names.patch b p.0 p.1 p.2).1 ∙ ap s.mate t.1
+
+module _ (s : Setup) (w : Words) (n : ℕ) (v : Views) (g : Ghost) (r : Rule s w n v g) (j b k : ℕ) (kind : v.kind j ≡ Worker) (late : (v.work j).half ≡ SecondHalf) (had : HasEntry (v.work j).had (b, k)) where
+  half : v.ruling.phase ≡ SecondHalf
+  half = sym ((r.walks j).half kind) ∙ late
+
+  -- a name of the last finished round is of the target
+  had_aimed : HasEntry (v.work j).plan.target k
+  had_aimed = subst (λ (p : Plan). HasEntry p.target k) (sym (r.plan.same j kind)) ((r.plan.aim (let z = half in omega (arith, ap order z)) (let z = half in omega (arith, ap order z))).olds k (b, (r.walks j).had b k had))
+
+  -- and where it is not bisected any more, its block is retired
+  had_undead : w.died b ≡ 0 → HasEntry (v.work j).open_ k → ⊥
+  had_undead z gone =
+      let f = (r.names.fits w.round (inl (inl refl))).found k b ((r.walks j).had b k had) in
+      let c = found_covers w.history w.born w.died g.life w.round f.1 b f.5.0 (w.head f.1) f.5.1 in
+      let low = c.1 in
+      let now = (r.names.sound (w.round + 1) (inr (refl, let e = half in omega (arith, ap order e))) b f.0 f.1 f.3 (c.0, omega arith, inl z)).0 in
+      let here : g.who (w.round + 1) k ≡ b + 1 = subst (λ (i : ℕ). g.who (w.round + 1) i ≡ b + 1) f.2 now in
+      let none = ((r.works j).open_ k gone).1 in
+      omega arith
 
 module _ (k : Site) (id i : ℕ) (me : Sat) (late : WorksLate me.0) where
   works : (s : St k) → seat_at s.views id ≡ me.0 → WorksLate (seat_at s.views id)
@@ -154,23 +173,27 @@ module _ (k : Site) (id i : ℕ) (me : Sat) (late : WorksLate me.0) where
         mate s h same = let does = works s same in sym (here s) ∙ mate_named (setup_at k) (words_at k.layout s.words) (length s.views) (views_of (seat_at s.views)) h.lawful id b c does.0 does.1 leads (subst (λ (a : Sight). HasEntry a.work.had (b, c)) (sym same) had)
 
     -- DIED of such a block
-    pub looks_dying : (c : ℕ) → HasEntry me.0.work.had (b, c) → i ≡ address k.layout (OfBlock b Died) → (slots : ℕ) → Allows (Holds k) slots id me i (λ n. n) (moved (λ n v. dying b c n v) me)
-    looks_dying c had ei slots = allows k slots id i (λ n. n) me (moved (λ n v. dying b c n v) me) (λ s h l same _.
+    pub looks_dying : (c : ℕ) → HasEntry me.0.work.had (b, c) → i ≡ address k.layout (OfBlock b Died) → (slots : ℕ) → Allows (Holds k) slots id me i (λ n. n) (dying_told b c me)
+    looks_dying c had ei slots = allows k slots id i (λ n. n) me (dying_told b c me) (λ s h l same _.
         let f = seat_at s.views in
         let n = get_or s.words i 0 in
         let w = words_at k.layout s.words in
         let here : w.died b ≡ n = contents_at k.layout s.words k.layout.pool (λ a. OfBlock a Died) b room ∙ ap (λ (j : ℕ). get_or s.words j 0) (sym ei) in
         let does = works s same in
+        let law = h.lawful in
+        let mine : HasEntry (f id).work.had (b, c) = subst (λ (a : Sight). HasEntry a.work.had (b, c)) (sym same) had in
+        let aimed = subst (λ (a : Sight). HasEntry a.work.plan.target c) same (had_aimed (setup_at k) w (length s.views) (views_of f) law.0 law.1 id b c does.0 does.1 mine) in
+        let undead = subst (λ (a : Sight). n ≡ 0 → HasEntry a.work.open_ c → ⊥) same (λ z. had_undead (setup_at k) w (length s.views) (views_of f) law.0 law.1 id b c does.0 does.1 mine (here ∙ z)) in
         dite (ℕ_discrete n 0)
         (λ z. let u = saw_died b n (f id) in (
           u,
           seen k s h i n id u l refl (in_none f id u refl refl refl refl refl refl),
-          (refl, ap (saw_died b n) (same ∙ sym (ap (λ (y : Bool). cond y me.0 (opened c me.0)) (eq-eqb n 0 z)))),
+          (refl, ap (saw_died b n) (same ∙ sym (ap (λ (y : Bool). cond y me.0 (opened c me.0)) (eq-eqb n 0 z))), aimed, undead),
         ))
         (λ o. let u = saw_died b n (opened c (f id)) in (
           u,
-          stepped k s h i n id u w _ l (same_words k id i me s) (in_work f id u refl refl refl refl refl) (ByWorkDead (id, does.0, does.1, b, c, subst (λ (a : Sight). HasEntry a.work.had (b, c)) (sym same) had, omega arith, refl)),
-          (refl, ap (λ (a : Sight). saw_died b n (opened c a)) same ∙ sym (ap (λ (y : Bool). saw_died b n (cond y me.0 (opened c me.0))) (ne_eqb n 0 o))),
+          stepped k s h i n id u w _ l (same_words k id i me s) (in_work f id u refl refl refl refl refl) (ByWorkDead (id, does.0, does.1, b, c, mine, omega arith, refl)),
+          (refl, ap (λ (a : Sight). saw_died b n (opened c a)) same ∙ sym (ap (λ (y : Bool). saw_died b n (cond y me.0 (opened c me.0))) (ne_eqb n 0 o)), aimed, undead),
         )))
 
   -- the LINK word of a name that is not of the target

@@ -53,6 +53,10 @@ saw_died b n v = record v { saw = SawDied b n ∷ v.saw }
 abbrev pub dying : ℕ → ℕ → ℕ → Sight → Sight
 dying b k n v = saw_died b n (cond (n == 0) v (opened k v))
 
+-- and what it tells: the name is of the target, and was not known as not bisected where DIED is 0
+abbrev pub dying_told : ℕ → ℕ → Sat → ℕ → Sat → Type 0
+dying_told b k m n m' = (m'.1 ≡ m.1) × (m'.0 ≡ dying b k n m.0) × HasEntry m.0.work.plan.target k × (n ≡ 0 → HasEntry m.0.work.open_ k → ⊥)
+
 -- a name that is not of the target stands at the place, at the last finished round
 pub record MayOpen (v : Sight) (x k : ℕ) : Type 0 where
   pub works : WorksLate v

@@ -34,6 +34,10 @@ pub trait Forests {
     ghost forest: { List ℕ };
 }
 
+impl Forests for Brand {
+    ghost forest = { [] };
+}
+
 pub(crate) struct Advances<B: Forests> {
     of: PhantomData<B>,
 }

@@ -55,7 +55,7 @@ impl<'m> MeshTable<'m> {
         self.get::<Brand, (ElemName, u32)>(seat, self.site.layout.name(block, true), (first, block))
     }
 
-    /// Loads DIED of a block that the last finished round has for a name: above 0 the name is not bisected any more.
+    /// Loads DIED of a block that the last finished round has for a name, which is of the target then: above 0 the name is not bisected any more, and it is above 0 where that was known.
     pub fn look_dying(&self, seat: &mut MeshSeat, name: ElemName, block: u32) -> u64
         requires fit { IsOf self.now.table.shared.table_id seat.old }
         requires works { WorksLate (sight seat.old) }
@@ -63,6 +63,8 @@ impl<'m> MeshTable<'m> {
         requires had { HasEntry (sight seat.old).work.had (block, name_code name) }
         ensures stays { Stays seat.old seat.new }
         ensures view { sight seat.new ≡ dying block (name_code name) result (sight seat.old) }
+        ensures target { HasEntry (sight seat.old).work.plan.target (name_code name) }
+        ensures undead { result ≡ 0 → HasEntry (sight seat.old).work.open_ (name_code name) → ⊥ }
     {
         self.get::<Brand, (ElemName, u32)>(seat, self.site.layout.died(block), (name, block))
     }

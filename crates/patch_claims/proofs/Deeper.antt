@@ -21,8 +21,13 @@ module _ (u v w : Sight) (p : Later u v) where
   longer : (l : List Saw) (news : List Saw) → w.saw ≡ l ++ (news ++ v.saw) → w.saw ≡ l ++ ((news ++ p.0) ++ u.saw)
   longer l news e = e ∙ ap (λ (xs : List Saw). l ++ (news ++ xs)) p.1 ∙ ap (λ (xs : List Saw). l ++ xs) (sym (append_assoc news p.0 u.saw))
 
+  pub retired_after : (s : Setup) (k : ℕ) (done : Bool) → IsRetired s v w k done → IsRetired s u w k done
+  retired_after s k done h = (h.0, h.1, h.2, (h.3.0 ++ p.0, longer (SawRetire h.0 h.1 ∷ []) h.3.0 h.3.1), h.4, h.5, h.6, h.7)
+
+-- what an earlier call left as it was told is told of both calls
+module _ (u v w : Sight) (p : Later u v) (still : StillKnows u v) where
   pub undead_after : (k : ℕ) (e : RetireRefusal) → IsUndead v w k e → IsUndead u w k e
-  undead_after k (Deeper b) h = (h.0, (h.1.0 ++ p.0, longer (SawDied b 0 ∷ SawHad k ∷ []) h.1.0 h.1.1))
+  undead_after k (Deeper b) h = (h.0, (h.1.0 ++ p.0, longer u v w p (SawDied b 0 ∷ SawHad k ∷ []) h.1.0 h.1.1), subst (λ (a : Plan). HasEntry a.target k) still.plan h.2, (λ gone. h.3 (still.open_ k gone)))
 
   pub deeper_in_after : (s : Setup) (k : ℕ) (e : RetireRefusal) → IsDeeperIn s v w k e → IsDeeperIn s u w k e
   deeper_in_after s k e h = (h.0, h.1, undead_after (s.child k h.0) e h.2)
@@ -30,9 +35,6 @@ module _ (u v w : Sight) (p : Later u v) where
   pub deeper_after : (s : Setup) (k : ℕ) (e : RetireRefusal) → IsDeeper s v w k e → IsDeeper s u w k e
   deeper_after s k e (inl h) = inl (deeper_in_after s k e h)
   deeper_after s k e (inr h) = inr (h.0, h.1, h.2, deeper_in_after s (h.0 + 1) e h.3)
-
-  pub retired_after : (s : Setup) (k : ℕ) (done : Bool) → IsRetired s v w k done → IsRetired s u w k done
-  retired_after s k done h = (h.0, h.1, h.2, (h.3.0 ++ p.0, longer (SawRetire h.0 h.1 ∷ []) h.3.0 h.3.1), h.4, h.5, h.6, h.7)
 
 -- what is said of children stays
 pub children_old_on : (s : Setup) (u v : Sight) → StillKnows u v → (k : ℕ) → ChildrenOld s u k → ChildrenOld s v k

@@ -36,9 +36,11 @@ IsRetired s u v k done = (b n : ℕ) × HasEntry v.work.given (b, k) × ((news :
     × HasEntry v.work.open_ k × ((i : ℕ) → s.mate k ≡ i + 1 → HasEntry v.work.open_ (i + 1))
 
 -- the last steps of the call were a walk that ended at the block by which the last finished round bisects the
--- name k, and a load of its DIED, which found 0
+-- name k, and a load of its DIED, which found 0. The name is of the target, and before the call it was not known
+-- as not bisected.
 abbrev pub IsUndead : Sight → Sight → ℕ → RetireRefusal → Type 0
 IsUndead u v k (Deeper b) = HasEntry v.work.had (b, k) × ((news : List Saw) × (v.saw ≡ SawDied b 0 ∷ SawHad k ∷ (news ++ u.saw)))
+    × HasEntry u.work.plan.target k × (HasEntry u.work.open_ k → ⊥)
 
 -- such is a child of the name k, and the child before it is known as not bisected
 abbrev pub IsDeeperIn : Setup → Sight → Sight → ℕ → RetireRefusal → Type 0

@@ -40,6 +40,8 @@ fn look_word(table: &MeshTable, pass: &mut MeshSeat, name: ElemName, block: u32)
     ensures idle { NothingRetired (sight pass.old) (sight pass.new) }
     ensures saw { (sight pass.new).saw ≡ SawDied block result ∷ (sight pass.old).saw }
     ensures open_ { (result ≡ 0 → ⊥) → HasEntry (sight pass.new).work.open_ (name_code name) }
+    ensures target { HasEntry (sight pass.old).work.plan.target (name_code name) }
+    ensures undead { result ≡ 0 → HasEntry (sight pass.old).work.open_ (name_code name) → ⊥ }
 {
     table.look_dying(pass, name, block)
 }
@@ -230,7 +232,7 @@ fn retire_found<G: Gate>(
     old == 0
 }
 
-/// Retires a patch of the retire list: true where this call did it. Then it is retired, and its members are known as not bisected. Where a child of a member is still bisected, it retires nothing and names the block, which is that of a patch of the list. The blocks that it retires come to the end of the list, which takes no memory. It never waits.
+/// Retires a patch of the retire list: true where this call did it. Then it is retired, and its members are known as not bisected. Where a child of a member is still bisected, it retires nothing and names the block, which is that of a patch of the list; that never happens where each child of the target was known as not bisected. The blocks that it retires come to the end of the list, which takes no memory. It never waits.
 pub fn retire<G: Gate>(
     table: &MeshTable,
     pass: &mut MeshSeat,

@@ -14,3 +14,6 @@ returns-clause-saw c = rw (c.look_dying.ensures.view) (dying_saw c.args.block (n
 
 pub returns-clause-open_ : goal.returns-clause-open_
 returns-clause-open_ c = rw (c.look_dying.ensures.view) (dying_open c.args.block (name_code c.args.name) c.look_dying.result (sight c.args.pass.now))
+
+pub returns-clause-undead : goal.returns-clause-undead
+returns-clause-undead c = c.look_dying.ensures.undead

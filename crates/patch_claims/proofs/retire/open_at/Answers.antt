@@ -36,9 +36,13 @@ returns-then-word-eq0-clause-saw c = (SawDied c.in-Some.block c.look_word-word.r
 
 pub returns-then-word-eq0-clause-deeper : goal.returns-then-word-eq0-clause-deeper
 returns-then-word-eq0-clause-deeper c =
-    let b = c.in-Some.block in (
+    let b = c.in-Some.block in
+    let k = name_code c.args.name in
+    let keeps = c.visit_finished.ensures.keeps in (
       c.look_word-word.ensures.keeps.had _ c.in-Some.ensures.some.1.0,
       ([], c.look_word-word.ensures.saw ∙ (λ i. SawDied b (c.if-word-eq0.true i) ∷ c.in-Some.ensures.saw i)),
+      subst (λ (p : Plan). HasEntry p.target k) keeps.plan c.look_word-word.ensures.target,
+      (λ gone. c.look_word-word.ensures.undead c.if-word-eq0.true (keeps.open_ k gone)),
     )
 
 pub returns-else-word-eq0-clause-saw : goal.returns-else-word-eq0-clause-saw

@@ -26,7 +26,7 @@ pub returns-in-Err-open_child-clause-deeper : goal.returns-in-Err-open_child-cla
 returns-in-Err-open_child-clause-deeper c = (
   true,
   (λ e. c.open_child-2.ensures.keeps.open_ _ c.in-Ok.ensures.open_),
-  undead_after (sight c.args.pass.now) (sight c.open_child.new.pass) (sight c.open_child-2.new.pass) c.open_child.ensures.saw ((setup_at c.args.table.now.site).child (name_code c.args.name) true) c.in-Err-open_child.refusal c.in-Err-open_child.ensures.deeper,
+  undead_after (sight c.args.pass.now) (sight c.open_child.new.pass) (sight c.open_child-2.new.pass) c.open_child.ensures.saw c.open_child.ensures.keeps ((setup_at c.args.table.now.site).child (name_code c.args.name) true) c.in-Err-open_child.refusal c.in-Err-open_child.ensures.deeper,
 )
 
 pub returns-in-Ok-open_child-clause-saw : goal.returns-in-Ok-open_child-clause-saw

@@ -51,7 +51,7 @@ returns-in-Err-open_children-clause-deeper c =
       name_code c.in-Some.other - 1,
       c.requires.mate ∙ ap name_word c.in-Some.is ∙ i,
       (λ b. c.open_children-2.ensures.keeps.open_ _ (mate.open_ _ (c.in-Ok.ensures.open_ b))),
-      subst (λ (k : ℕ). IsDeeperIn s u x k e) i (deeper_in_after u w x l s (name_code c.in-Some.other) e c.in-Err-open_children.ensures.deeper),
+      subst (λ (k : ℕ). IsDeeperIn s u x k e) i (deeper_in_after u w x l (still_more c.open_children.ensures.keeps mate) s (name_code c.in-Some.other) e c.in-Err-open_children.ensures.deeper),
     )
 
 pub returns-in-Ok-open_children-clause-first : goal.returns-in-Ok-open_children-clause-first

@@ -53,7 +53,7 @@ pub returns-in-Err-clause-deeper : goal.returns-in-Err-clause-deeper
 returns-in-Err-clause-deeper g c =
     let k = name_code c.args.patch.first in
     let l = later_one (sight c.args.pass.now) (sight c.stand_finished.new.pass) (sight c.visit_finished.new.pass) (SawHad k) c.stand_finished.ensures.saw c.in-Some-visit_finished.ensures.saw in (
-      deeper_after (sight c.args.pass.now) (sight c.visit_finished.new.pass) (sight c.open_patch.new.pass) l (setup_at c.args.table.now.site) k c.in-Err.refusal c.in-Err.ensures.deeper,
+      deeper_after (sight c.args.pass.now) (sight c.visit_finished.new.pass) (sight c.open_patch.new.pass) l (still_more c.stand_finished.ensures.keeps c.visit_finished.ensures.keeps) (setup_at c.args.table.now.site) k c.in-Err.refusal c.in-Err.ensures.deeper,
       (c.open_patch.ensures.idle.0 ∙ c.visit_finished.ensures.idle.0 ∙ c.stand_finished.ensures.idle.0, c.open_patch.ensures.idle.1 ∙ c.visit_finished.ensures.idle.1 ∙ c.stand_finished.ensures.idle.1),
     )
 

@@ -19,3 +19,6 @@ get-requires-clause-allowed c =
     let l = c.args.self.now.site.layout in
     let word = c.died.ensures in
     looks_dying c.args.self.now.site _ _ c.args.seat.now.me c.requires.works c.args.block c.requires.block (name_code c.args.name) c.requires.had word
+
+pub returns-clause-undead : goal.returns-clause-undead
+returns-clause-undead c = c.get.ensures.told.3
