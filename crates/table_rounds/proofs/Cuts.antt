@@ -1,5 +1,5 @@
 -- Words are led past retired blocks, one after the other.
-use Rattle.std.proofs.Common.{◌≡◌, ◌≢◌, ℕ, ◌+◌, ◌<◌, ◌≤◌, Bool, true, false, List, ◌⊎◌, inl, inr, ⊎_elim, refl, sym, ap, ◌∙◌, subst, arith}
+use Rattle.std.proofs.Common.{◌≡◌, ◌≢◌, ℕ, ◌+◌, ◌<◌, ◌≤◌, Bool, true, false, List, length, ◌⊎◌, inl, inr, ⊎_elim, refl, sym, ap, ◌∙◌, subst, arith}
 use mathlib.Core.Logic.{dite}
 use native.Mathlib.Decide.{ℕ_discrete}
 use Rattle.table_words.specs.declared.layout.Layout.{Layout}
@@ -15,7 +15,7 @@ use Rattle.mesh_table.specs.Sights.{Sight}
 use Rattle.mesh_table.specs.Rounds.{DrainedTo, MayCutLink, MayCutHistory}
 use Rattle.mesh_table.specs.Told.{noted_head, noted_history}
 use Rattle.table_rounds.specs.declared.patch.Patch.{Patch}
-use Rattle.table_rounds.specs.Patches.{StandsAt, nth}
+use Rattle.table_rounds.specs.Patches.{StandsAt, nth, spot}
 use Rattle.table_rounds.specs.Versions.{IsRooted, NotesMore, LeadsTo, NamesLiving, TwoPlaces}
 use Rattle.table_rounds.specs.Sweeps.{ArePlaced, MaySweep, LedHead, LedOlder, HeadClear, OldClear, PlaceClear, StillClear}
 

@@ -1,11 +1,11 @@
 -- Blocks that were given up are cleared, one after the other, and may then be freed.
-use Rattle.std.proofs.Common.{◌≡◌, ℕ, ◌+◌, ◌<◌, ◌≤◌, Bool, true, false, List, length, ◌⊎◌, inl, inr, ⊎_elim, refl, sym, ap, ◌∙◌, subst, arith}
+use Rattle.std.proofs.Common.{◌≡◌, ℕ, zero, suc, ◌+◌, ◌<◌, ◌≤◌, Bool, true, false, List, [], ◌∷◌, length, ◌⊎◌, inl, inr, ⊎_elim, refl, sym, ap, ◌∙◌, subst, arith}
 use mathlib.Core.Logic.{dite}
 use native.Mathlib.Decide.{ℕ_discrete}
 use Rattle.table_words.specs.declared.layout.Layout.{Layout}
 use Rattle.table_words.specs.Entries.{HasEntry, Noted}
 use Rattle.table_words.specs.Places.{place_number}
-use Rattle.table_words.specs.Words.{node}
+use Rattle.table_words.specs.Words.{Node, node}
 use Rattle.table_state.specs.Ghosts.{Placed, stands}
 use Rattle.mesh_table.specs.Sights.{Sight}
 use Rattle.mesh_table.specs.Rounds.{DrainedTo, MayFree, CanGo, CleanPlaceIn, listed, freed}
@@ -14,7 +14,7 @@ use Rattle.mesh_table.proofs.Cutting.{listed_has, has_listed}
 use Rattle.table_rounds.specs.declared.patch.Patch.{Patch}
 use Rattle.table_rounds.specs.Patches.{nth, spot}
 use Rattle.table_rounds.specs.Sweeps.{AreBack, AreFreed, AreGivenUp, AreKept, AreOld, IsOld, MaySweep, PlaceClear, StillClear, BlockClear, WordsClear, ClearTo, WordsTo, FreeReady}
-use Rattle.table_rounds.proofs.Cuts.{place_on, still_none, still_on}
+use Rattle.table_rounds.proofs.Cuts.{place_on, still_none, still_on, rooted_on}
 
 pub block_done : (l : Layout) (u v : Sight) (p : Patch) (n : ℕ) → IsOld l u p → StillClear u v → Noted v.owned.died p.block n → 0 < n → n ≤ u.ruling.finished → PlaceClear v (place_number l p.first) → ((y : ℕ) → mate_number l p.second ≡ y + 1 → PlaceClear v y) → BlockClear v p.block
 block_done l u v p n old still died some_ late first second = (

@@ -4,7 +4,7 @@ use mathlib.Core.Logic.{dite}
 use native.Mathlib.Decide.{ℕ_discrete, dec_lt}
 use Rattle.table_words.specs.Entries.{HasEntry, Noted}
 use Rattle.mesh_table.specs.Sights.{Sight}
-use Rattle.mesh_table.specs.Rounds.{MayOpen, taken}
+use Rattle.mesh_table.specs.Rounds.{MayOpen, IsLaidIn, taken}
 use Rattle.table_rounds.specs.Rows.{laid, InLaid, IsShut, RowsLaid, IsHand, StockTo}
 
 -- what was noted last is one

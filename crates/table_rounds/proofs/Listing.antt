@@ -1,5 +1,5 @@
 -- The owner's lists after a round is finished.
-use Rattle.std.proofs.Common.{◌≡◌, ℕ, zero, suc, ◌+◌, ◌<◌, ◌≤◌, List, [], ◌∷◌, ◌++◌, ◌⊎◌, inl, inr, ⊎_elim, length, set, slice_index, take, vec_capacity, refl, sym, ap, ◌∙◌, subst, arith}
+use Rattle.std.proofs.Common.{◌≡◌, ℕ, zero, suc, ◌+◌, ◌<◌, ◌≤◌, Bool, List, [], ◌∷◌, ◌++◌, ◌⊎◌, inl, inr, ⊎_elim, length, set, slice_index, take, vec_capacity, refl, sym, ap, ◌∙◌, subst, arith}
 use Rattle.std.proofs.lemmas.List.{get_or-set_same, get_or-set_other, length-append}
 use mathlib.Core.Logic.{dite}
 use native.Mathlib.Decide.{ℕ_discrete}
@@ -7,10 +7,11 @@ use Rattle.table_words.specs.declared.layout.Layout.{Layout}
 use Rattle.table_words.specs.Entries.{HasEntry}
 use Rattle.table_words.specs.Views.{Ruling}
 use Rattle.table_words.proofs.Entries.{entry_of_both, entry_left, entry_right}
+use Rattle.table_state.specs.Ghosts.{Placed, stands}
 use Rattle.mesh_table.specs.Sights.{Sight}
 use Rattle.table_rounds.specs.declared.patch.Patch.{Patch}
 use Rattle.table_rounds.specs.declared.stock.Stock.{Stock}
-use Rattle.table_rounds.specs.Drained.{AreLeft}
+use Rattle.table_rounds.specs.Drained.{AllDrained, AreLeft}
 use Rattle.table_rounds.specs.Kinds.{BlocksTold}
 use Rattle.table_rounds.specs.Patches.{AllFit, Finished, IsPatch, WereRetired, nth, no_patch, spot}
 use Rattle.table_rounds.specs.Rows.{IsHand}

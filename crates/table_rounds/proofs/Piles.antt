@@ -1,5 +1,5 @@
 -- Lists of the blocks that the owner has.
-use Rattle.std.proofs.Common.{◌≡◌, ℕ, zero, suc, ◌+◌, ◌-◌, ◌<◌, ◌≤◌, true, false, List, [], ◌∷◌, ◌++◌, drop, take, length, slice_index, inl, inr, ⊎_elim, refl, sym, ap, ◌∙◌, subst, arith}
+use Rattle.std.proofs.Common.{◌≡◌, ℕ, zero, suc, ◌+◌, ◌-◌, ◌<◌, ◌≤◌, Bool, true, false, List, [], ◌∷◌, ◌++◌, drop, take, length, slice_index, ◌⊎◌, inl, inr, ⊎_elim, refl, sym, ap, ◌∙◌, subst, arith}
 use Rattle.std.proofs.lemmas.List.{length-append}
 use native.Mathlib.Decide.{dec_lt}
 use Rattle.table_words.specs.declared.layout.Layout.{Layout}
@@ -8,7 +8,7 @@ use Rattle.table_words.proofs.Entries.{entry_of_both, entry_left, entry_right}
 use Rattle.table_state.specs.OwnerLaws.{Once}
 use Rattle.table_state.proofs.Counts.{once_append, once_within}
 use Rattle.mesh_table.specs.Sights.{Sight}
-use Rattle.mesh_table.specs.Rounds.{listed}
+use Rattle.mesh_table.specs.Rounds.{listed, others, freed}
 use Rattle.mesh_table.proofs.Cutting.{has_listed, listed_has, others_back, others_on}
 use Rattle.table_rounds.specs.declared.patch.Patch.{Patch}
 use Rattle.table_rounds.specs.Patches.{nth, spot}

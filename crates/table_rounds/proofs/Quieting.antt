@@ -1,5 +1,6 @@
 -- What two loads show of pins of the last finished round.
-use Rattle.std.proofs.Common.{◌≡◌, ◌≢◌, ℕ, ◌+◌, ◌%◌, Bool, true, false, cond, List, refl, sym, ap, ◌∙◌, subst, arith, inl, eq-eqb, ne_eqb}
+use Rattle.std.proofs.Common.{◌≡◌, ◌≢◌, ℕ, ◌+◌, ◌%◌, Bool, true, false, cond, eqb, List, ◌++◌, refl, sym, ap, ◌∙◌, subst, arith, inl, eq-eqb, ne_eqb}
+use Rattle.table_words.specs.Entries.{HasEntry}
 use Rattle.mesh_table.specs.Sights.{Sight}
 use Rattle.mesh_table.specs.Rounds.{MayFree, freed, seen_released, quieting}
 use Rattle.table_rounds.specs.Freed.{MayTry, Tried}

@@ -1,9 +1,9 @@
 -- The owner's lists after a round was rolled back.
-use Rattle.std.proofs.Common.{◌≡◌, ℕ, zero, suc, ◌+◌, ◌-◌, ◌<◌, ◌≤◌, List, [], ◌∷◌, ◌++◌, inl, inr, ⊎_elim, length, take, drop, slice_index, vec_capacity, Option, None, Some, IfSome, refl, sym, ap, ◌∙◌, subst, arith}
+use Rattle.std.proofs.Common.{◌≡◌, ℕ, zero, suc, ◌+◌, ◌-◌, ◌<◌, ◌≤◌, Bool, List, [], ◌∷◌, ◌++◌, ◌⊎◌, inl, inr, ⊎_elim, length, take, drop, slice_index, vec_capacity, Option, None, Some, IfSome, refl, sym, ap, ◌∙◌, subst, arith}
 use Rattle.std.proofs.lemmas.List.{length-append}
 use Rattle.table_words.specs.declared.layout.Layout.{Layout}
 use Rattle.table_words.specs.declared.layout.ElemAt.{ElemAt}
-use Rattle.table_words.specs.Claims.{Living, claim}
+use Rattle.table_words.specs.Claims.{Progress, Living, claim}
 use Rattle.table_words.specs.Entries.{HasEntry}
 use Rattle.table_words.specs.Layout.{IsElemAt}
 use Rattle.table_words.specs.Places.{place_number}
@@ -19,7 +19,7 @@ use Rattle.table_rounds.specs.Patches.{IsPatch, nth, spot}
 use Rattle.table_rounds.specs.Refusals.{AreHeld, HeldFit, RolledBackAll, held_at, place_of, progress_of}
 use Rattle.table_rounds.specs.Rows.{IsHand}
 use Rattle.table_rounds.specs.Stocks.{EachOnce, IsStock, PlacesNoted, blocks_of, patches_of, with_block}
-use Rattle.table_rounds.specs.Sweeps.{AreBack, AreOld, ArePlaced}
+use Rattle.table_rounds.specs.Sweeps.{AreBack, AreOld, ArePlaced, IsOld}
 use Rattle.table_rounds.specs.Versions.{IsRooted}
 use Rattle.table_rounds.proofs.Listing.{nth_both, nth_left, nth_right}
 use Rattle.table_rounds.proofs.Piles.{block_at, block_find, blocks_length, fit_pool, once_index}

@@ -1,5 +1,5 @@
 -- The blocks of the hand and the rows that were not drawn fit into the pool.
-use Rattle.std.proofs.Common.{◌≡◌, ◌≢◌, ℕ, ◌+◌, ◌-◌, ◌<◌, ◌≤◌, ◌++◌, ⊎_elim, length, get_or, refl, sym, ap, ◌∙◌, subst, arith}
+use Rattle.std.proofs.Common.{◌≡◌, ◌≢◌, ℕ, ◌+◌, ◌-◌, ◌<◌, ◌≤◌, List, ◌++◌, inr, ⊎_elim, length, get_or, refl, sym, ap, ◌∙◌, subst, arith}
 use Rattle.std.proofs.lemmas.List.{length-append}
 use native.Mathlib.Decide.{dec_lt}
 use Rattle.atomic_table.specs.Table.{Allows}
@@ -16,7 +16,7 @@ use Rattle.mesh_table.specs.Holds.{Holds, Sat}
 use Rattle.mesh_table.specs.Rounds.{counted_cursor}
 use Rattle.mesh_table.proofs.Owning.{owner_acts, by_step, kept_words, in_ruling}
 use Rattle.table_words.specs.Entries.{EntryAt}
-use Rattle.table_rounds.specs.Rows.{RowsFit, drawn_told}
+use Rattle.table_rounds.specs.Rows.{IsHand, RowsFit, drawn_told}
 use Rattle.table_rounds.specs.Stocks.{RoomTold, room_told}
 use Rattle.table_rounds.proofs.Piles.{few, index_find, once_list}
 

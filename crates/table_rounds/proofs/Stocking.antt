@@ -1,10 +1,11 @@
 -- The owner's lists as blocks become free.
-use Rattle.std.proofs.Common.{◌≡◌, ℕ, zero, suc, ◌+◌, ◌<◌, ◌≤◌, List, [], ◌∷◌, ◌++◌, take, length, vec_capacity, inl, inr, ⊎_elim, slice_index, refl, sym, ap, ◌∙◌, subst, arith}
+use Rattle.std.proofs.Common.{◌≡◌, ℕ, zero, suc, ◌+◌, ◌<◌, ◌≤◌, Bool, true, List, [], ◌∷◌, ◌++◌, drop, take, length, vec_capacity, ◌⊎◌, inl, inr, ⊎_elim, slice_index, refl, sym, ap, ◌∙◌, subst, arith}
 use Rattle.std.proofs.lemmas.List.{length-append}
 use Rattle.table_words.specs.declared.layout.Layout.{Layout}
 use Rattle.table_words.specs.Entries.{HasEntry}
 use Rattle.table_words.specs.Views.{Owner, Read, Resting}
 use Rattle.mesh_table.specs.Sights.{Sight}
+use Rattle.mesh_table.specs.Rounds.{DrainedTo}
 use Rattle.table_rounds.specs.declared.patch.Patch.{Patch}
 use Rattle.table_rounds.specs.declared.stock.Stock.{Stock}
 use Rattle.table_rounds.specs.Patches.{nth, spot}
@@ -12,7 +13,7 @@ use Rattle.table_rounds.specs.Drained.{AllDrained, AreLeft, MoreDrained}
 use Rattle.table_rounds.specs.Kinds.{BlocksTold}
 use Rattle.table_rounds.specs.Rows.{IsHand}
 use Rattle.table_rounds.specs.Sweeps.{AreBack, AreFreed, AreOld, ArePlaced, MaySweep}
-use Rattle.table_rounds.specs.Stocks.{AreDrained, EachOnce, IsStock, KeepsStock, blocks_of}
+use Rattle.table_rounds.specs.Stocks.{AreDrained, EachOnce, IsRoomy, IsStock, KeepsStock, blocks_of}
 use Rattle.table_rounds.proofs.Piles.{are_kept, are_given_up, blocks_length, hand_after, old_after, back_after, back_stays, placed_after, low_kept, low_both, once_kept, once_both}
 
 -- the blocks of one patch more

@@ -1,10 +1,10 @@
 -- Claims of a refused round are rolled back.
-use Rattle.std.proofs.Common.{◌≡◌, ℕ, ◌+◌, ◌<◌, ◌==◌, Bool, true, false, cond, List, [], ◌∷◌, inl, inr, ⊎_elim, length, refl, sym, ap, ◌∙◌, subst, arith, eq-eqb, ne_eqb, Option, None, Some}
+use Rattle.std.proofs.Common.{◌≡◌, ◌≢◌, ℕ, ◌+◌, ◌<◌, ◌==◌, Bool, true, false, cond, eqb, List, [], ◌∷◌, ◌⊎◌, inl, inr, ⊎_elim, length, refl, sym, ap, ◌∙◌, subst, arith, eq-eqb, ne_eqb, Option, None, Some}
 use mathlib.Core.Logic.{dite}
 use native.Mathlib.Decide.{ℕ_discrete}
 use Rattle.table_words.specs.declared.layout.Layout.{Layout}
 use Rattle.table_words.specs.Claims.{Progress, Claim, Half, Whole, Living, claim, moved_on, ended}
-use Rattle.table_words.specs.Entries.{HasEntry}
+use Rattle.table_words.specs.Entries.{HasEntry, Noted}
 use Rattle.table_words.specs.Places.{place_number, member_of}
 use Rattle.table_words.specs.Words.{Node}
 use Rattle.table_state.proofs.HeldClaims.{moved_on_here, ended_has, ended_keeps}

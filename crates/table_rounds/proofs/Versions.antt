@@ -1,5 +1,5 @@
 -- What the owner's loads before a round tell of the versions that stand at a place.
-use Rattle.std.proofs.Common.{◌≡◌, ℕ, ◌+◌, ◌*◌, ◌<◌, ◌≤◌, Bool, true, false, ◌⊎◌, inl, inr, ⊎_elim, length, get_or, refl, sym, ap, ◌∙◌, subst, arith}
+use Rattle.std.proofs.Common.{◌≡◌, ℕ, ◌+◌, ◌*◌, ◌<◌, ◌≤◌, Bool, true, false, ◌⊎◌, ◌∷◌, inl, inr, ⊎_elim, length, get_or, refl, sym, ap, ◌∙◌, subst, arith}
 use mathlib.Core.Logic.{dite}
 use native.Mathlib.Decide.{ℕ_discrete, dec_lt}
 use Rattle.atomic_table.specs.Table.{Allows}
@@ -9,14 +9,14 @@ use Rattle.table_words.specs.Functions.{update}
 use Rattle.table_words.specs.Layout.{OfBlock, Died, HistoryOf, LinkOf, address}
 use Rattle.table_words.specs.Places.{member_of, place_at, place_count, child_place}
 use Rattle.table_words.specs.Setup.{Setup}
-use Rattle.table_words.specs.Views.{Owner, Resting, Views}
+use Rattle.table_words.specs.Views.{Owner, Resting, Views, Owned}
 use Rattle.table_words.specs.Words.{Node, Words, node, node_of, words_at, history_word}
 use Rattle.table_words.proofs.Functions.{update_is, update_same, update_other}
 use Rattle.table_words.proofs.PlaceNumbers.{numbers_tell}
 use Rattle.table_state.specs.Ghosts.{Held, Life, Placed, RolledBack, Ghost, chained, stands}
 use Rattle.table_state.specs.Chains.{IsPlace}
 use Rattle.table_state.specs.Rule.{Rule}
-use Rattle.table_state.proofs.FoundAgain.{placed, chained_stands}
+use Rattle.table_state.proofs.FoundAgain.{placed, chained_stands, placed_chained}
 use Rattle.table_state.proofs.HeldClaims.{not_open}
 use Rattle.table_state.proofs.Inside.{below_pool, not_free}
 use Rattle.table_state.proofs.OwnerLaws.{noted_kinds, noted_stands}
@@ -31,7 +31,8 @@ use Rattle.mesh_table.specs.Told.{noted_head, noted_history, noted_died}
 use Rattle.mesh_table.proofs.Bridge.{in_owned, contents_at}
 use Rattle.mesh_table.proofs.Claiming.{link_head}
 use Rattle.mesh_table.proofs.Owning.{owner_acts, by_step, kept_words}
-use Rattle.table_rounds.specs.Versions.{IsRooted, NotesMore, NamesLiving, TwoPlaces, version_told, older_told, last_told}
+use Rattle.table_rounds.specs.Patches.{StandsAt}
+use Rattle.table_rounds.specs.Versions.{IsRooted, NotesMore, LeadsTo, NamesLiving, TwoPlaces, Falls, version_told, older_told, last_told}
 
 -- a second change at a place leaves nothing of the first
 twice : {A : Type 0} (f : ℕ → A) (i : ℕ) (a b : A) → update (update f i a) i b ≡ update f i b

@@ -1,5 +1,5 @@
 -- Blocks with their places, and the sweep of claims.
-use Rattle.std.specs.Prelude.{◌≡◌, ℕ, ◌+◌, ◌<◌, Bool, List, [], ◌∷◌, ◌++◌, length, slice_index_or, None, IfSome, ◌⊎◌, false}
+use Rattle.std.specs.Prelude.{◌≡◌, ℕ, ◌+◌, ◌<◌, Bool, List, [], ◌∷◌, ◌++◌, length, slice_index_or, Option, None, Some, IfSome, ◌⊎◌, false}
 use Rattle.table_words.specs.declared.layout.Layout.{Layout}
 use Rattle.table_words.specs.declared.layout.ElemAt.TheVariants.{Macro}
 use Rattle.table_words.specs.Claims.{Progress, Living, claim}

@@ -1,5 +1,5 @@
 -- Claims of a refused round, and how they are rolled back.
-use Rattle.std.specs.Prelude.{◌≡◌, ℕ, ◌+◌, ◌<◌, List, [], ◌∷◌, length, slice_index_or, Option, None, Some, IfSome, ◌⊎◌, false}
+use Rattle.std.specs.Prelude.{◌≡◌, ℕ, ◌+◌, ◌<◌, Bool, List, [], ◌∷◌, length, slice_index_or, Option, None, Some, IfSome, ◌⊎◌, false}
 use Rattle.table_words.specs.declared.layout.Layout.{Layout}
 use Rattle.table_words.specs.declared.layout.ElemAt.TheVariants.{Macro}
 use Rattle.table_words.specs.Claims.{Progress, Failed, Living, claim, ended}
@@ -7,6 +7,7 @@ use Rattle.table_words.specs.Entries.{HasEntry, Noted}
 use Rattle.table_words.specs.Layout.{IsElemAt}
 use Rattle.table_words.specs.Places.{place_number}
 use Rattle.table_words.specs.Views.{Owner, RollingBack, Resting}
+use Rattle.table_state.specs.Fresh.{idle}
 use Rattle.mesh_table.specs.Sights.{Sight}
 use Rattle.mesh_table.specs.Told.{mate_number}
 use Rattle.table_rounds.specs.declared.patch.Held.{Held}

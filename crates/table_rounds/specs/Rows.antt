@@ -1,5 +1,5 @@
 -- Free rows that are laid anew: those below the last CURSOR, and further ones from the last FREE on.
-use Rattle.std.specs.Prelude.{◌≡◌, ℕ, ◌+◌, ◌<◌, ◌≤◌, List, length, slice_index, ◌⊎◌}
+use Rattle.std.specs.Prelude.{◌≡◌, ℕ, ◌+◌, ◌-◌, ◌<◌, ◌≤◌, List, [], ◌∷◌, length, slice_index, ◌⊎◌}
 use Rattle.table_words.specs.Entries.{HasEntry, EntryAt, Noted}
 use Rattle.table_words.specs.Setup.{Setup}
 use Rattle.table_state.specs.Lists.{IsTarget}

@@ -1,9 +1,9 @@
-use Rattle.std.proofs.Common.{◌≡◌, ◌+◌, ◌<◌, ◌/◌, ◌%◌, ◌⊎◌, inl, inr, refl, sym, subst, arith}
+use Rattle.std.proofs.Common.{◌≡◌, ℕ, ◌+◌, ◌<◌, ◌/◌, ◌%◌, ◌⊎◌, inl, inr, refl, sym, ap, ◌∙◌, subst, arith}
 use Rattle.table_words.specs.Places.{place_number}
 use Rattle.table_words.specs.Words.{node, node_of}
 use Rattle.mesh_table.specs.Sights.{Sight}
 use Rattle.mesh_table.specs.Passes.{IsStampedIn}
-use Rattle.mesh_table.specs.Told.{sight}
+use Rattle.mesh_table.specs.Told.{noted_head, sight}
 use Rattle.table_rounds.specs.Patches.{StampsStay}
 use Rattle.table_rounds.proofs.Stamps.{load_stays, stamp_stays}
 use Rattle.table_rounds.proofs.closing.stamp_at.Goals.{else-word-from-via-then-word-from+else-word-eq0, else-word-from-via-else-word-from}

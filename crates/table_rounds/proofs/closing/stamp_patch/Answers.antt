@@ -1,8 +1,9 @@
-use Rattle.std.proofs.Common.{true, false, refl, sym, ap, subst}
+use Rattle.std.proofs.Common.{◌≡◌, ℕ, ◌+◌, Bool, true, false, Some, refl, sym, ap, ◌∙◌, subst}
+use Rattle.table_words.specs.Entries.{HasEntry}
 use Rattle.table_words.specs.Places.{place_number}
 use Rattle.mesh_table.specs.Sights.{Sight}
-use Rattle.mesh_table.specs.Told.{mate_number}
-use Rattle.table_rounds.specs.Patches.{StandsAt}
+use Rattle.mesh_table.specs.Told.{mate_number, sight}
+use Rattle.table_rounds.specs.Patches.{spot, StandsAt}
 use Rattle.table_rounds.proofs.closing.stamp_patch.Goals as goal
 
 pub stamp_at-requires-clause-stands : goal.stamp_at-requires-clause-stands

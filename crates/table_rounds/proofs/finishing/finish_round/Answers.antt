@@ -1,4 +1,4 @@
-use Rattle.std.proofs.Common.{◌%◌, refl, sym, subst, arith}
+use Rattle.std.proofs.Common.{◌≡◌, ℕ, ◌+◌, ◌%◌, ◌<◌, ◌≤◌, List, length, refl, sym, ap, ◌∙◌, subst, arith}
 use Rattle.mesh_table.specs.Sights.{Sight}
 use Rattle.mesh_table.specs.Told.{sight}
 use Rattle.table_rounds.specs.Kinds.{BlocksTold}

@@ -1,5 +1,6 @@
+use Rattle.std.proofs.Common.{◌≡◌, ◌≢◌, ℕ, ◌%◌, arith}
 use Rattle.mesh_table.specs.Told.{sight}
-use Rattle.table_rounds.proofs.Quieting.{may_go}
+use Rattle.table_rounds.proofs.Quieting.{may_go, gone, kept}
 use Rattle.table_rounds.proofs.freeing.free_rolled_back.Goals as goal
 
 pub free-requires-clause-may : goal.free-requires-clause-may

@@ -1,4 +1,4 @@
-use Rattle.std.proofs.Common.{◌+◌, sym, ap, ◌∙◌, subst, true}
+use Rattle.std.proofs.Common.{◌≡◌, ◌+◌, refl, sym, ap, ◌∙◌, subst, true, false}
 use Rattle.table_words.specs.Places.{place_number, member_of}
 use Rattle.table_words.specs.Words.{node_of}
 use Rattle.mesh_table.specs.Sights.{Sight}

@@ -1,11 +1,11 @@
-use Rattle.std.proofs.Common.{sym, ap, ◌∙◌, subst}
-use Rattle.table_words.specs.Places.{place_number}
+use Rattle.std.proofs.Common.{◌≡◌, refl, sym, ap, ◌∙◌, subst, false}
+use Rattle.table_words.specs.Places.{place_number, member_of}
 use Rattle.table_words.specs.Words.{node_of}
 use Rattle.mesh_table.specs.Sights.{Sight}
 use Rattle.mesh_table.specs.Rounds.{MayUnlinkFirst, unborn, unlinked_first}
 use Rattle.mesh_table.specs.Told.{noted_died, sight}
 use Rattle.table_rounds.specs.Refusals.{RolledBackOne}
-use Rattle.table_rounds.proofs.Undoing.{may_single, rolled_back_single}
+use Rattle.table_rounds.proofs.Undoing.{single, may_single, rolled_back_single}
 use Rattle.table_rounds.proofs.refusing.undo_single.Goals as goal
 
 pub unlink_first-requires-clause-may : goal.unlink_first-requires-clause-may

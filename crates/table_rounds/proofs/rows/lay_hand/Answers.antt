@@ -1,7 +1,8 @@
-use Rattle.std.proofs.Common.{◌≡◌, ℕ, ◌+◌, ◌-◌, ◌<◌, ◌≤◌, ◌⊎◌, slice_index, refl, sym, ap, ◌∙◌, subst, arith}
+use Rattle.std.proofs.Common.{◌≡◌, ℕ, ◌+◌, ◌-◌, ◌<◌, ◌≤◌, ◌⊎◌, inl, inr, length, slice_index, refl, sym, ap, ◌∙◌, subst, arith}
+use Rattle.table_words.specs.Entries.{HasEntry}
 use Rattle.mesh_table.specs.Sights.{Sight}
 use Rattle.mesh_table.specs.Told.{sight}
-use Rattle.table_rounds.specs.Rows.{laid, IsHand}
+use Rattle.table_rounds.specs.Rows.{laid, IsHand, IsShut, RowsLaid}
 use Rattle.table_rounds.proofs.Laying.{lays_nothing, lays_next}
 use Rattle.table_rounds.proofs.rows.lay_hand.Goals as goal
 

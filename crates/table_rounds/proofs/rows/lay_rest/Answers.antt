@@ -1,6 +1,7 @@
-use Rattle.std.proofs.Common.{◌≡◌, ℕ, ◌+◌, ◌-◌, ◌<◌, ◌≤◌, length, refl, sym, subst, arith}
+use Rattle.std.proofs.Common.{◌≡◌, ℕ, ◌+◌, ◌-◌, ◌<◌, ◌≤◌, length, refl, sym, ap, ◌∙◌, subst, arith}
+use Rattle.mesh_table.specs.Sights.{Sight}
 use Rattle.mesh_table.specs.Told.{sight}
-use Rattle.table_rounds.specs.Rows.{RowsLaid}
+use Rattle.table_rounds.specs.Rows.{IsShut, RowsLaid}
 use Rattle.table_rounds.proofs.Laying.{opens_low, opens_high, still_shut}
 use Rattle.table_rounds.proofs.rows.lay_rest.Goals as goal
 

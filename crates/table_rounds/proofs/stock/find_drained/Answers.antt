@@ -1,4 +1,4 @@
-use Rattle.std.proofs.Common.{ℕ, List, ap, length, arith}
+use Rattle.std.proofs.Common.{◌≡◌, ◌≤◌, ℕ, List, ap, length, arith}
 use Rattle.mesh_table.specs.Told.{sight}
 use Rattle.table_rounds.proofs.Stocking.{stock_drained}
 use Rattle.table_rounds.proofs.stock.find_drained.Goals as goal

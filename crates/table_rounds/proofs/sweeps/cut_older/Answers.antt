@@ -1,5 +1,8 @@
+use Rattle.std.proofs.Common.{◌≡◌, ℕ, ◌+◌, ◌<◌, Bool, refl, sym, ap, ◌∙◌}
+use Rattle.table_words.specs.declared.layout.Layout.{Layout}
 use Rattle.table_words.specs.Places.{place_number}
-use Rattle.table_words.specs.Words.{node_of}
+use Rattle.table_words.specs.Words.{Node, node_of}
+use Rattle.mesh_table.specs.Sights.{Sight}
 use Rattle.mesh_table.specs.Told.{sight}
 use Rattle.table_rounds.proofs.Cuts.{names_retired, names_some, side_fits, may_cut_older, older_cut}
 use Rattle.table_rounds.proofs.sweeps.cut_older.Goals as goal

@@ -1,4 +1,4 @@
-use Rattle.std.proofs.Common.{◌∙◌}
+use Rattle.std.proofs.Common.{◌≡◌, ℕ, ◌<◌, refl, sym, ap, ◌∙◌, arith}
 use Rattle.table_words.specs.Places.{place_number}
 use Rattle.table_words.specs.Words.{node_of}
 use Rattle.mesh_table.specs.Told.{sight}

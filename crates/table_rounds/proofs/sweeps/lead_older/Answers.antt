@@ -1,4 +1,4 @@
-use Rattle.std.proofs.Common.{◌≡◌, ℕ, ◌+◌, sym, ◌∙◌, subst, arith}
+use Rattle.std.proofs.Common.{◌≡◌, ℕ, ◌+◌, ◌<◌, refl, sym, ap, ◌∙◌, subst, arith}
 use Rattle.table_words.specs.Entries.{HasEntry}
 use Rattle.table_words.specs.Places.{place_number}
 use Rattle.table_words.specs.Words.{node_of}

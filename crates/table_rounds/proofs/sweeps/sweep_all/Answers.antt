@@ -1,6 +1,7 @@
-use Rattle.std.proofs.Common.{refl, ◌∙◌}
+use Rattle.std.proofs.Common.{◌≡◌, ℕ, ◌+◌, ◌<◌, length, refl, sym, ap, ◌∙◌, subst, arith}
 use Rattle.mesh_table.specs.Told.{sight}
 use Rattle.table_rounds.specs.Patches.{nth}
+use Rattle.table_rounds.specs.Sweeps.{ClearTo}
 use Rattle.table_rounds.proofs.Cuts.{may_on}
 use Rattle.table_rounds.proofs.GivenUp.{clear_begins, clear_goes, old_on}
 use Rattle.table_rounds.proofs.sweeps.sweep_all.Goals as goal

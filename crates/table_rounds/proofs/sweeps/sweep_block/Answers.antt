@@ -1,6 +1,6 @@
-use Rattle.std.proofs.Common.{true, false, refl}
+use Rattle.std.proofs.Common.{◌≡◌, ℕ, ◌+◌, ◌<◌, Bool, true, false, length, refl, sym, ap, ◌∙◌, subst, arith}
 use Rattle.table_words.specs.Places.{place_number}
-use Rattle.mesh_table.specs.Told.{sight}
+use Rattle.mesh_table.specs.Told.{mate_number, sight}
 use Rattle.table_rounds.specs.Sweeps.{StillClear}
 use Rattle.table_rounds.proofs.Cuts.{may_on, rooted_on, place_on, still_more, still_on}
 use Rattle.table_rounds.proofs.GivenUp.{block_done}
