@@ -1,5 +1,5 @@
 -- The owner takes over what passes of the second half did.
-use Rattle.std.proofs.Common.{◌≡◌, ℕ, zero, suc, ◌+◌, ◌-◌, Bool, List, [], ◌∷◌, ◌++◌, map, reverse, refl, sym, ap, ◌∙◌, subst, inl, inr, arith, All}
+use Rattle.std.proofs.Common.{◌≡◌, ℕ, zero, suc, ◌+◌, ◌-◌, Bool, List, [], ◌∷◌, ◌++◌, false, map, reverse, refl, sym, ap, ◌∙◌, subst, inl, inr, arith, All}
 use Rattle.std.proofs.lemmas.List.{append_assoc, map-append}
 use Rattle.compat_check.specs.Meshes.{across_in, shape_of}
 use Rattle.mesh_names.specs.declared.patch.PatchName.{PatchName}
@@ -54,6 +54,7 @@ taken_one v w0 w number lone blocks made keeps retired = record {
   phase = refl;
   plan = refl;
   workers = omega arith;
+  ruling = (let e : v.ruling.workers + 1 - 1 ≡ v.ruling.workers = omega arith in λ i. record v.ruling { workers = e i; lone = false });
   open_ = λ k e. entry_left {A = ℕ} v.work.open_ w.work.open_ k e;
   retired = ap (λ (bs : List ℕ). v.work.retired ++ bs) retired;
 }

@@ -1,5 +1,5 @@
 -- Passes of the second half, with the patches that they are to retire.
-use Rattle.std.specs.Prelude.{◌≡◌, ℕ, Bool, ◌+◌, ◌<◌, ◌∷◌, ◌++◌, List, [], All, map, reverse, ◌⊎◌}
+use Rattle.std.specs.Prelude.{◌≡◌, ℕ, Bool, ◌+◌, ◌<◌, ◌≤◌, ◌∷◌, ◌++◌, List, [], All, length, map, reverse, ◌⊎◌}
 use Rattle.atomic_table.specs.Seated.{TableId}
 use Rattle.compat_check.specs.Meshes.{across_in, shape_of}
 use Rattle.mesh_names.specs.Partners.{Across}
@@ -53,6 +53,7 @@ pub record IsLateWorked (k : Site) (u v : Sight) (ps rest : List PatchName) (bs 
   pub gone : AreGoneBut (setup_at k) v ps rest
   pub left : All (IsRetirable (shape_of k.mesh.now) (across_in k.mesh.now) u.work.plan.retire) rest
   pub blocks : AreRetired v bs
+  pub few : length bs ≤ length ps
 
 -- the pass can begin with its patches
 pub record IsLateReady (id : TableId) (k : Site) (t : LateTask) : Type 0 where

@@ -78,6 +78,7 @@ impl OwnerSeat {
         ensures stays { Stays self.old.seat self.new.seat }
         ensures still { CanSplitLate (setup_at table.now.site) (sight self.new.seat) }
         ensures gone { AreGoneBut (setup_at table.now.site) (sight self.new.seat) patches.now left.new.items }
+        ensures few { length retired.new.items ≤ length patches.now }
         ensures taken { HasTaken (sight self.old.seat) (sight self.new.seat) retired.new.items }
         ensures left { All (IsRetirable (shape_of table.now.site.mesh.now) (across_in table.now.site.mesh.now) (sight self.old.seat).ruling.plan.retire) left.new.items }
     {

@@ -1,27 +1,25 @@
 -- The kinds of blocks that the owner has noted.
-use Rattle.std.proofs.Common.{◌≡◌, ℕ, ◌+◌, ◌*◌, ◌<◌, ◌≤◌, Bool, true, false, ◌++◌, ◌⊎◌, inl, inr, ⊎_elim, length, get_or, refl, sym, ap, ◌∙◌, subst, arith}
-use native.Mathlib.Decide.{dec_lt}
+use Rattle.std.proofs.Common.{◌≡◌, ℕ, ◌+◌, ◌*◌, ◌<◌, ◌≤◌, Bool, true, false, ◌⊎◌, inl, inr, ⊎_elim, length, refl, sym, ap, ◌∙◌, subst, arith}
 use Rattle.atomic_table.specs.Table.{Allows}
 use Rattle.table_words.specs.Claims.{Progress, Claimed, Failed, Drawn, Half, Whole, Living}
 use Rattle.mesh_names.specs.Names.{digit}
 use Rattle.table_words.specs.Entries.{HasEntry}
 use Rattle.table_words.specs.Places.{member_of}
 use Rattle.table_words.specs.Setup.{Setup}
-use Rattle.table_words.specs.Views.{Owner, Views, Work}
+use Rattle.table_words.specs.Views.{Owner, Views}
 use Rattle.table_words.specs.Words.{Words, words_at}
 use Rattle.table_words.proofs.Entries.{entry_of_both}
-use Rattle.table_state.specs.Ghosts.{Held, Life, Free, Loose, Placed, RolledBack, Ghost, chained, stands}
+use Rattle.table_state.specs.Ghosts.{Held, Life, Free, Placed, RolledBack, Ghost, chained, stands}
 use Rattle.table_state.specs.Claims.{block_of}
 use Rattle.table_state.specs.Rule.{Rule}
 use Rattle.table_state.proofs.FoundAgain.{placed, placed_chained, found_covers, one_more}
 use Rattle.table_state.proofs.HeldClaims.{loose_not}
-use Rattle.table_state.proofs.OwnerLaws.{noted_stands}
+use Rattle.table_state.proofs.OwnerLaws.{noted_stands, unclaimed}
 use Rattle.mesh_table.specs.declared.rule.Site.{Site}
-use Rattle.mesh_table.specs.Sights.{Sight, seat_at, views_of, setup_at}
+use Rattle.mesh_table.specs.Sights.{seat_at, views_of, setup_at}
 use Rattle.mesh_table.specs.Holds.{Holds, Sat}
 use Rattle.mesh_table.proofs.Owning.{owner_acts, kept_words, in_ruling}
 use Rattle.table_rounds.specs.Kinds.{IsRetired, BlocksTold, blocks_told}
-use Rattle.table_rounds.specs.Versions.{IsRooted}
 
 -- lives are apart
 free_not_placed : (x m : ℕ) → Free ≡ Placed x m → ⊥
@@ -86,6 +84,7 @@ module _ (k : Site) (id i : ℕ) (me : Sat) (rules : me.0.kind ≡ Owner) where
         kept_back = λ b a c. let t = r.kept.right b a in let u = r.note.rolled_back b c in placed_not_back t.0 t.1 u.0 u.1 (sym t.2 ∙ u.2);
         retired_kept = λ b a c. let t = retired b a in let u = r.kept.right b c in let x = t.3 in let y = u.4 in omega arith;
         retired_back = λ b a c. let t = retired b a in let u = r.note.rolled_back b c in placed_not_back t.0 t.1 u.0 u.1 (sym t.2 ∙ u.2);
+        retired_placed = λ b a. let t = retired b a in (t.0, t.1, ⊎_elim (λ h. h) (λ h. absurd (unclaimed (setup_at k) w (length s.views) v g r b t.0 t.1 h.0 h.1 h.2 h.3 t.2 (let q = t.3 in omega arith))) (r.known.noted b t.0 t.1 t.2));
         once = at_one (setup_at k) w (length s.views) v g r;
         claimed = λ b y m z a c e.
             let shape = r.claims.shape y 0 m (Living b) (r.claims.held 0 y m (Living b) c) in

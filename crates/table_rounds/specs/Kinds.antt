@@ -1,6 +1,6 @@
 -- The kinds of blocks that the owner has noted, and where they stand.
 use Rattle.std.specs.Prelude.{◌≡◌, ℕ, ◌+◌, Bool, ◌++◌}
-use Rattle.table_words.specs.Claims.{Progress, Living, claim}
+use Rattle.table_words.specs.Claims.{Living, claim}
 use Rattle.table_words.specs.Entries.{HasEntry}
 use Rattle.table_state.specs.Ghosts.{Placed, stands}
 use Rattle.mesh_table.specs.Holds.{Sat}
@@ -18,6 +18,8 @@ pub record BlocksTold (e : ℕ) (v : Sight) : Type 0 where
   pub kept_back : (b : ℕ) → HasEntry v.ruling.kept b → HasEntry v.ruling.rolled_back b → ⊥
   pub retired_kept : (b : ℕ) → IsRetired v b → HasEntry v.ruling.kept b → ⊥
   pub retired_back : (b : ℕ) → IsRetired v b → HasEntry v.ruling.rolled_back b → ⊥
+  -- one that was retired in the round is noted with its places
+  pub retired_placed : (b : ℕ) → IsRetired v b → (y m : ℕ) × HasEntry v.ruling.placed (b, y, m)
   pub once : (b y m z i : ℕ) → HasEntry v.ruling.placed (b, y, m) → HasEntry v.ruling.placed (b, z, i) → (y ≡ z) × (m ≡ i)
   -- a claim's block is noted at the claim's places alone, and is in no list
   pub claimed : (b y m z i : ℕ) → HasEntry v.claims (claim y m (Living b)) → HasEntry v.ruling.placed (b, z, i) → (y ≡ z) × (m ≡ i)

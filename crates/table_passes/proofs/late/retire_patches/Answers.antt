@@ -83,4 +83,5 @@ returns-clause-worked g c =
       gone = subst (λ (ps : List PatchName). AreGoneBut s (sight c.loop-patch.pass.seat) ps c.loop-patch.left.items) (take_all c.loop-patch.patch-index c.args.patches.now c.loop-patch-test.false) old.gone;
       left = old.left;
       blocks = old.listed;
+      few = (let e = old.few in let f : c.loop-patch.patch-index ≤ length c.args.patches.now = omega arith in omega arith);
     }
