@@ -47,7 +47,7 @@ AreGoneBut s v ps left = (k : ℕ) → HasEntry (firsts_of ps) k → IsGone s v 
 abbrev pub IsGoneOrLeft : Setup → Sight → List PatchName → List PatchName → PatchName → Type 0
 IsGoneOrLeft s v before after p = ((after ≡ before) × IsGone s v (name_code p.first)) ⊎ (after ≡ before ++ p ∷ [])
 
--- a pass went through the patches: each is gone, or left, where a child of it was still bisected; and these blocks it retired
+-- a pass went through the patches: each is gone, or left, and then of the retire list; and these blocks it retired
 pub record IsLateWorked (k : Site) (u v : Sight) (ps rest : List PatchName) (bs : List ℕ) : Type 0 where
   pub keeps : StillKnows u v
   pub gone : AreGoneBut (setup_at k) v ps rest

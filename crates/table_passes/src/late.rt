@@ -48,7 +48,7 @@ fn retire_or_leave<G: Gate>(
     left.push_reserved(*patch);
 }
 
-/// Retires patches one after the other. One of which a child is still bisected is left, and comes to the end of the list of such.
+/// Retires patches one after the other. One that the call does not retire, since it found a child still bisected, comes to the end of the list of those that are left.
 pub fn retire_patches<G: Gate>(
     table: &MeshTable,
     pass: &mut Pass,

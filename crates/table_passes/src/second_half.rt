@@ -59,7 +59,7 @@ impl OwnerSeat {
         }
     }
 
-    /// Worker 0 retires the patches that are left, in their order, while no other worker's pass is out: those of greater level come before others, so that none is left then.
+    /// Worker 0 retires the patches that are left, in their order, while no other worker's pass is out: those of greater level should come before others. No clause says that none is left then.
     pub fn finish_late<G: Gate>(
         &mut self,
         table: &MeshTable,
