@@ -22,3 +22,4 @@ pub mod GivenWhole
 pub mod OneRound
 pub mod Texts
 pub mod Belonging
+pub mod OneState
