@@ -23,3 +23,4 @@ pub mod OneRound
 pub mod Texts
 pub mod Belonging
 pub mod OneState
+pub mod Relabelled

@@ -1,14 +1,14 @@
 -- There is one state before any round, one after each, and one text of each.
-use Rattle.std.proofs.Common.{◌≡◌, ℕ, zero, suc, ◌*◌, ◌<◌, ◌≤◌, ◌⊎◌, ℤ, refl, sym, ap, ◌∙◌, subst, List, [], ◌∷◌, ◌++◌, length, Option, Some, None, inl, inr, ⊎_elim, arith, true≢false}
-use Rattle.std.specs.Prelude.{IsSome, slice_get, slice_index_or, option_map, ◌+ℤ◌}
+use Rattle.std.proofs.Common.{◌≡◌, ℕ, zero, suc, ◌*◌, ◌<◌, ◌≤◌, ◌⊎◌, ℤ, Bool, true, false, cond, refl, sym, ap, ◌∙◌, subst, List, [], ◌∷◌, ◌++◌, length, Option, Some, None, inl, inr, ⊎_elim, arith, true≢false}
+use Rattle.std.specs.Prelude.{IsSome, slice_get, slice_index_or, option_map, map, ltb, pos, replicate, ◌+ℤ◌}
 use Rattle.std.specs.List.{All, AllZip}
-use Rattle.std.specs.FinSet.{contains}
-use Rattle.std.specs.FinMap.{get, same_map}
+use Rattle.std.specs.FinSet.{contains, contains-empty}
+use Rattle.std.specs.FinMap.{empty, get, get-empty, same_map}
 use Rattle.dof_admin.specs.Administration.{used_count}
-use Rattle.mesh_names.specs.Names.{Name}
+use Rattle.mesh_names.specs.Names.{Name, name_cmp}
 use Rattle.mesh_names.specs.Order.{name_cmp_total, name_cmp-same}
-use Rattle.mesh_names.specs.Triangles.{Vertex}
-use Rattle.mesh_names.specs.Forests.{IsLeaf}
+use Rattle.mesh_names.specs.Triangles.{Vertex, size}
+use Rattle.mesh_names.specs.Forests.{Has, IsLeaf, Names}
 use Rattle.mesh_names.specs.Leaves.{leaves}
 use Rattle.mesh_names.specs.Patches.{owns}
 use Rattle.mesh_names.specs.declared.patch.PatchName.{PatchName}
@@ -27,10 +27,13 @@ use Rattle.dof_transfer.proofs.NamedVertices.{Laws, key-one}
 use Rattle.forest_plain.specs.Rounds.{Room}
 use Rattle.mesh_writer.specs.MeshText.{IsMeshText, written_mesh}
 use Rattle.macro_file.specs.Written.{macro_bytes}
+use Rattle.macro_file.specs.declared.text.MacroVertex.{MacroVertex}
+use Rattle.dof_transfer.specs.Macros.{first_entry}
 use Rattle.mesh_rounds.specs.OneState.{FirstIsOne, NextIsOne, TextIsOne}
 use Rattle.mesh_rounds.specs.SameRounds.{AreSameRows, IsSameDelta}
 use Rattle.mesh_rounds.specs.Setting.{AreElementsSet, AreSet, AreVerticesSet, Holding, SetsLeaf, TakesLast, leaf_holding, vertex_holding}
-use Rattle.mesh_rounds.specs.State.{IsMeshRound, IsState, State}
+use Rattle.mesh_rounds.specs.State.{IsFirst, IsMeshRound, IsState, State}
+use Rattle.mesh_rounds.proofs.Relabelled.{relabelled}
 use Rattle.mesh_rounds.proofs.OneRound.{rounds_change_alike}
 use Rattle.mesh_rounds.proofs.Rounding.{laws-of}
 
@@ -158,10 +161,37 @@ same-renumbered old a b x y =
     λ i. record { macros = macros i; patches = patches i }
 
 -- ---- a round
-module _ (mesh : Mesh) (laws : Laws mesh) (old : State) (is : IsState mesh old) where
-  -- what has a value is a vertex of the forest
+-- no more than the vertices and the leaves of the forest have values
+pub record HasNoOthers (mesh : Mesh) (state : State) : Type 0 where
+  pub vertices : (key : VertexKey) → (IsVertexIn mesh state.members key → ⊥) → value_at state.vertices key ≡ None
+  pub elements : (n : Name) → (IsLeaf (shape_of mesh) state.members n → ⊥) → value_of state.elements n ≡ None
+
+leaf-or-not : (mesh : Mesh) (members : Names) (n : Name) → IsLeaf (shape_of mesh) members n ⊎ (IsLeaf (shape_of mesh) members n → ⊥)
+leaf-or-not mesh members n = ⊎_elim
+    (λ (low : n.0 < size (shape_of mesh)). ⊎_elim
+    (λ h. inr (λ (l : IsLeaf (shape_of mesh) members n). both_sides (contains members n) h l.unsplit))
+    (λ unsplit. ⊎_elim (λ born. inl (record { rooted = low; unsplit = unsplit; born = born })) (λ off. inr (λ (l : IsLeaf (shape_of mesh) members n). off l.born)) (born-or-not n.1 refl))
+    (is_or_not (contains members n)))
+    (λ high. inr (λ (l : IsLeaf (shape_of mesh) members n). let low = l.rooted in omega (arith, high, low)))
+    (fewer-or-not n.0 (size (shape_of mesh)))
+  where
+    born-or-not : (u : List Bool) → n.1 ≡ u → ((b : Bool) (w : List Bool) → n.1 ≡ b ∷ w → Has members (n.0, w)) ⊎ (((b : Bool) (w : List Bool) → n.1 ≡ b ∷ w → Has members (n.0, w)) → ⊥)
+    born-or-not [] e = inl (λ b w f. absurd (apart (sym e ∙ f)))
+      where
+        apart : {b : Bool} {w : List Bool} → [] ≡ b ∷ w → ⊥
+        apart q = cc
+    born-or-not (c ∷ u) e = ⊎_elim
+        (λ h. inl (λ b w f. subst (λ (v : List Bool). Has members (n.0, v)) (tail (sym e ∙ f)) h))
+        (λ h. inr (λ all. both_sides (contains members (n.0, u)) (all c u e) h))
+        (is_or_not (contains members (n.0, u)))
+      where
+        tail : {b c : Bool} {v w : List Bool} → c ∷ v ≡ b ∷ w → v ≡ w
+        tail q = cc
+
+module _ (mesh : Mesh) (laws : Laws mesh) (old : State) (is : HasNoOthers mesh old) where
+  -- what has a value is a vertex of the forest, or a leaf
   stands : (key : VertexKey) → IsSome (value_at old.vertices key) → IsVertexIn mesh old.members key
-  stands key live = ⊎_elim (λ h. h) (λ h. absurd (true≢false (sym (subst IsSome (is.vertices.none key h) live)))) (either key)
+  stands key live = ⊎_elim (λ h. h) (λ h. absurd (true≢false (sym (subst IsSome (is.vertices key h) live)))) (either key)
     where
       either : (k : VertexKey) → IsVertexIn mesh old.members k ⊎ (IsVertexIn mesh old.members k → ⊥)
       either (Macro i) = ⊎_elim (λ h. inl h) (λ h. inr (λ l. omega (arith, h, l))) (fewer-or-not i (length mesh.vertices))
@@ -170,6 +200,9 @@ module _ (mesh : Mesh) (laws : Laws mesh) (old : State) (is : IsState mesh old) 
           (λ h. inr (λ p. both_sides (contains old.members n) p.0 h))
           (is_or_not (contains old.members n))
 
+  is-leaf : (n : Name) → IsSome (value_of old.elements n) → IsLeaf (shape_of mesh) old.members n
+  is-leaf n live = ⊎_elim (λ h. h) (λ h. absurd (true≢false (sym (subst IsSome (is.elements n h) live)))) (leaf-or-not mesh old.members n)
+
   vertices-set : (rows : List MarkRow) (a b : VertexHeld) → AreVerticesSet mesh old.members rows old.vertices a → AreVerticesSet mesh old.members rows old.vertices b → a ≡ b
   vertices-set rows a b x y = same-vertices a b
       (same-set vertex_holding (IsVertexIn mesh old.members) _ rows old.vertices a b stands x y)
@@ -177,10 +210,10 @@ module _ (mesh : Mesh) (laws : Laws mesh) (old : State) (is : IsState mesh old) 
 
   elements-set : (rows : List MarkRow) (a b : Held) → AreElementsSet mesh old.members rows old.elements a → AreElementsSet mesh old.members rows old.elements b → a ≡ b
   elements-set rows a b x y = same-held a b
-      (same-set leaf_holding (IsLeaf (shape_of mesh) old.members) SetsLeaf rows old.elements a b (λ n. (is.elements.live n).1) x y)
+      (same-set leaf_holding (IsLeaf (shape_of mesh) old.members) SetsLeaf rows old.elements a b is-leaf x y)
       (λ n. x.indices n ∙ sym (y.indices n)) (x.flags ∙ sym y.flags)
 
-  same-round : (room : Room) (rows : List MarkRow) (a b : State) → (one : IsMeshRound mesh room rows old a) (two : IsMeshRound mesh room rows old b) → (a ≡ b) × IsSameDelta one.delta two.delta
+  pub same-round : (room : Room) (rows : List MarkRow) (a b : State) → (one : IsMeshRound mesh room rows old a) (two : IsMeshRound mesh room rows old b) → (a ≡ b) × IsSameDelta one.delta two.delta
   same-round room rows a b one two =
       let alike = rounds_change_alike (shape_of mesh) (across_in mesh) laws.tells room room old.members rows rows a.members b.members one.delta two.delta (same-rows rows) one.forest two.forest in
       let set : one.vertices.set ≡ two.vertices.set = vertices-set rows one.vertices.set two.vertices.set one.vertices.rows_set two.vertices.rows_set in
@@ -197,8 +230,55 @@ module _ (mesh : Mesh) (laws : Laws mesh) (old : State) (is : IsState mesh old) 
       same-rows [] = tt
       same-rows (r ∷ rs) = (record { what = refl; place = refl; number = refl }, same-rows rs)
 
+-- before any round, and after each, nothing else has values
+pub next-no-others : (mesh : Mesh) (room : Room) (rows : List MarkRow) (old new : State) → IsMeshRound mesh room rows old new → HasNoOthers mesh new
+next-no-others mesh room rows old new round = record { vertices = round.vertices.values.none; elements = round.elements.values.none }
+
+pub state-no-others : (mesh : Mesh) (state : State) → IsState mesh state → HasNoOthers mesh state
+state-no-others mesh state is = record {
+  vertices = is.vertices.none;
+  elements = λ n off. by n off (value_of state.elements n) refl;
+} where
+  by : (n : Name) → (IsLeaf (shape_of mesh) state.members n → ⊥) → (o : Option ℤ) → value_of state.elements n ≡ o → value_of state.elements n ≡ None
+  by n off None e = e
+  by n off (Some z) e = absurd (off ((is.elements.live n).1 (subst IsSome (sym e) refl)))
+
+pub first-no-others : (mesh : Mesh) (state : State) → IsFirst mesh state → HasNoOthers mesh state
+first-no-others mesh state first = record {
+  vertices = λ key off. subst (λ (h : VertexHeld). value_at h key ≡ None) (sym held) (none key off);
+  elements = λ n off. ap (option_map (λ (e : Entry). e.value)) (first.elements.live n) ∙ off-entry n off;
+} where
+  held : state.vertices ≡ record { macros = map (λ (v : MacroVertex). v.value) mesh.vertices; patches = record { live = empty; flags = replicate (length mesh.vertices) true } }
+  held = λ i. record { macros = first.vertices.macros i; patches = first.vertices.patches i }
+
+  beyond : {A B : Type 0} (f : A → B) (xs : List A) (i : ℕ) → length xs ≤ i → slice_get (map f xs) i ≡ None
+  beyond f [] i h = refl
+  beyond f (x ∷ xs) zero h = absurd (omega (arith, h))
+  beyond f (x ∷ xs) (suc i) h = beyond f xs i (omega (arith, h))
+
+  none : (key : VertexKey) → (IsVertexIn mesh state.members key → ⊥) → value_at (record { macros = map (λ (v : MacroVertex). v.value) mesh.vertices; patches = record { live = empty; flags = replicate (length mesh.vertices) true } }) key ≡ None
+  none (Macro i) off = beyond (λ (v : MacroVertex). v.value) mesh.vertices i (⊎_elim (λ h. absurd (off h)) (λ h. h) (fewer-or-not i (length mesh.vertices)))
+  none (Patch n) off = ap (option_map (λ (e : Entry). e.value)) (get-empty name_cmp n)
+
+  not-below : (r s : ℕ) → s ≤ r → ltb r s ≡ false
+  not-below r s h = grind arith
+
+  off-entry : (n : Name) → (IsLeaf (shape_of mesh) state.members n → ⊥) → option_map (λ (e : Entry). e.value) (first_entry mesh (size (shape_of mesh)) n) ≡ None
+  off-entry (r, b ∷ w) off = refl
+  off-entry (r, []) off = ⊎_elim
+      (λ (low : r < size (shape_of mesh)). absurd (off (record {
+        rooted = low;
+        unsplit = ap (λ (m : Names). contains m (r, [])) first.members ∙ contains-empty name_cmp (r, []);
+        born = λ b w e. absurd (apart e);
+      })))
+      (λ (high : size (shape_of mesh) ≤ r). ap (λ (c : Bool). option_map (λ (e : Entry). e.value) (cond c (Some (record { index = r; value = slice_index_or mesh.values r (pos 0) })) None)) (not-below r (size (shape_of mesh)) high))
+      (fewer-or-not r (size (shape_of mesh)))
+    where
+      apart : {b : Bool} {w : List Bool} → [] ≡ b ∷ w → ⊥
+      apart q = cc
+
 pub next_is_one : NextIsOne
-next_is_one mesh checked room rows old a b is one two = same-round mesh (laws-of mesh checked) old is room rows a b one two
+next_is_one mesh checked room rows old a b is one two = same-round mesh (laws-of mesh checked) old (state-no-others mesh old is) room rows a b one two
 
 pub first_is_one : FirstIsOne
 first_is_one mesh a b x y =
@@ -218,7 +298,7 @@ same-zip R one (z ∷ xs) [] ws x y = absurd x
 same-zip R one (z ∷ xs) (a ∷ vs) [] x y = absurd y
 same-zip R one (z ∷ xs) (a ∷ vs) (b ∷ ws) x y = λ i. one z a b x.0 y.0 i ∷ same-zip R one xs vs ws x.1 y.1 i
 
-same-text : (mesh : Mesh) → Laws mesh → (list : List Name) (vertices : VertexHeld) (elements : Held) (a b : List ℕ) → IsMeshText mesh list vertices elements a → IsMeshText mesh list vertices elements b → a ≡ b
+pub same-text : (mesh : Mesh) → Laws mesh → (list : List Name) (vertices : VertexHeld) (elements : Held) (a b : List ℕ) → IsMeshText mesh list vertices elements a → IsMeshText mesh list vertices elements b → a ≡ b
 same-text mesh laws list vertices elements a b x y =
     let vs : x.vertex_values ≡ y.vertex_values = same-zip (HasAt mesh vertices) (same-value mesh laws vertices) _ x.vertex_values y.vertex_values x.of_vertices y.of_vertices in
     let es : x.element_values ≡ y.element_values = same-zip (λ n v. value_of elements n ≡ Some v) (λ n v w h k. inner (sym h ∙ k)) list x.element_values y.element_values x.of_leaves y.of_leaves in
