@@ -33,7 +33,6 @@ use Rattle.mesh_rounds.specs.OneState.{FirstIsOne, NextIsOne, TextIsOne}
 use Rattle.mesh_rounds.specs.SameRounds.{AreSameRows, IsSameDelta}
 use Rattle.mesh_rounds.specs.Setting.{AreElementsSet, AreSet, AreVerticesSet, Holding, SetsLeaf, TakesLast, leaf_holding, vertex_holding}
 use Rattle.mesh_rounds.specs.State.{IsFirst, IsMeshRound, IsState, State}
-use Rattle.mesh_rounds.proofs.Relabelled.{relabelled}
 use Rattle.mesh_rounds.proofs.OneRound.{rounds_change_alike}
 use Rattle.mesh_rounds.proofs.Rounding.{laws-of}
 

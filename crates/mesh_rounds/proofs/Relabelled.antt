@@ -11,19 +11,18 @@ use Rattle.mesh_names.specs.declared.patch.VertexKey.TheVariants.{Macro, Patch}
 use Rattle.mesh_names.specs.declared.rows.MarkRow.{MarkRow}
 use Rattle.compat_check.specs.Meshes.{Mesh, shape_of, label_of}
 use Rattle.compat_check.specs.Points.{labels, labels_below}
-use Rattle.macro_file.specs.Meaning.{Macro as MacroData, Element as MacroElement}
 use Rattle.macro_file.specs.Written.{macro_bytes}
 use Rattle.mesh_writer.specs.MeshText.{IsMeshText, macro_element, macro_vertex, written_mesh}
 use Rattle.mesh_writer.specs.Neighbours.{neighbours}
 use Rattle.mesh_writer.specs.Numbering.{vertices}
 use Rattle.mesh_writer.specs.Triples.{numbers}
 use Rattle.dof_transfer.specs.Held.{Held}
-use Rattle.dof_transfer.specs.Macros.{AreMacroElements, first_entry}
+use Rattle.dof_transfer.specs.Macros.{first_entry}
 use Rattle.dof_transfer.specs.VertexNames.{AreVertexValues, HasAt, HasVertexValue, IsVertexIn, kept, made}
-use Rattle.dof_transfer.specs.VertexValues.{AreMade, IsKeyOf, IsMade, IsVertexChange, VertexHeld}
+use Rattle.dof_transfer.specs.VertexValues.{AreMade, IsKeyOf, IsVertexChange, VertexHeld}
 use Rattle.forest_plain.specs.Rounds.{Room}
 use Rattle.mesh_rounds.specs.Setting.{AreVerticesSet}
-use Rattle.mesh_rounds.specs.State.{IsElementRound, IsFirst, IsMeshRound, IsVertexRound, State}
+use Rattle.mesh_rounds.specs.State.{IsFirst, IsMeshRound, State}
 
 -- the mesh with other labels
 abbrev pub relabelled : Mesh → List (List ℤ) → Mesh
