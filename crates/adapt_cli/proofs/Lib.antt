@@ -13,3 +13,6 @@ pub mod RestartOutcomes
 pub mod FindOutcomes
 pub mod ResumeOutcomes
 pub mod Interrupting
+pub mod SameMeshes
+pub mod OneLead
+pub mod OneSoak

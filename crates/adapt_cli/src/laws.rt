@@ -1,6 +1,7 @@
 //! Laws over the definitions alone. Each function takes nothing and answers nothing: its
 //! contract is the law.
 ghost use Rattle.adapt_cli.specs.Continuing.{InterruptedAsWhole};
+ghost use Rattle.adapt_cli.specs.OneOutcome.{OneSoak};
 ghost use Rattle.adapt_cli.specs.SoakEnds.{FaultsAreFullPools, SoaksEnd};
 
 /// Each fault of a soak is a full pool.
@@ -17,4 +18,9 @@ pub fn soaks_end()
 /// none is refused.
 pub fn interrupted_as_whole()
     ensures { InterruptedAsWhole }
+{}
+
+/// A soak has one outcome.
+pub fn one_soak()
+    ensures { OneSoak }
 {}
