@@ -19,7 +19,7 @@ use Rattle.adapt_words.specs.Rounds.{SoakWords}
 use Rattle.adapt_cli.specs.FaultTexts.{End, Fault, full_pool}
 use Rattle.adapt_cli.specs.OneOutcome.{OneSoak}
 use Rattle.adapt_cli.specs.Rounds.{whole}
-use Rattle.adapt_cli.specs.Soaks.{DrawsTo, IsGridMesh, IsSoakOutcome, Overfills, TellsOf, soak_line}
+use Rattle.adapt_cli.specs.Soaks.{DrawsTo, IsGridMesh, IsSoakOutcome, IsSoakText, Overfills, TellsOf, soak_line}
 use Rattle.adapt_cli.proofs.SameMeshes.{AreAlike, alike, owners-of}
 
 abbrev Step : Mesh → ℕ → ℕ → ℕ → Drawing → State → Result State Fault → List Name → Type 0
@@ -132,10 +132,9 @@ module _ (soak : SoakWords) where
   one-line : (m n : Mesh) → Laws m → AreAlike m n → (last : State) (a b : List ℕ) → TellsOf m soak last a → TellsOf n soak last b → a ≡ b
   one-line m n laws same last a b x y =
       let texts : x.0 ≡ y.0 = one-text m laws last x.0 y.0 x.1 (text-alike m n same last y.0 y.1) in
-      let there = subst (λ (z : Mesh). TellsOf z soak last b) (sym same.is) y in
-      let here : TellsOf m soak last b = (y.0, text-alike m n same last y.0 y.1, there.2) in
-      let lists : x.2.0 ≡ here.2.0 = same-leaves m last x.2.0 here.2.0 x.2.1 here.2.1 in
-      x.2.2 ∙ (λ i. soak_line soak (length (lists i)) (vertex_count m last) (patch_count (across_in m) last.members) (length (texts i))) ∙ sym there.2.2
+      let there = subst (λ (z : Mesh). IsSoakText z soak last (length y.0) b) (sym same.is) y.2 in
+      let lists : x.2.0 ≡ there.0 = same-leaves m last x.2.0 there.0 x.2.1 there.1 in
+      x.2.2 ∙ (λ i. soak_line soak (length (lists i)) (vertex_count m last) (patch_count (across_in m) last.members) (length (texts i))) ∙ sym there.2
 
 pub one_soak : OneSoak
 one_soak soak (Ok a) (Ok b) x y =
