@@ -16,3 +16,6 @@ pub mod Interrupting
 pub mod SameMeshes
 pub mod OneLead
 pub mod OneSoak
+pub mod OneCause
+pub mod SameTexts
+pub mod OneRun

@@ -1,7 +1,7 @@
 //! Laws over the definitions alone. Each function takes nothing and answers nothing: its
 //! contract is the law.
 ghost use Rattle.adapt_cli.specs.Continuing.{InterruptedAsWhole};
-ghost use Rattle.adapt_cli.specs.OneOutcome.{OneSoak};
+ghost use Rattle.adapt_cli.specs.OneOutcome.{OneRun, OneSoak};
 ghost use Rattle.adapt_cli.specs.SoakEnds.{FaultsAreFullPools, SoaksEnd};
 
 /// Each fault of a soak is a full pool.
@@ -23,4 +23,9 @@ pub fn interrupted_as_whole()
 /// A soak has one outcome.
 pub fn one_soak()
     ensures { OneSoak }
+{}
+
+/// A run, with a report or without, and its files have one outcome.
+pub fn one_run()
+    ensures { OneRun }
 {}
