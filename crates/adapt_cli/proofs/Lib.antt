@@ -19,3 +19,4 @@ pub mod OneSoak
 pub mod OneCause
 pub mod SameTexts
 pub mod OneRun
+pub mod OneGrades

@@ -17,11 +17,10 @@ use Rattle.compat_check.specs.Faults.{IsFirst, triple_in}
 use Rattle.compat_check.specs.Meshes.{edge_of}
 use Rattle.compat_check.specs.declared.refusal.CheckRefusal.{CheckRefusal}
 use Rattle.compat_check.specs.declared.refusal.CheckRefusal.TheVariants.{VertexRange, RepeatedVertex, Flat, TwinElements, EdgeOfThree, NeighboursDiffer, Incompatible, GradeTooHigh, Memory}
-use Rattle.compat_check.proofs.OneGrading.{one_grade}
-use Rattle.compat_check.proofs.Pairings.{same_pair_back}
+use Rattle.adapt_cli.proofs.OneGrades.{one_grade, same_pair_back}
 
 -- the place of a kind in their order
-pub kind : CheckRefusal → ℕ
+abbrev pub kind : CheckRefusal → ℕ
 kind (VertexRange r) = 0
 kind (RepeatedVertex r) = 1
 kind (Flat r) = 2
@@ -42,17 +41,17 @@ first-edge-same : (n : ℕ) (P : ℕ → ℕ → Type 0) (r s k j : ℕ) → IsF
 first-edge-same n P r s k j x y = ⊎_elim
     (λ (low : r < s). absurd (y.first r k x.edge (inl low) x.holds))
     (λ (high : s ≤ r). ⊎_elim
-        (λ (low : s < r). absurd (x.first s j y.edge (inl low) y.holds))
-        (λ (other : r ≤ s).
-        let e : r ≡ s = omega (arith, high, other) in
-        ⊎_elim
-            (λ (low : k < j). absurd (y.first r k x.edge (inr (e, low)) x.holds))
-            (λ (up : j ≤ k). ⊎_elim
-                (λ (low : j < k). absurd (x.first s j y.edge (inr (sym e, low)) y.holds))
-                (λ (down : k ≤ j). (e, omega (arith, up, down)))
-                (cases_lt j k))
-            (cases_lt k j))
-        (cases_lt s r))
+    (λ (low : s < r). absurd (x.first s j y.edge (inl low) y.holds))
+    (λ (other : r ≤ s).
+    let e : r ≡ s = omega (arith, high, other) in
+    ⊎_elim
+    (λ (low : k < j). absurd (y.first r k x.edge (inr (e, low)) x.holds))
+    (λ (up : j ≤ k). ⊎_elim
+    (λ (low : j < k). absurd (x.first s j y.edge (inr (sym e, low)) y.holds))
+    (λ (down : k ≤ j). (e, omega (arith, up, down)))
+    (cases_lt j k))
+    (cases_lt k j))
+    (cases_lt s r))
     (cases_lt r s)
 
 twins-same : (triples : List Triple) (a c b d : ℕ) → AreFirstTwins triples a b → AreFirstTwins triples c d → TwinElements a b ≡ TwinElements c d
@@ -84,31 +83,31 @@ module _ (text : MacroText) where
   -- a later kind comes only where no earlier one does
   clash : (one two : CheckRefusal) → kind one < kind two → kind two < 8 → IsCheckRefusal text one → IsCheckRefusal text two → ⊥
   clash (VertexRange r) (VertexRange r') low high hr hs = omega (arith, low)
-  clash (VertexRange r) (RepeatedVertex r') low high hr hs = hs.0 r hr.0 hr.1.0
-  clash (VertexRange r) (Flat r') low high hr hs = hs.0 r hr.0 hr.1.0
-  clash (VertexRange r) (TwinElements a' b') low high hr hs = hs.0.inside r hr.0 hr.1.0
-  clash (VertexRange r) (EdgeOfThree r' k') low high hr hs = hs.0.inside r hr.0 hr.1.0
-  clash (VertexRange r) (NeighboursDiffer r' k') low high hr hs = hs.0.sound.inside r hr.0 hr.1.0
-  clash (VertexRange r) (Incompatible r' k') low high hr hs = hs.0.valid.sound.inside r hr.0 hr.1.0
-  clash (VertexRange r) (GradeTooHigh r' g') low high hr hs = hs.0.valid.sound.inside r hr.0 hr.1.0
+  clash (VertexRange r) (RepeatedVertex r') low high hr hs = hs.0 r hr.0 hr.1
+  clash (VertexRange r) (Flat r') low high hr hs = hs.0 r hr.0 hr.1
+  clash (VertexRange r) (TwinElements a' b') low high hr hs = hs.0.inside r hr.0 hr.1
+  clash (VertexRange r) (EdgeOfThree r' k') low high hr hs = hs.0.inside r hr.0 hr.1
+  clash (VertexRange r) (NeighboursDiffer r' k') low high hr hs = hs.0.sound.inside r hr.0 hr.1
+  clash (VertexRange r) (Incompatible r' k') low high hr hs = hs.0.valid.sound.inside r hr.0 hr.1
+  clash (VertexRange r) (GradeTooHigh r' g') low high hr hs = hs.0.valid.sound.inside r hr.0 hr.1
   clash (VertexRange r) Memory low high hr hs = omega (arith, high)
   clash (RepeatedVertex r) (VertexRange r') low high hr hs = omega (arith, low)
   clash (RepeatedVertex r) (RepeatedVertex r') low high hr hs = omega (arith, low)
-  clash (RepeatedVertex r) (Flat r') low high hr hs = hs.1 r hr.1.0 hr.1.1.0
-  clash (RepeatedVertex r) (TwinElements a' b') low high hr hs = hs.0.distinct r hr.1.0 hr.1.1.0
-  clash (RepeatedVertex r) (EdgeOfThree r' k') low high hr hs = hs.0.distinct r hr.1.0 hr.1.1.0
-  clash (RepeatedVertex r) (NeighboursDiffer r' k') low high hr hs = hs.0.sound.distinct r hr.1.0 hr.1.1.0
-  clash (RepeatedVertex r) (Incompatible r' k') low high hr hs = hs.0.valid.sound.distinct r hr.1.0 hr.1.1.0
-  clash (RepeatedVertex r) (GradeTooHigh r' g') low high hr hs = hs.0.valid.sound.distinct r hr.1.0 hr.1.1.0
+  clash (RepeatedVertex r) (Flat r') low high hr hs = hs.1 r hr.1.0 hr.1.1
+  clash (RepeatedVertex r) (TwinElements a' b') low high hr hs = hs.0.distinct r hr.1.0 hr.1.1
+  clash (RepeatedVertex r) (EdgeOfThree r' k') low high hr hs = hs.0.distinct r hr.1.0 hr.1.1
+  clash (RepeatedVertex r) (NeighboursDiffer r' k') low high hr hs = hs.0.sound.distinct r hr.1.0 hr.1.1
+  clash (RepeatedVertex r) (Incompatible r' k') low high hr hs = hs.0.valid.sound.distinct r hr.1.0 hr.1.1
+  clash (RepeatedVertex r) (GradeTooHigh r' g') low high hr hs = hs.0.valid.sound.distinct r hr.1.0 hr.1.1
   clash (RepeatedVertex r) Memory low high hr hs = omega (arith, high)
   clash (Flat r) (VertexRange r') low high hr hs = omega (arith, low)
   clash (Flat r) (RepeatedVertex r') low high hr hs = omega (arith, low)
   clash (Flat r) (Flat r') low high hr hs = omega (arith, low)
-  clash (Flat r) (TwinElements a' b') low high hr hs = hs.0.thick r hr.2.0 hr.2.1.0
-  clash (Flat r) (EdgeOfThree r' k') low high hr hs = hs.0.thick r hr.2.0 hr.2.1.0
-  clash (Flat r) (NeighboursDiffer r' k') low high hr hs = hs.0.sound.thick r hr.2.0 hr.2.1.0
-  clash (Flat r) (Incompatible r' k') low high hr hs = hs.0.valid.sound.thick r hr.2.0 hr.2.1.0
-  clash (Flat r) (GradeTooHigh r' g') low high hr hs = hs.0.valid.sound.thick r hr.2.0 hr.2.1.0
+  clash (Flat r) (TwinElements a' b') low high hr hs = hs.0.thick r hr.2.0 hr.2.1
+  clash (Flat r) (EdgeOfThree r' k') low high hr hs = hs.0.thick r hr.2.0 hr.2.1
+  clash (Flat r) (NeighboursDiffer r' k') low high hr hs = hs.0.sound.thick r hr.2.0 hr.2.1
+  clash (Flat r) (Incompatible r' k') low high hr hs = hs.0.valid.sound.thick r hr.2.0 hr.2.1
+  clash (Flat r) (GradeTooHigh r' g') low high hr hs = hs.0.valid.sound.thick r hr.2.0 hr.2.1
   clash (Flat r) Memory low high hr hs = omega (arith, high)
   clash (TwinElements a b) (VertexRange r') low high hr hs = omega (arith, low)
   clash (TwinElements a b) (RepeatedVertex r') low high hr hs = omega (arith, low)
@@ -237,7 +236,7 @@ module _ (text : MacroText) where
   one-cause one two low high hr hs = ⊎_elim
       (λ (h : kind one < kind two). absurd (clash one two h high hr hs))
       (λ (h : kind two ≤ kind one). ⊎_elim
-          (λ (k : kind two < kind one). absurd (clash two one k low hs hr))
-          (λ (k : kind one ≤ kind two). equal one two (omega (arith, h, k)) low hr hs)
-          (cases_lt (kind two) (kind one)))
+      (λ (k : kind two < kind one). absurd (clash two one k low hs hr))
+      (λ (k : kind one ≤ kind two). equal one two (omega (arith, h, k)) low hr hs)
+      (cases_lt (kind two) (kind one)))
       (cases_lt (kind one) (kind two))

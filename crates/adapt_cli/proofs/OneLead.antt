@@ -20,7 +20,7 @@ use Rattle.adapt_cli.specs.Rounds.{LeadTo, Refuses, preceded, whole}
 pub some_is : {A : Type 0} {a b : A} → Some a ≡ Some b → a ≡ b
 some_is q = cc
 
-no_fault : {A : Type 0} {a : A} → None ≡ Some a → ⊥
+pub no_fault : {A : Type 0} {a : A} → None ≡ Some a → ⊥
 no_fault q = cc
 
 module _ (mesh : Shape) (across : Across) (room : Room) (old : Names) (rows : List MarkRow) where
@@ -74,17 +74,17 @@ module _ (mesh : Mesh) (laws : Laws mesh) (pool : ℕ) where
   one-lead (round ∷ rounds) old a b is x y = ⊎_elim
       (λ (p : (new : State) × IsMeshRound mesh (whole pool) round.rows old new × (rest : Result (List State) Fault) × LeadTo mesh pool rounds new rest × (a ≡ preceded new rest)).
       ⊎_elim
-          (λ (q : (new : State) × IsMeshRound mesh (whole pool) round.rows old new × (rest : Result (List State) Fault) × LeadTo mesh pool rounds new rest × (b ≡ preceded new rest)).
-          let states : p.0 ≡ q.0 = (same-round mesh laws old is (whole pool) round.rows p.0 q.0 p.1 q.1).0 in
-          let rests : p.2 ≡ q.2 = one-lead rounds p.0 p.2 q.2 (next-no-others mesh (whole pool) round.rows old p.0 p.1) p.3 (subst (λ (s : State). LeadTo mesh pool rounds s q.2) (sym states) q.3) in
-          p.4 ∙ (λ i. preceded (states i) (rests i)) ∙ sym q.4)
-          (λ (q : (fault : Fault) × Refuses mesh pool old.members round fault × (b ≡ Err fault)). absurd (apart old p.0 round q.0 p.1 q.1))
-          y)
+      (λ (q : (new : State) × IsMeshRound mesh (whole pool) round.rows old new × (rest : Result (List State) Fault) × LeadTo mesh pool rounds new rest × (b ≡ preceded new rest)).
+      let states : p.0 ≡ q.0 = (same-round mesh laws old is (whole pool) round.rows p.0 q.0 p.1 q.1).0 in
+      let rests : p.2 ≡ q.2 = one-lead rounds p.0 p.2 q.2 (next-no-others mesh (whole pool) round.rows old p.0 p.1) p.3 (subst (λ (s : State). LeadTo mesh pool rounds s q.2) (sym states) q.3) in
+      p.4 ∙ (λ i. preceded (states i) (rests i)) ∙ sym q.4)
+      (λ (q : (fault : Fault) × Refuses mesh pool old.members round fault × (b ≡ Err fault)). absurd (apart old p.0 round q.0 p.1 q.1))
+      y)
       (λ (p : (fault : Fault) × Refuses mesh pool old.members round fault × (a ≡ Err fault)).
       ⊎_elim
-          (λ (q : (new : State) × IsMeshRound mesh (whole pool) round.rows old new × (rest : Result (List State) Fault) × LeadTo mesh pool rounds new rest × (b ≡ preceded new rest)). absurd (apart old q.0 round p.0 q.1 p.1))
-          (λ (q : (fault : Fault) × Refuses mesh pool old.members round fault × (b ≡ Err fault)).
-          let faults : p.0 ≡ q.0 = one-told (shape_of mesh) (across_in mesh) (whole pool) old.members round.rows round.number p.1.refusal q.1.refusal p.0 q.0 p.1.cause q.1.cause p.1.told q.1.told in
-          p.2 ∙ (λ i. Err (faults i)) ∙ sym q.2)
-          y)
+      (λ (q : (new : State) × IsMeshRound mesh (whole pool) round.rows old new × (rest : Result (List State) Fault) × LeadTo mesh pool rounds new rest × (b ≡ preceded new rest)). absurd (apart old q.0 round p.0 q.1 p.1))
+      (λ (q : (fault : Fault) × Refuses mesh pool old.members round fault × (b ≡ Err fault)).
+      let faults : p.0 ≡ q.0 = one-told (shape_of mesh) (across_in mesh) (whole pool) old.members round.rows round.number p.1.refusal q.1.refusal p.0 q.0 p.1.cause q.1.cause p.1.told q.1.told in
+      p.2 ∙ (λ i. Err (faults i)) ∙ sym q.2)
+      y)
       x

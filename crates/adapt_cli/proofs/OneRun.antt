@@ -99,15 +99,15 @@ pub one-load : {A : Type 0} (name : Word) (status : ℕ) (refuses : List ℕ →
     Loads name status refuses accepts next files a → Loads name status refuses accepts next files b → a ≡ b
 one-load {A} name status refuses accepts next files a b lines both on x y = ⊎_elim
     (λ (p : (line : List ℕ) × refuses x.0 line × (a ≡ Err (status, line))). ⊎_elim
-        (λ (q : (line : List ℕ) × refuses y.0 line × (b ≡ Err (status, line))).
-        let line : p.0 ≡ q.0 = lines x.0 p.0 q.0 p.1 (subst (λ (z : List ℕ). refuses z q.0) (sym bytes) q.1) in
-        p.2 ∙ (λ i. Err (status, line i)) ∙ sym q.2)
-        (λ (q : (read : A) × accepts y.0 read × next read files b). absurd (both y.0 q.0 p.0 q.1 (subst (λ (z : List ℕ). refuses z p.0) bytes p.1)))
-        y.2)
+    (λ (q : (line : List ℕ) × refuses y.0 line × (b ≡ Err (status, line))).
+    let line : p.0 ≡ q.0 = lines x.0 p.0 q.0 p.1 (subst (λ (z : List ℕ). refuses z q.0) (sym bytes) q.1) in
+    p.2 ∙ (λ i. Err (status, line i)) ∙ sym q.2)
+    (λ (q : (read : A) × accepts y.0 read × next read files b). absurd (both y.0 q.0 p.0 q.1 (subst (λ (z : List ℕ). refuses z p.0) bytes p.1)))
+    y.2)
     (λ (p : (read : A) × accepts x.0 read × next read files a). ⊎_elim
-        (λ (q : (line : List ℕ) × refuses y.0 line × (b ≡ Err (status, line))). absurd (both x.0 p.0 q.0 p.1 (subst (λ (z : List ℕ). refuses z q.0) (sym bytes) q.1)))
-        (λ (q : (read : A) × accepts y.0 read × next read files b). on x.0 p.0 q.0 p.1 (subst (λ (z : List ℕ). accepts z q.0) (sym bytes) q.1) p.2 q.2)
-        y.2)
+    (λ (q : (line : List ℕ) × refuses y.0 line × (b ≡ Err (status, line))). absurd (both x.0 p.0 q.0 p.1 (subst (λ (z : List ℕ). refuses z q.0) (sym bytes) q.1)))
+    (λ (q : (read : A) × accepts y.0 read × next read files b). on x.0 p.0 q.0 p.1 (subst (λ (z : List ℕ). accepts z q.0) (sym bytes) q.1) p.2 q.2)
+    y.2)
     x.2
   where
     bytes : x.0 ≡ y.0
@@ -164,18 +164,18 @@ marks-end : (bytes : List ℕ) (m n : Mesh) → AcceptsMacro bytes m → Accepts
     LoadsMarks run.marks_file (λ rounds others. RunsTo m run rounds) files a → LoadsMarks run.marks_file (λ rounds others. RunsTo n run rounds) files b → a ≡ b
 marks-end bytes m n x y run files a b h k = ⊎_elim
     (λ (p : (line : List ℕ) × RefusesMarks h.0 line × (a ≡ Err (4, line))). ⊎_elim
-        (λ (q : (line : List ℕ) × RefusesMarks k.0 line × (b ≡ Err (4, line))).
-        let line : p.0 ≡ q.0 = one-marks-line h.0 p.0 q.0 p.1 (subst (λ (z : List ℕ). RefusesMarks z q.0) (sym same) q.1) in
-        p.2 ∙ (λ i. Err (4, line i)) ∙ sym q.2)
-        (λ (q : (rounds : List Round) × AcceptsMarks k.0 rounds × RunsTo n run rounds b). absurd (marks-or-refused k.0 q.0 p.0 q.1 (subst (λ (z : List ℕ). RefusesMarks z p.0) same p.1)))
-        k.2)
+    (λ (q : (line : List ℕ) × RefusesMarks k.0 line × (b ≡ Err (4, line))).
+    let line : p.0 ≡ q.0 = one-marks-line h.0 p.0 q.0 p.1 (subst (λ (z : List ℕ). RefusesMarks z q.0) (sym same) q.1) in
+    p.2 ∙ (λ i. Err (4, line i)) ∙ sym q.2)
+    (λ (q : (rounds : List Round) × AcceptsMarks k.0 rounds × RunsTo n run rounds b). absurd (marks-or-refused k.0 q.0 p.0 q.1 (subst (λ (z : List ℕ). RefusesMarks z p.0) same p.1)))
+    k.2)
     (λ (p : (rounds : List Round) × AcceptsMarks h.0 rounds × RunsTo m run rounds a). ⊎_elim
-        (λ (q : (line : List ℕ) × RefusesMarks k.0 line × (b ≡ Err (4, line))). absurd (marks-or-refused h.0 p.0 q.0 p.1 (subst (λ (z : List ℕ). RefusesMarks z q.0) (sym same) q.1)))
-        (λ (q : (rounds : List Round) × AcceptsMarks k.0 rounds × RunsTo n run rounds b).
-        let there : AcceptsMarks h.0 q.0 = subst (λ (z : List ℕ). AcceptsMarks z q.0) (sym same) q.1 in
-        let rounds : q.0 ≡ p.0 = ok_is there.read p.1.read in
-        mesh-ends bytes m n x y run p.0 a b p.2 (subst (λ (z : List Round). RunsTo n run z b) rounds q.2))
-        k.2)
+    (λ (q : (line : List ℕ) × RefusesMarks k.0 line × (b ≡ Err (4, line))). absurd (marks-or-refused h.0 p.0 q.0 p.1 (subst (λ (z : List ℕ). RefusesMarks z q.0) (sym same) q.1)))
+    (λ (q : (rounds : List Round) × AcceptsMarks k.0 rounds × RunsTo n run rounds b).
+    let there : AcceptsMarks h.0 q.0 = subst (λ (z : List ℕ). AcceptsMarks z q.0) (sym same) q.1 in
+    let rounds : q.0 ≡ p.0 = ok_is there.read p.1.read in
+    mesh-ends bytes m n x y run p.0 a b p.2 (subst (λ (z : List Round). RunsTo n run z b) rounds q.2))
+    k.2)
     h.2
   where
     same : h.0 ≡ k.0

@@ -51,22 +51,22 @@ module _ (mesh : Mesh) (laws : Laws mesh) (pool : ℕ) where
   one-draw (suc left) number drawing old a b is x y =
       let lists : y.0 ≡ x.0 = same-leaves mesh old y.0 x.0 y.1 x.1 in
       ⊎_elim
-          (λ (p : Step mesh pool left number drawing old a x.0). ⊎_elim
-              (λ (q : Step mesh pool left number drawing old b y.0).
-              let r = subst (Step mesh pool left number drawing old b) lists q in
-              let states : p.0 ≡ r.0 = (same-round mesh laws old is (whole pool) (rows_for (level (shape_of mesh)) drawing x.0) p.0 r.0 p.1 r.1).0 in
-              one-draw left (number + 1) (after (level (shape_of mesh)) drawing x.0) p.0 a b (next-no-others mesh (whole pool) (rows_for (level (shape_of mesh)) drawing x.0) old p.0 p.1) p.2
-              (subst (λ (s : State). DrawsTo mesh pool left (number + 1) (after (level (shape_of mesh)) drawing x.0) s b) (sym states) r.2))
-              (λ (q : Stop mesh pool number drawing old b y.0). let r = subst (Stop mesh pool number drawing old b) lists q in absurd (apart old number drawing x.0 p.0 r.0 p.1 r.1))
-              y.2)
-          (λ (p : Stop mesh pool number drawing old a x.0). ⊎_elim
-              (λ (q : Step mesh pool left number drawing old b y.0). let r = subst (Step mesh pool left number drawing old b) lists q in absurd (apart old number drawing x.0 r.0 p.0 r.1 p.1))
-              (λ (q : Stop mesh pool number drawing old b y.0).
-              let r = subst (Stop mesh pool number drawing old b) lists q in
-              let faults : p.0 ≡ r.0 = one-full old number drawing x.0 p.0 r.0 p.1 r.1 in
-              p.2 ∙ (λ i. Err (faults i)) ∙ sym r.2)
-              y.2)
-          x.2
+      (λ (p : Step mesh pool left number drawing old a x.0). ⊎_elim
+      (λ (q : Step mesh pool left number drawing old b y.0).
+      let r = subst (Step mesh pool left number drawing old b) lists q in
+      let states : p.0 ≡ r.0 = (same-round mesh laws old is (whole pool) (rows_for (level (shape_of mesh)) drawing x.0) p.0 r.0 p.1 r.1).0 in
+      one-draw left (number + 1) (after (level (shape_of mesh)) drawing x.0) p.0 a b (next-no-others mesh (whole pool) (rows_for (level (shape_of mesh)) drawing x.0) old p.0 p.1) p.2
+      (subst (λ (s : State). DrawsTo mesh pool left (number + 1) (after (level (shape_of mesh)) drawing x.0) s b) (sym states) r.2))
+      (λ (q : Stop mesh pool number drawing old b y.0). let r = subst (Stop mesh pool number drawing old b) lists q in absurd (apart old number drawing x.0 p.0 r.0 p.1 r.1))
+      y.2)
+      (λ (p : Stop mesh pool number drawing old a x.0). ⊎_elim
+      (λ (q : Step mesh pool left number drawing old b y.0). let r = subst (Step mesh pool left number drawing old b) lists q in absurd (apart old number drawing x.0 r.0 p.0 r.1 p.1))
+      (λ (q : Stop mesh pool number drawing old b y.0).
+      let r = subst (Stop mesh pool number drawing old b) lists q in
+      let faults : p.0 ≡ r.0 = one-full old number drawing x.0 p.0 r.0 p.1 r.1 in
+      p.2 ∙ (λ i. Err (faults i)) ∙ sym r.2)
+      y.2)
+      x.2
 
 -- drawn rounds lead to the same on meshes that are alike
 draw-as : (mesh : Mesh) (from to : List (List ℤ)) (pool left number : ℕ) (drawing : Drawing) (old : State) (end : Result State Fault) → DrawsTo (relabelled mesh from) pool left number drawing old end → DrawsTo (relabelled mesh to) pool left number drawing old end
