@@ -1,18 +1,11 @@
 -- A macro text is refused by the check for one cause.
-use Rattle.std.proofs.Common.{◌≡◌, ℕ, zero, suc, ◌+◌, ◌*◌, ◌<◌, ◌≤◌, ◌⊎◌, ℤ, Bool, true, false, refl, sym, ap, ◌∙◌, subst, List, [], ◌∷◌, length, map, inl, inr, ⊎_elim, arith}
-use Rattle.std.specs.Prelude.{pos, ◌+ℤ◌, slice_get, slice_index_or, Option, Some, None}
+use Rattle.std.proofs.Common.{◌≡◌, ℕ, ◌<◌, ◌≤◌, sym, ap, ◌∙◌, subst, List, length, inl, inr, ⊎_elim, arith}
+use Rattle.std.specs.Prelude.{pos, slice_index_or, Some}
 use Rattle.std.proofs.lemmas.Bool.{cases_lt}
-use Rattle.std.proofs.lemmas.Int.{ints}
-use Rattle.std.proofs.lemmas.List.{length-map}
 use Rattle.mesh_names.specs.Triangles.{Triple}
-use Rattle.mesh_names.specs.Partners.{Edge}
-use Rattle.mesh_names.specs.Validity.{IsTwin, Shares, ends_of, is_refined, across_of}
-use Rattle.macro_file.specs.Meaning.{Vertex, Element, Macro}
-use Rattle.macro_file.specs.Text.{element_of, macro_of, vertex_of}
-use Rattle.macro_file.specs.declared.text.MacroElem.{MacroElem}
+use Rattle.mesh_names.specs.Validity.{IsTwin, ends_of}
 use Rattle.macro_file.specs.declared.text.MacroText.{MacroText}
-use Rattle.macro_file.specs.declared.text.MacroVertex.{MacroVertex}
-use Rattle.compat_check.specs.Checks.{AreFirstTwins, AreGradesOf, Fits, FitsUpTo, HasTwinBefore, IsCheckRefusal, IsEdgeBefore, IsFirstEdge, IsTooHigh, bare, triples_of}
+use Rattle.compat_check.specs.Checks.{AreFirstTwins, AreGradesOf, FitsUpTo, HasTwinBefore, IsCheckRefusal, IsFirstEdge, IsTooHigh, triples_of}
 use Rattle.compat_check.specs.Faults.{IsFirst, triple_in}
 use Rattle.compat_check.specs.Meshes.{edge_of}
 use Rattle.compat_check.specs.declared.refusal.CheckRefusal.{CheckRefusal}

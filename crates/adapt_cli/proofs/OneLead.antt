@@ -1,6 +1,6 @@
 -- Rounds lead from a state to one end.
-use Rattle.std.proofs.Common.{◌≡◌, ℕ, refl, sym, ap, ◌∙◌, subst, List, [], ◌∷◌, ⊎_elim, arith}
-use Rattle.std.specs.Prelude.{Option, Some, None, Result, Ok, Err, min}
+use Rattle.std.proofs.Common.{◌≡◌, ℕ, sym, ap, ◌∙◌, subst, List, [], ◌∷◌, ⊎_elim, arith}
+use Rattle.std.specs.Prelude.{Some, None, Result, Err, min}
 use Rattle.mesh_names.specs.Triangles.{Shape}
 use Rattle.mesh_names.specs.Partners.{Across}
 use Rattle.mesh_names.specs.Forests.{Names}
@@ -14,7 +14,7 @@ use Rattle.forest_plain.proofs.OneAnswer.{count-same, fine-or-refused, first_is_
 use Rattle.mark_file.specs.Meaning.{Round}
 use Rattle.mesh_rounds.specs.State.{IsMeshRound, State}
 use Rattle.mesh_rounds.proofs.OneState.{HasNoOthers, next-no-others, same-round}
-use Rattle.adapt_cli.specs.FaultTexts.{Fault, full_pool, round_fault}
+use Rattle.adapt_cli.specs.FaultTexts.{Fault, round_fault}
 use Rattle.adapt_cli.specs.Rounds.{LeadTo, Refuses, preceded, whole}
 
 pub some_is : {A : Type 0} {a b : A} → Some a ≡ Some b → a ≡ b

@@ -1,30 +1,25 @@
 -- A run has one outcome.
-use Rattle.std.proofs.Common.{◌≡◌, ℕ, ◌<◌, ◌≤◌, ◌+◌, ℤ, Bool, true, false, refl, sym, ap, ◌∙◌, subst, List, [], ◌∷◌, ◌++◌, length, ⊎_elim, inl, inr, arith}
-use Rattle.std.specs.Prelude.{Option, Some, None, Result, Ok, Err}
-use Rattle.std.specs.FinMap.{get}
+use Rattle.std.proofs.Common.{◌≡◌, ℕ, ◌<◌, ◌+◌, ℤ, Bool, true, false, refl, sym, ap, ◌∙◌, subst, List, [], ◌∷◌, ◌++◌, ⊎_elim, inl, inr, arith}
+use Rattle.std.specs.Prelude.{Some, Result, Ok, Err}
 use Rattle.mesh_io.specs.Shelves.{Files}
-use Rattle.mesh_names.specs.Names.{Name}
-use Rattle.macro_file.specs.Meaning.{Macro, meaning}
 use Rattle.macro_file.specs.Text.{macro_of}
 use Rattle.macro_file.specs.declared.text.MacroText.{MacroText}
-use Rattle.macro_file.specs.declared.refusal.MacroRefusal.{MacroRefusal}
 use Rattle.compat_check.specs.Checks.{IsCheckRefusal}
 use Rattle.compat_check.specs.Meshes.{Mesh}
 use Rattle.compat_check.specs.declared.refusal.CheckRefusal.{CheckRefusal}
 use Rattle.compat_check.specs.declared.refusal.CheckRefusal.TheVariants.{VertexRange, RepeatedVertex, Flat, TwinElements, EdgeOfThree, NeighboursDiffer, Incompatible, GradeTooHigh, Memory}
 use Rattle.dof_transfer.proofs.NamedVertices.{Laws}
-use Rattle.mark_file.specs.Meaning.{Round, marks_meaning}
-use Rattle.mark_file.specs.declared.refusal.MarkRefusal.{MarkRefusal}
+use Rattle.mark_file.specs.Meaning.{Round}
 use Rattle.mesh_rounds.specs.State.{IsFirst, State}
 use Rattle.mesh_rounds.proofs.Relabelled.{relabelled}
 use Rattle.mesh_rounds.proofs.OneState.{first-no-others, first_is_one}
 use Rattle.adapt_words.specs.Numbers.{Word}
 use Rattle.adapt_words.specs.Rounds.{RunWords}
 use Rattle.adapt_cli.specs.FaultTexts.{End, Fault, check_line, macro_line, marks_line}
-use Rattle.adapt_cli.specs.InputFiles.{AcceptsMacro, AcceptsMarks, AcceptsText, IsMisread, IsTooLong, IsUnmarked, RefusesMacro, RefusesMarks, RefusesText, TellsCheck}
-use Rattle.adapt_cli.specs.Loads.{Follows, Loads}
+use Rattle.adapt_cli.specs.InputFiles.{AcceptsMacro, AcceptsMarks, AcceptsText, RefusesMacro, RefusesMarks, RefusesText}
+use Rattle.adapt_cli.specs.Loads.{Loads}
 use Rattle.adapt_cli.specs.OneOutcome.{OneRun}
-use Rattle.adapt_cli.specs.Outcome.{LoadsMarks, RunLeads, RunsTo}
+use Rattle.adapt_cli.specs.Outcome.{LoadsMarks, RunsTo}
 use Rattle.adapt_cli.specs.Reports.{IsOutput, IsReport, round_line}
 use Rattle.adapt_cli.specs.Rounds.{LeadTo, last_state}
 use Rattle.adapt_cli.proofs.OneCause.{kind, one-cause}

@@ -1,5 +1,5 @@
 -- A soak has one outcome.
-use Rattle.std.proofs.Common.{◌≡◌, ℕ, zero, suc, ◌+◌, ℤ, refl, sym, ap, ◌∙◌, subst, List, ⊎_elim, inl, inr, arith}
+use Rattle.std.proofs.Common.{◌≡◌, ℕ, zero, suc, ◌+◌, ℤ, sym, ap, ◌∙◌, subst, List, ⊎_elim, inl, inr, arith}
 use Rattle.std.specs.Prelude.{Result, Ok, Err, min, length}
 use Rattle.mesh_names.specs.Names.{Name}
 use Rattle.mesh_names.specs.Triangles.{level}
@@ -8,7 +8,7 @@ use Rattle.mesh_names.specs.Patches.{patch_count}
 use Rattle.mesh_names.proofs.Lists.{lists_are_one}
 use Rattle.compat_check.specs.Meshes.{Mesh, across_in, label_of, shape_of}
 use Rattle.dof_transfer.proofs.NamedVertices.{Laws}
-use Rattle.forest_plain.proofs.OneAnswer.{count-same, fine-or-refused}
+use Rattle.forest_plain.proofs.OneAnswer.{count-same}
 use Rattle.mesh_writer.specs.MeshText.{IsMeshText}
 use Rattle.mesh_rounds.specs.State.{IsFirst, IsMeshRound, State}
 use Rattle.mesh_rounds.specs.Texts.{AreLeaves, IsTextOfState, vertex_count}
@@ -16,10 +16,10 @@ use Rattle.mesh_rounds.proofs.OneState.{HasNoOthers, first-no-others, first_is_o
 use Rattle.mesh_rounds.proofs.Relabelled.{first-as, relabelled, round-as, text-as}
 use Rattle.soak.specs.Rows.{Drawing, after, rows_for}
 use Rattle.adapt_words.specs.Rounds.{SoakWords}
-use Rattle.adapt_cli.specs.FaultTexts.{End, Fault, full_pool}
+use Rattle.adapt_cli.specs.FaultTexts.{Fault, full_pool}
 use Rattle.adapt_cli.specs.OneOutcome.{OneSoak}
 use Rattle.adapt_cli.specs.Rounds.{whole}
-use Rattle.adapt_cli.specs.Soaks.{DrawsTo, IsGridMesh, IsSoakOutcome, IsSoakText, Overfills, TellsOf, soak_line}
+use Rattle.adapt_cli.specs.Soaks.{DrawsTo, IsGridMesh, IsSoakText, Overfills, TellsOf, soak_line}
 use Rattle.adapt_cli.proofs.SameMeshes.{AreAlike, alike, owners-of}
 
 abbrev Step : Mesh → ℕ → ℕ → ℕ → Drawing → State → Result State Fault → List Name → Type 0

@@ -1,12 +1,11 @@
 -- A macro text has one mesh, but for labels that no edge has; rounds on it do not depend on these.
-use Rattle.std.proofs.Common.{◌≡◌, ℕ, ◌<◌, ◌≤◌, ◌⊎◌, ℤ, true, false, refl, sym, ap, ◌∙◌, subst, List, [], ◌∷◌, zero, suc, length, map, inl, inr, ⊎_elim, arith}
-use Rattle.std.specs.Prelude.{slice_index_or, pos, Ok, Err, Result}
+use Rattle.std.proofs.Common.{◌≡◌, ℕ, ◌<◌, ◌≤◌, ℤ, true, false, refl, sym, ap, ◌∙◌, subst, List, [], ◌∷◌, zero, suc, length, map, inl, inr, ⊎_elim, arith}
+use Rattle.std.specs.Prelude.{slice_index_or, pos, Err, Result}
 use Rattle.std.proofs.Props.{props}
 use mathlib.Core.HLevel.{is_prop→PathP}
 use Rattle.std.proofs.lemmas.Bool.{cases_lt}
 use Rattle.std.proofs.lemmas.List.{length-map}
 use Rattle.mesh_names.specs.Triangles.{size}
-use Rattle.mesh_names.specs.Partners.{Tells}
 use Rattle.mesh_names.proofs.Neighbours.{valid_tells}
 use Rattle.mesh_names.proofs.Only.{partner_is_only}
 use Rattle.mesh_names.proofs.Pairs.{partners_pair}
@@ -17,8 +16,8 @@ use Rattle.macro_file.specs.Text.{macro_of, vertex_of}
 use Rattle.macro_file.specs.declared.MacroVertex.{MacroVertex}
 use Rattle.macro_file.specs.declared.text.MacroElem.{MacroElem}
 use Rattle.macro_file.specs.declared.text.MacroText.{MacroText}
-use Rattle.compat_check.specs.Checks.{IsMeshOf, count_of, triples_of}
-use Rattle.compat_check.specs.Meshes.{Mesh, across_in, label_of, shape_of}
+use Rattle.compat_check.specs.Checks.{IsMeshOf}
+use Rattle.compat_check.specs.Meshes.{Mesh, label_of, shape_of}
 use Rattle.dof_transfer.proofs.NamedVertices.{Laws}
 use Rattle.mark_file.specs.Meaning.{Round}
 use Rattle.mesh_rounds.specs.State.{IsMeshRound, State}

@@ -1,6 +1,6 @@
 -- Texts that say the same are refused alike.
-use Rattle.std.proofs.Common.{◌≡◌, ℕ, zero, suc, ◌<◌, List, [], ◌∷◌, map, length, get_or, refl, sym, ap, ◌∙◌, subst}
-use Rattle.std.specs.Prelude.{ℤ, pos, Option, Some, None, slice_get, slice_index_or, true}
+use Rattle.std.proofs.Common.{◌≡◌, ℕ, zero, suc, List, [], ◌∷◌, map, length, get_or, refl, sym, ap, ◌∙◌, subst}
+use Rattle.std.specs.Prelude.{ℤ, pos, Some, None, slice_get, slice_index_or}
 use Rattle.std.proofs.lemmas.List.{length-map}
 use Rattle.macro_file.specs.declared.text.MacroElem.{MacroElem}
 use Rattle.macro_file.specs.declared.text.MacroVertex.{MacroVertex}
@@ -10,7 +10,7 @@ use Rattle.macro_file.specs.Text.{element_of, macro_of, vertex_of}
 use Rattle.mesh_names.specs.Triangles.{Triple, corner_of}
 use Rattle.mesh_names.specs.Validity.{across_of}
 use Rattle.compat_check.specs.Meshes.{edge_of}
-use Rattle.compat_check.specs.Checks.{AreFirstTwins, AtNoEdge, IsCheckRefusal, IsEdgeOfThree, IsFaultless, IsFirstEdge, IsTooHigh, IsUngradable, IsValidText, bare, count_of, neighbour_number, neighbours_of, triples_of}
+use Rattle.compat_check.specs.Checks.{AreFirstTwins, AtNoEdge, IsCheckRefusal, IsEdgeOfThree, IsFaultless, IsFirstEdge, IsTooHigh, IsUngradable, IsValidText, bare, neighbour_number, neighbours_of, triples_of}
 use Rattle.compat_check.specs.Faults.{AreSound, IsFirst, IsOutside, IsRepeated, doubled_area, point_at, triple_in}
 use Rattle.compat_check.specs.Twins.{TwinFree}
 use Rattle.compat_check.specs.declared.refusal.CheckRefusal.{CheckRefusal}
