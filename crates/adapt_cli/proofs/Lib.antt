@@ -20,3 +20,4 @@ pub mod OneCause
 pub mod SameTexts
 pub mod OneRun
 pub mod OneGrades
+pub mod OneFind

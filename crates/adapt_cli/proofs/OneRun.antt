@@ -28,17 +28,17 @@ use Rattle.adapt_cli.proofs.OneSoak.{first-alike, one-text, same-leaves, text-al
 use Rattle.adapt_cli.proofs.SameMeshes.{AreAlike, alike, leads-alike, owners-of}
 use Rattle.adapt_cli.proofs.SameTexts.{refused_same}
 
-ok_is : {A B : Type 0} {r : Result A B} {a b : A} → r ≡ Ok a → r ≡ Ok b → a ≡ b
+pub ok_is : {A B : Type 0} {r : Result A B} {a b : A} → r ≡ Ok a → r ≡ Ok b → a ≡ b
 ok_is p q = cc
 
-err_is : {A B : Type 0} {r : Result A B} {a b : B} → r ≡ Err a → r ≡ Err b → a ≡ b
+pub err_is : {A B : Type 0} {r : Result A B} {a b : B} → r ≡ Err a → r ≡ Err b → a ≡ b
 err_is p q = cc
 
-no_end : {A B : Type 0} {r : Result A B} {a : A} {b : B} → r ≡ Ok a → r ≡ Err b → ⊥
+pub no_end : {A B : Type 0} {r : Result A B} {a : A} {b : B} → r ≡ Ok a → r ≡ Err b → ⊥
 no_end p q = cc
 
 -- ---- files
-texts-same : (bytes : List ℕ) (t u : MacroText) → AcceptsText bytes t → AcceptsText bytes u → macro_of t ≡ macro_of u
+pub texts-same : (bytes : List ℕ) (t u : MacroText) → AcceptsText bytes t → AcceptsText bytes u → macro_of t ≡ macro_of u
 texts-same bytes t u x y = ok_is x.read y.read
 
 line-is : {line : List ℕ} (refusal : CheckRefusal) → check_line refusal ≡ Some line → kind refusal < 8
@@ -62,7 +62,7 @@ one-misread bytes a b (inl x) (inr y) = absurd (let long = x.long in let short =
 one-misread bytes a b (inr x) (inl y) = absurd (let long = y.long in let short = x.short in omega (arith, long, short))
 one-misread bytes a b (inr x) (inr y) = some_is (sym x.told ∙ ap macro_line (err_is x.read y.read) ∙ y.told)
 
-one-macro-line : (bytes a b : List ℕ) → RefusesMacro bytes a → RefusesMacro bytes b → a ≡ b
+pub one-macro-line : (bytes a b : List ℕ) → RefusesMacro bytes a → RefusesMacro bytes b → a ≡ b
 one-macro-line bytes a b (inl x) (inl y) = one-misread bytes a b x y
 one-macro-line bytes a b (inl x) (inr y) = absurd (text-or-refused bytes y.0 a y.1 x)
 one-macro-line bytes a b (inr x) (inl y) = absurd (text-or-refused bytes x.0 b x.1 y)
@@ -71,19 +71,19 @@ one-macro-line bytes a b (inr x) (inr y) =
     let cause : x.2.0 ≡ y.2.0 = one-cause x.0 x.2.0 y.2.0 (line-is x.2.0 x.2.2) (line-is y.2.0 y.2.2) x.2.1 there in
     some_is (sym x.2.2 ∙ ap check_line cause ∙ y.2.2)
 
-macro-or-refused : (bytes : List ℕ) (mesh : Mesh) (line : List ℕ) → AcceptsMacro bytes mesh → RefusesMacro bytes line → ⊥
+pub macro-or-refused : (bytes : List ℕ) (mesh : Mesh) (line : List ℕ) → AcceptsMacro bytes mesh → RefusesMacro bytes line → ⊥
 macro-or-refused bytes mesh line x (inl y) = text-or-refused bytes x.0 line x.1 y
 macro-or-refused bytes mesh line x (inr y) =
     let none = x.2.faultless y.2.0 (refused_same y.0 x.0 (texts-same bytes y.0 x.0 y.1 x.1) y.2.0 y.2.1) in
     no_fault (sym (ap check_line none) ∙ y.2.2)
 
-one-marks-line : (bytes a b : List ℕ) → RefusesMarks bytes a → RefusesMarks bytes b → a ≡ b
+pub one-marks-line : (bytes a b : List ℕ) → RefusesMarks bytes a → RefusesMarks bytes b → a ≡ b
 one-marks-line bytes a b (inl x) (inl y) = x.told ∙ sym y.told
 one-marks-line bytes a b (inl x) (inr y) = absurd (let long = x.long in let short = y.short in omega (arith, long, short))
 one-marks-line bytes a b (inr x) (inl y) = absurd (let long = y.long in let short = x.short in omega (arith, long, short))
 one-marks-line bytes a b (inr x) (inr y) = some_is (sym x.told ∙ ap marks_line (err_is x.read y.read) ∙ y.told)
 
-marks-or-refused : (bytes : List ℕ) (rounds : List Round) (line : List ℕ) → AcceptsMarks bytes rounds → RefusesMarks bytes line → ⊥
+pub marks-or-refused : (bytes : List ℕ) (rounds : List Round) (line : List ℕ) → AcceptsMarks bytes rounds → RefusesMarks bytes line → ⊥
 marks-or-refused bytes rounds line x (inl long) = let short = x.short in let over = long.long in omega (arith, short, over)
 marks-or-refused bytes rounds line x (inr none) = no_end x.read none.read
 

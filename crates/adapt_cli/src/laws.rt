@@ -1,7 +1,7 @@
 //! Laws over the definitions alone. Each function takes nothing and answers nothing: its
 //! contract is the law.
 ghost use Rattle.adapt_cli.specs.Continuing.{InterruptedAsWhole};
-ghost use Rattle.adapt_cli.specs.OneOutcome.{OneRun, OneSoak};
+ghost use Rattle.adapt_cli.specs.OneOutcome.{OneFinding, OneRun, OneSoak};
 ghost use Rattle.adapt_cli.specs.SoakEnds.{FaultsAreFullPools, SoaksEnd};
 
 /// Each fault of a soak is a full pool.
@@ -28,4 +28,9 @@ pub fn one_soak()
 /// A run, with a report or without, and its files have one outcome.
 pub fn one_run()
     ensures { OneRun }
+{}
+
+/// Finding and its files have one outcome.
+pub fn one_finding()
+    ensures { OneFinding }
 {}
