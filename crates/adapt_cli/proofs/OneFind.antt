@@ -1,8 +1,7 @@
 -- Finding has one outcome.
-use Rattle.std.proofs.Common.{◌≡◌, ℕ, ◌≤◌, ℤ, refl, sym, ap, ◌∙◌, subst, List, [], ◌∷◌, length, ⊎_elim, inl, inr, arith}
+use Rattle.std.proofs.Common.{◌≡◌, ℕ, ℤ, refl, sym, ap, ◌∙◌, subst, List, [], ◌∷◌, ⊎_elim, inl, inr, arith}
 use Rattle.std.specs.Prelude.{Option, Some, None, Result, Ok, Err}
 use Rattle.std.specs.List.{AllZip}
-use Rattle.std.specs.FinMap.{get}
 use Rattle.mesh_io.specs.Shelves.{Files}
 use Rattle.mesh_names.specs.Names.{Name}
 use Rattle.compat_check.specs.Meshes.{Mesh}
@@ -18,7 +17,7 @@ use Rattle.mesh_rounds.proofs.Relabelled.{relabelled}
 use Rattle.adapt_words.specs.Finding.{FindWords}
 use Rattle.adapt_words.specs.Numbers.{Word}
 use Rattle.adapt_cli.specs.FaultTexts.{End, Fault}
-use Rattle.adapt_cli.specs.Finding.{AcceptsPoints, FindLeads, FindsTo, LoadsPoints, RefusesPoints, points_line}
+use Rattle.adapt_cli.specs.Finding.{AcceptsPoints, FindsTo, LoadsPoints, RefusesPoints, points_line}
 use Rattle.adapt_cli.specs.InputFiles.{AcceptsMacro, AcceptsMarks, RefusesMacro, RefusesMarks}
 use Rattle.adapt_cli.specs.Loads.{Loads}
 use Rattle.adapt_cli.specs.OneOutcome.{OneFinding}
