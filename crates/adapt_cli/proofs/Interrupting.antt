@@ -1,8 +1,6 @@
 -- A run that is saved and resumed has the forest of the run that is not interrupted.
-use Rattle.std.proofs.Common.{◌≡◌, ℕ, refl, sym, ap, ◌∙◌, subst, List, [], ◌∷◌, ◌++◌, ⊎_elim}
+use Rattle.std.proofs.Common.{◌≡◌, ℕ, sym, ap, ◌∙◌, subst, List, [], ◌∷◌, ◌++◌, ⊎_elim}
 use Rattle.std.specs.Prelude.{Result, Ok, Err}
-use Rattle.std.specs.FinSet.{empty}
-use Rattle.mesh_names.specs.Names.{Name}
 use Rattle.mesh_names.specs.Triangles.{Shape}
 use Rattle.mesh_names.specs.Partners.{Across, Tells}
 use Rattle.mesh_names.specs.Forests.{Names}
@@ -12,13 +10,11 @@ use Rattle.mesh_names.proofs.Neighbours.{valid_tells}
 use Rattle.compat_check.specs.Meshes.{Mesh, across_in, shape_of}
 use Rattle.mark_file.specs.Meaning.{Round}
 use Rattle.forest_plain.specs.Rounds.{IsRoundBy}
-use Rattle.mesh_rounds.specs.SameRounds.{AreSameRows}
 use Rattle.mesh_rounds.specs.State.{IsMeshRound, State}
 use Rattle.mesh_rounds.proofs.OneRound.{rounds_end_at_one}
 use Rattle.restart_file.specs.Kept.{set_of}
-use Rattle.restart_file.specs.OneFile.{IsSameMesh}
 use Rattle.restart_file.proofs.OneFile.{restarts_are_one}
-use Rattle.adapt_cli.specs.Continuing.{AreSameRounds, InterruptedAsWhole, IsInterrupted, IsWholeRun}
+use Rattle.adapt_cli.specs.Continuing.{AreSameRounds, InterruptedAsWhole}
 use Rattle.adapt_cli.specs.FaultTexts.{Fault}
 use Rattle.adapt_cli.specs.Rounds.{LeadTo, Refuses, last_state, preceded, whole}
 

@@ -13,3 +13,11 @@ pub mod RestartOutcomes
 pub mod FindOutcomes
 pub mod ResumeOutcomes
 pub mod Interrupting
+pub mod SameMeshes
+pub mod OneLead
+pub mod OneSoak
+pub mod OneCause
+pub mod SameTexts
+pub mod OneRun
+pub mod OneGrades
+pub mod OneFind

@@ -14,3 +14,4 @@ pub mod Restarts
 pub mod Finding
 pub mod Resuming
 pub mod Continuing
+pub mod OneOutcome

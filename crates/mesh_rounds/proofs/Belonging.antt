@@ -1,5 +1,5 @@
 -- A state, as a fact of which there is no more than one proof.
-use Rattle.std.proofs.Common.{◌≡◌, ℤ, true, false, refl, sym, subst, true≢false, Option, Some, None}
+use Rattle.std.proofs.Common.{◌≡◌, ℤ, refl, sym, subst, true≢false, Option, Some, None}
 use Rattle.std.specs.Prelude.{◌≢◌, IsSome, IfErr, OnOk, Result, Ok, Err}
 use Rattle.compat_check.specs.Meshes.{Mesh}
 use Rattle.dof_transfer.specs.VertexValues.{value_at}

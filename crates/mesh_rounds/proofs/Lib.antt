@@ -22,3 +22,5 @@ pub mod GivenWhole
 pub mod OneRound
 pub mod Texts
 pub mod Belonging
+pub mod OneState
+pub mod Relabelled

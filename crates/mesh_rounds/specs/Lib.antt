@@ -7,3 +7,4 @@ pub mod Resumed
 pub mod SameRounds
 pub mod Texts
 pub mod Adaptive
+pub mod OneState

@@ -1,6 +1,7 @@
 //! Laws over the definitions alone. Each function takes nothing and answers nothing: its
 //! contract is the law.
 ghost use Rattle.mesh_rounds.specs.ForestValues.{ElementsStay, FirstElements, FirstVertices, VerticesStay};
+ghost use Rattle.mesh_rounds.specs.OneState.{FirstIsOne, NextIsOne, TextIsOne};
 ghost use Rattle.mesh_rounds.specs.SameRounds.{RoundsChangeAlike, RoundsEndAtOne};
 ghost use Rattle.mesh_rounds.specs.RoundChanges.{BornAreLow, BornArePairs, BornAreRooted, DiedAreParents, NewHoldsPartners, NewIsForest, RoundsAreChanges, RoundsAreTransitions, RoundsCanBeFollowed};
 
@@ -65,4 +66,19 @@ pub fn rounds_end_at_one()
 /// Rounds whose rows say the same bisect and take away the same patches of a forest, in the same order.
 pub fn rounds_change_alike()
     ensures { RoundsChangeAlike }
+{}
+
+/// A mesh has one state before any round.
+pub fn first_is_one()
+    ensures { FirstIsOne }
+{}
+
+/// A round that is done leads from a state to one state, by the same patches in the same order.
+pub fn next_is_one()
+    ensures { NextIsOne }
+{}
+
+/// A mesh has one text in a state.
+pub fn text_is_one()
+    ensures { TextIsOne }
 {}

@@ -67,7 +67,7 @@ module _ (t u : MacroText) (same : macro_of t ≡ macro_of u) (m n : Mesh) (of_t
           ∙ ap (λ (s : Shape). made_label (across_of s r (edge_of k))) shape_same
           ∙ sym ((of_u.made (sym flag ∙ h)).1 r k (subst (λ (s : Shape). r < size s) shape_same hr) hk)
 
-  mesh_same : IsSameMesh m n
+  pub mesh_same : IsSameMesh m n
   mesh_same = record {
     vertices = ap (map vertex_of) of_t.vertices ∙ ap (λ (x : Macro). x.vertices) same ∙ sym (ap (map vertex_of) of_u.vertices);
     shape = shape_same;

@@ -1,6 +1,5 @@
 use Rattle.std.proofs.Common.{arith}
-use Rattle.adapt_words.specs.Restarts.{resume_said}
-use Rattle.adapt_cli.proofs.ResumeOutcomes.{can_go_on, resume_full, resume_without}
+use Rattle.adapt_cli.proofs.ResumeOutcomes.{can_go_on}
 use Rattle.adapt_cli.proofs.resuming.go_on.Goals as goal
 
 pub make_rounds-requires-clause-can : goal.make_rounds-requires-clause-can
