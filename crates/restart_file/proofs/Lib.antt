@@ -7,6 +7,7 @@ pub mod Elements
 pub mod Parsing
 pub mod Heading
 pub mod Searching
+pub mod Windowing
 pub mod Files
 pub mod Accepting
 pub mod OneFile

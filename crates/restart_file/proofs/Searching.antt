@@ -20,10 +20,10 @@ use Rattle.restart_file.specs.Parts.{HoldsAllPartners}
 use Rattle.restart_file.proofs.Merging.{behind, tail_sorted}
 use Rattle.restart_file.proofs.Orders.{not_before}
 
-abbrev Sorted : List Name → Type 0
+abbrev pub Sorted : List Name → Type 0
 Sorted ks = IsStrictlySortedBy name_cmp ks
 
-sorted_at : (xs : List Name) (i j : ℕ) (d : Name) → Sorted xs → i < j → j < length xs → name_cmp (get_or xs i d) (get_or xs j d) ≡ Less
+pub sorted_at : (xs : List Name) (i j : ℕ) (d : Name) → Sorted xs → i < j → j < length xs → name_cmp (get_or xs i d) (get_or xs j d) ≡ Less
 sorted_at [] i j d s h k = absurd (omega (arith, k))
 sorted_at (x ∷ xs) i zero d s h k = absurd (omega (arith, h))
 sorted_at (x ∷ xs) zero (suc j) d s h k = behind x xs s (get_or xs j d) (item-in xs j d (omega (arith, k)))
@@ -56,7 +56,7 @@ non_decreasing xs q s i j d h k = ⊎_elim
     equal_or_less (suc a) (suc b) h = ⊎_elim (λ (e : a ≡ b). inl (ap suc e)) (λ (l : a < b). inr (omega arith)) (equal_or_less a b (omega (arith, h)))
 
 -- where a name of a list stands
-place_of : (xs : List Name) (q : Name) → In q xs → (k : ℕ) × (k < length xs) × (get_or xs k q ≡ q)
+pub place_of : (xs : List Name) (q : Name) → In q xs → (k : ℕ) × (k < length xs) × (get_or xs k q ≡ q)
 place_of [] q i = absurd i
 place_of (x ∷ xs) q i = ⊎_elim (λ (e : q ≡ x). (0, omega arith, sym e)) (λ (j : In q xs). let r = place_of xs q j in (suc r.0, omega (arith, r.1), r.2)) i
 
@@ -121,7 +121,7 @@ none_more x xs i n inside e none last m h a =
     (λ j. ⊎_elim (λ (q : m ≡ n). last (subst (λ (y : Name). IsAlone x (set_of xs) y) q a)) (λ f. absurd f) j)
     (in-append m (take i xs) (n ∷ []) (subst (λ (l : List Name). In m l) more (has-in m (take (i + 1) xs) h)))
 
-drop_sorted : (xs : List Name) (i : ℕ) → Sorted xs → Sorted (drop i xs)
+pub drop_sorted : (xs : List Name) (i : ℕ) → Sorted xs → Sorted (drop i xs)
 drop_sorted xs zero s = s
 drop_sorted [] (suc i) s = s
 drop_sorted (x ∷ xs) (suc i) s = drop_sorted xs i (tail_sorted x xs s)

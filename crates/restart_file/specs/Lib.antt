@@ -5,6 +5,7 @@ pub mod Walks
 pub mod Files
 pub mod Heads
 pub mod Refusals
+pub mod Windows
 pub mod Lines
 pub mod Parts
 pub mod OneFile

@@ -6,6 +6,7 @@ mod head;
 mod joining;
 pub mod laws;
 mod lines;
+mod members;
 mod reading;
 mod refusal;
 #[cfg(test)]

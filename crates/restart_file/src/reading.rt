@@ -15,6 +15,7 @@ ghost use Rattle.restart_file.specs.Parts.{AreLinesRead, HoldsAllPartners, IsPar
 
 use crate::head::read_head;
 use crate::lines::read_line;
+use crate::members::is_member;
 use crate::refusal::RestartRefusal;
 use compat_check::{CheckRefusal, MacroMesh, check};
 use macro_file::{MacroRefusal, MacroText, read_macro};
@@ -106,8 +107,8 @@ fn read_lines(
     Ok(members)
 }
 
-// Whether the name has a partner, which is none of the members.
-fn is_alone(mesh: &MacroMesh, members: &[ElemName], name: ElemName) -> bool
+// Whether the name has a partner, which is none of the members. It is looked for near a place.
+fn is_alone(mesh: &MacroMesh, members: &[ElemName], name: ElemName, near: &mut usize) -> bool
     requires in_order { IsStrictlySortedBy name_cmp members.now }
     requires root { name.0 < size (shape_of mesh.now) }
     requires level { level (shape_of mesh.now) name ≤ 24 }
@@ -115,7 +116,7 @@ fn is_alone(mesh: &MacroMesh, members: &[ElemName], name: ElemName) -> bool
 {
     match mesh.partner(name) {
         None => false,
-        Some(partner) => members.binary_search(&partner).is_err(),
+        Some(partner) => !is_member(members, partner, near),
     }
 }
 
@@ -125,8 +126,9 @@ fn first_alone(mesh: &MacroMesh, members: &[ElemName]) -> Option<ElemName>
     requires forest { IsForest (shape_of mesh.now) (set_of members.now) }
     ensures { MatchOption result (HoldsAllPartners (across_in mesh.now) (set_of members.now)) (IsFirstAlone (across_in mesh.now) (set_of members.now)) }
 {
+    let mut near = 0;
     for name in members {
-        if is_alone(mesh, members, *name) {
+        if is_alone(mesh, members, *name, &mut near) {
             return Some(*name);
         }
     }
