@@ -3,9 +3,11 @@ ghost use Rattle.std.specs.Prelude.{IfOk};
 ghost use Rattle.restart_file.specs.Joined.{KeepsForest};
 
 use crate::joining::join;
+use crate::members::is_member;
 use crate::reading::{Restart, read_restart};
 use crate::refusal::RestartRefusal;
 use crate::writing::put_restart;
+use mesh_names::name::ElemName;
 use std::alloc::{AllocError, Global};
 use std::test::Fail;
 
@@ -90,6 +92,26 @@ fn deep_word(alloc: Global, depth: usize) -> Result<String, AllocError> {
     }
     word.push_str("0\n100\n")?;
     Ok(word)
+}
+
+// Whether a name is found among the members from this place.
+fn is_found(kept: &Restart, name: ElemName, start: usize) -> bool
+    requires { KeepsForest kept.now.macro_bytes.items kept.now.mesh kept.now.members.items }
+{
+    let mut near = start;
+    is_member(&kept.members, name, &mut near)
+}
+
+// Whether all members are found from this place.
+fn all_are_found(kept: &Restart, start: usize) -> bool
+    requires { KeepsForest kept.now.macro_bytes.items kept.now.mesh kept.now.members.items }
+{
+    for name in &kept.members {
+        if !is_found(kept, *name, start) {
+            return false;
+        }
+    }
+    true
 }
 
 #[test]
@@ -232,6 +254,19 @@ fn a_file_that_is_cut_anywhere_is_refused(rt: HostRuntime) -> Result<(), Fail> {
     let file = file(alloc, SQUARE, "100\n100\n")?;
     for end in 0..file.len() {
         assert!(rt; read(alloc, &file.as_bytes()[..end]).is_err());
+    }
+    Ok(())
+}
+
+#[test]
+fn members_are_found_from_every_place(rt: HostRuntime) -> Result<(), Fail> {
+    let alloc = rt.alloc();
+    let kept = square(alloc, "1100100\n11000\n")?;
+    let leaf = ElemName::top(0).child_at(false).child_at(true);
+    for start in 0..8 {
+        assert!(rt; all_are_found(&kept, start));
+        assert!(rt; !is_found(&kept, leaf, start));
+        assert!(rt; !is_found(&kept, ElemName::top(2), start));
     }
     Ok(())
 }
