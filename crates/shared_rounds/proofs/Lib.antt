@@ -9,3 +9,4 @@ pub mod Failing
 pub mod Halves
 pub mod Covering
 pub mod Keeping
+pub mod Dealing

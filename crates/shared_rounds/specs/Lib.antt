@@ -4,3 +4,4 @@ pub mod Gathered
 pub mod Reached
 pub mod Refining
 pub mod Room
+pub mod SecondHalf

@@ -4,6 +4,9 @@
 pub mod answers;
 pub mod gathering;
 pub mod half;
+pub mod late_draft;
+pub mod late_half;
+pub mod late_room;
 pub mod looks;
 pub mod needs;
 pub mod refining;
