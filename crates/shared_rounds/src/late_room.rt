@@ -113,8 +113,8 @@ impl LateRoom {
             lists: Lists::with_room(alloc, 0)?,
             retired: Vec::with_capacity(alloc, count)?,
             left: Vec::with_capacity(alloc, count)?,
-            blocks: Vec::with_capacity(alloc, count.saturating_mul(2))?,
-            patches: Vec::with_capacity(alloc, count.saturating_mul(2))?,
+            blocks: Vec::with_capacity(alloc, count + count)?,
+            patches: Vec::with_capacity(alloc, count + count)?,
         })
     }
 }
