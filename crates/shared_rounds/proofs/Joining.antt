@@ -65,16 +65,16 @@ module _ (mesh : Shape) (x : Across) where
 abbrev view_of : Task → Sight
 view_of t = sight t.pass.seat
 
-joined_kind : (v : Sight) (ws : List Sight) → (joined_all v ws).kind ≡ v.kind
+pub joined_kind : (v : Sight) (ws : List Sight) → (joined_all v ws).kind ≡ v.kind
 joined_kind v [] = refl
 joined_kind v (w ∷ ws) = joined_kind v ws
 
-joined_ruling : (v : Sight) (ws : List Sight) → (joined_all v ws).ruling ≡ record v.ruling { workers = v.ruling.workers - length ws; lone = (joined_all v ws).ruling.lone }
+pub joined_ruling : (v : Sight) (ws : List Sight) → (joined_all v ws).ruling ≡ record v.ruling { workers = v.ruling.workers - length ws; lone = (joined_all v ws).ruling.lone }
 joined_ruling v [] = let e : v.ruling.workers ≡ v.ruling.workers - 0 = omega arith in ap (λ (n : ℕ). record v.ruling { workers = n }) e
 joined_ruling v (w ∷ ws) = let e : v.ruling.workers - length ws - 1 ≡ v.ruling.workers - suc (length ws) = omega arith in
     ap (λ (r : Ruling). record r { workers = r.workers - 1; lone = false }) (joined_ruling v ws) ∙ ap (λ (n : ℕ). record v.ruling { workers = n; lone = false }) e
 
-joined_alone : (v : Sight) (ws : List Sight) → v.ruling.lone ≡ false → (joined_all v ws).ruling.lone ≡ false
+pub joined_alone : (v : Sight) (ws : List Sight) → v.ruling.lone ≡ false → (joined_all v ws).ruling.lone ≡ false
 joined_alone v [] e = e
 joined_alone v (w ∷ ws) e = refl
 
@@ -122,7 +122,7 @@ task_reached k v t u done more living =
     )
 
 -- the lists of a pass have blocks and places of the table
-all_entry : {A : Type 0} (P : A → Type 0) (xs : List A) (a : A) → All P xs → HasEntry xs a → P a
+pub all_entry : {A : Type 0} (P : A → Type 0) (xs : List A) (a : A) → All P xs → HasEntry xs a → P a
 all_entry P [] a h e = absurd e
 all_entry P (x ∷ xs) a h (inl e) = subst P (sym e) (All-head P x xs h)
 all_entry P (x ∷ xs) a h (inr e) = all_entry P xs a (All-tail P x xs h) e
@@ -166,14 +166,14 @@ pub all_reversed : {A : Type 0} (P : A → Type 0) (xs : List A) → All P xs �
 all_reversed P [] h = All-nil P
 all_reversed P (x ∷ xs) h = subst (All P) (sym (reversed x xs)) (All-push P (reverse xs) x (all_reversed P xs (All-tail P x xs h)) (All-head P x xs h))
 
-map_reversed : {A B : Type 0} (f : A → B) (xs : List A) → map f (reverse xs) ≡ reverse (map f xs)
+pub map_reversed : {A B : Type 0} (f : A → B) (xs : List A) → map f (reverse xs) ≡ reverse (map f xs)
 map_reversed f [] = refl
 map_reversed f (x ∷ xs) = ap (map f) (reversed x xs) ∙ map-append f (reverse xs) (x ∷ []) ∙ (λ i. map_reversed f xs i ++ f x ∷ []) ∙ sym (reversed (f x) (map f xs))
 
-first_same : {A : Type 0} {a b : A} {xs ys : List A} → a ∷ xs ≡ b ∷ ys → a ≡ b
+pub first_same : {A : Type 0} {a b : A} {xs ys : List A} → a ∷ xs ≡ b ∷ ys → a ≡ b
 first_same e = cc
 
-rest_same : {A : Type 0} {a b : A} {xs ys : List A} → a ∷ xs ≡ b ∷ ys → xs ≡ ys
+pub rest_same : {A : Type 0} {a b : A} {xs ys : List A} → a ∷ xs ≡ b ∷ ys → xs ≡ ys
 rest_same e = cc
 
 -- the joined passes are those of the tasks

@@ -10,3 +10,4 @@ pub mod Halves
 pub mod Covering
 pub mod Keeping
 pub mod Dealing
+pub mod Coarsening

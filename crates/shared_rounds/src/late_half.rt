@@ -84,7 +84,7 @@ fn any_left(joined: &[LateJoined]) -> bool
     ensures none { result ≡ false → All (λ d. d.left.items ≡ []) joined.now }
 {
     for pass in joined {
-        if !pass.left.is_empty() {
+        if pass.left.len() > 0 {
             return true;
         }
     }
