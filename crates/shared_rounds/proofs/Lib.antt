@@ -11,3 +11,5 @@ pub mod Covering
 pub mod Keeping
 pub mod Dealing
 pub mod Coarsening
+pub mod Shares
+pub mod Closing

@@ -1,4 +1,4 @@
-use Rattle.std.proofs.Common.{◌≡◌, [], List, All, ℕ, sym, ap, ◌∙◌, subst}
+use Rattle.std.proofs.Common.{◌≡◌, [], List, All, ℕ, slice_index_or, sym, ap, ◌∙◌, subst}
 use Rattle.table_words.specs.Entries.{HasEntry}
 use Rattle.table_words.specs.NameWords.{name_code}
 use Rattle.mesh_table.specs.Sights.{setup_at}
@@ -10,7 +10,7 @@ use Rattle.shared_rounds.proofs.late_half.finish_left.Goals as goal
 pub finish_late-requires-clause-patches : goal.finish_late-requires-clause-patches
 finish_late-requires-clause-patches g c = λ k d l.
     let p = c.requires.retire.patches k d l in
-    (p.0, p.1, subst (λ (xs : List ℕ). HasEntry xs _) (sym c.requires.planned) (first_entry c.args.retire.now k d l))
+    (p.0, p.1, subst (λ (xs : List ℕ). HasEntry xs (name_code (slice_index_or c.args.retire.now k d).first)) (sym c.requires.planned) (first_entry c.args.retire.now k d l))
 
 pub returns-then-any_left-clause-gone : goal.returns-then-any_left-clause-gone
 returns-then-any_left-clause-gone g c = ?
