@@ -84,7 +84,7 @@ late_joined s k u v ts us ds done e ep er claims blocks gone = record {
     count : length (map late_view us) ≡ length ds
     count = length-map us late_view ∙ sym (length-map us (λ (t : LateTask). t.patches.items)) ∙ sym (length-reverse (map (λ (t : LateTask). t.patches.items) us)) ∙ sym (ap length ep) ∙ length-map ds (λ (d : LateJoined). d.patches.items)
 
-abbrev retired_by : List LateJoined → List (List ℕ)
+abbrev pub retired_by : List LateJoined → List (List ℕ)
 retired_by ds = map (λ (d : LateJoined). d.retired.items) ds
 
 -- the blocks of lists one after the other

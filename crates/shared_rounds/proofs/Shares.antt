@@ -10,7 +10,7 @@ use Rattle.shared_rounds.specs.SecondHalf.{count_patches}
 use Rattle.shared_rounds.proofs.Joining.{reversed}
 
 pub count_both : (xs ys : List (List PatchName)) → count_patches (xs ++ ys) ≡ count_patches xs + count_patches ys
-count_both [] ys = refl
+count_both [] ys = omega arith
 count_both (x ∷ xs) ys = let e = count_both xs ys in omega arith
 
 pub count_reversed : (xs : List (List PatchName)) → count_patches (reverse xs) ≡ count_patches xs
