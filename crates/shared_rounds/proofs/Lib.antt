@@ -13,3 +13,4 @@ pub mod Dealing
 pub mod Coarsening
 pub mod Shares
 pub mod Closing
+pub mod Ending

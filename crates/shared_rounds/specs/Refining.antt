@@ -3,7 +3,7 @@ use Rattle.std.specs.Prelude.{◌≡◌, ℕ, ◌+◌, false, List, [], ◌∷�
 use Rattle.mesh_names.specs.Names.{Name}
 use Rattle.mesh_names.specs.Partners.{Across}
 use Rattle.mesh_names.specs.Triangles.{Shape}
-use Rattle.table_words.specs.Views.{Owner, Resting}
+use Rattle.table_words.specs.Views.{Owner, Plan, Resting}
 use Rattle.mesh_table.specs.Crews.{plan_for}
 use Rattle.mesh_table.specs.Sights.{Sight}
 
@@ -31,3 +31,13 @@ pub record HasRolledBack (u v : Sight) : Type 0 where
   pub between : IsBetween v
   pub history : v.ruling.history ≡ u.ruling.history
   pub finished : v.ruling.finished ≡ u.ruling.finished
+
+-- the round is finished with this forest, which comes after those of the rounds before
+pub record HasFinished (u v : Sight) (forest : List ℕ) : Type 0 where
+  pub between : IsBetween v
+  pub history : v.ruling.history ≡ u.ruling.history ++ forest ∷ []
+  pub finished : v.ruling.finished ≡ u.ruling.finished + 1
+
+-- the lists of a round that needs these names and is to retire the patches of these first members
+abbrev pub plan_with : Shape → Across → Sight → List Name → List ℕ → Plan
+plan_with mesh x v needs retire = record (plan_for mesh x v needs) { retire = retire }

@@ -2,6 +2,7 @@
 //! Rounds of the shared table with workers: names are dealt out among passes, which work in threads and are joined, and worker 0 finishes what they put off; a round that coarsens nothing is finished, or rolled back.
 
 pub mod answers;
+pub mod full;
 pub mod gathering;
 pub mod half;
 pub mod late_draft;

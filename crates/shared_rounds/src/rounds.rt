@@ -36,7 +36,7 @@ pub enum RoundEnd {
 }
 
 // The round is rolled back.
-fn withdraw(table: &MeshTable, owner: &mut OwnerSeat, stock: &mut Stock, held: &[Held])
+pub(crate) fn withdraw(table: &MeshTable, owner: &mut OwnerSeat, stock: &mut Stock, held: &[Held])
     requires fit { IsOf table.now.table.shared.table_id owner.old.seat }
     requires may { MayRefuse (sight owner.old.seat) }
     requires room { stock.old.finished < table.now.site.layout.rounds }
