@@ -1,9 +1,17 @@
 -- The end of a round whose second half is through.
 use Rattle.std.proofs.Common.{◌≡◌, ℕ, ◌+◌, ◌++◌, ◌∷◌, List, [], false, refl, sym, ap, ◌∙◌, subst}
+use Rattle.mesh_names.specs.Names.{Name}
+use Rattle.mesh_names.specs.Partners.{Across}
+use Rattle.mesh_names.specs.Triangles.{Shape}
+use Rattle.mesh_names.specs.declared.patch.PatchName.{PatchName}
+use Rattle.table_state.specs.Lists.{IsListed}
+use Rattle.mesh_table.specs.Crews.{plan_for}
+use Rattle.mesh_table.specs.Passes.{begun}
+use Rattle.table_passes.specs.Late.{IsPlanWhole, firsts_of}
 use Rattle.table_words.specs.Claims.{Claim, Living, claim}
-use Rattle.table_words.specs.Entries.{HasEntry}
+use Rattle.table_words.specs.Entries.{EntryAt, HasEntry}
 use Rattle.table_words.specs.Setup.{Setup}
-use Rattle.table_words.specs.Views.{Plan, Ruling}
+use Rattle.table_words.specs.Views.{Owned, Plan, Ruling}
 use Rattle.table_words.specs.declared.layout.Layout.{Layout}
 use Rattle.mesh_table.specs.Rounds.{MayPlan, planned}
 use Rattle.mesh_table.specs.Sights.{Sight}
@@ -13,8 +21,8 @@ use Rattle.table_rounds.specs.Stocks.{IsStock, KeepsStock}
 use Rattle.table_rounds.specs.declared.patch.Patch.{Patch}
 use Rattle.table_rounds.specs.declared.stock.Stock.{Stock}
 use Rattle.table_rounds.proofs.Stocking.{stock_keeps}
-use Rattle.shared_rounds.specs.Refining.{HasFinished}
-use Rattle.shared_rounds.specs.SecondHalf.{IsCoarsened}
+use Rattle.shared_rounds.specs.Refining.{HasFinished, plan_with, refined_forest}
+use Rattle.shared_rounds.specs.SecondHalf.{CanBeRetired, IsCoarsened}
 
 module _ (s : Setup) (l : Layout) (u v : Sight) (retire : List ℕ) (ps : List Patch) (done : IsCoarsened s l u v retire ps) where
   pub left_now : (forest : List ℕ) → IsLeft s (record u.ruling.plan { retire = retire }) forest → IsLeft s v.ruling.plan forest
@@ -55,4 +63,32 @@ module _ (s : Setup) (l : Layout) (u v : Sight) (retire : List ℕ) (ps : List P
     };
     history = ap (λ (r : Ruling). r.history) f.ruling ∙ ap (λ (r : Ruling). r.history ++ forest ∷ []) done.ruling;
     finished = ap (λ (r : Ruling). r.finished) f.ruling ∙ ap (λ (r : Ruling). r.finished + 1) done.ruling;
+  }
+
+-- a round whose first half is through, in the words of the view before it
+module _ (s : Setup) (mesh : Shape) (x : Across) (u opened w v : Sight) (needs : List Name) (owned : Owned) (rows : ℕ)
+    (open_ : opened ≡ record u { owned = owned; ruling = record u.ruling { hand = []; cursor = 1; free = rows; low = 0; high = 0 } })
+    (began : w ≡ begun opened (plan_for mesh x opened needs)) (done : v.ruling ≡ record w.ruling { workers = 0; lone = false }) where
+  full_ruling : v.ruling ≡ record (begun (record u { owned = owned; ruling = record u.ruling { hand = []; cursor = 1; free = rows; low = 0; high = 0 } }) (plan_for mesh x u needs)).ruling { workers = 0; lone = false }
+  full_ruling = done ∙ (λ i. record (began i).ruling { workers = 0; lone = false }) ∙ (λ i. record (begun (open_ i) (plan_for mesh x (open_ i) needs)).ruling { workers = 0; lone = false })
+
+  pub full_fresh : u.ruling.retired ≡ [] → v.ruling.retired ≡ []
+  full_fresh e = ap (λ (r : Ruling). r.retired) full_ruling ∙ e
+
+  pub full_retire : (ps : List PatchName) → CanBeRetired s mesh x u (refined_forest mesh x u needs) ps → CanBeRetired s mesh x v v.ruling.plan.target ps
+  full_retire ps can = record {
+    patches = can.patches;
+    old = subst (λ (r : Ruling). (k : ℕ) → IsListed s (firsts_of ps) k → (names : List ℕ) × EntryAt r.history r.finished names × HasEntry names k) (sym full_ruling) can.old;
+    whole = subst (λ (r : Ruling). IsPlanWhole s r.plan.target (firsts_of ps)) (sym full_ruling) can.whole;
+    deeper = can.deeper;
+  }
+
+  pub full_left : (retire : List ℕ) (forest : List ℕ) → IsLeft s (plan_with mesh x u needs retire) forest → IsLeft s (record v.ruling.plan { retire = retire }) forest
+  full_left retire forest h = subst (λ (r : Ruling). IsLeft s (record r.plan { retire = retire }) forest) (sym full_ruling) h
+
+  pub full_finished : (z : Sight) (forest : List ℕ) → HasFinished v z forest → HasFinished u z forest
+  full_finished z forest f = record {
+    between = f.between;
+    history = f.history ∙ ap (λ (r : Ruling). r.history ++ forest ∷ []) full_ruling;
+    finished = f.finished ∙ ap (λ (r : Ruling). r.finished + 1) full_ruling;
   }
