@@ -39,7 +39,7 @@ withdraw-requires-in-Ok-Err-clause-stock g c =
     stock_begun l u w v p c.open_rows.new.stock c.begin.ensures.begun over.ruling c.open_rows.ensures.stock
 
 pub finish_all-requires-clause-stock : goal.finish_all-requires-clause-stock
-finish_all-requires-clause-stock g c =
+finish_all-requires-clause-stock g c κs within =
     let k = c.args.table.now.site in
     let l = k.layout in
     let mesh = shape_of k.mesh.now in
@@ -71,7 +71,7 @@ returns-in-Ok-Err-clause-full g c = λ e.
     )
 
 pub finish_all-requires-clause-fresh : goal.finish_all-requires-clause-fresh
-finish_all-requires-clause-fresh g c =
+finish_all-requires-clause-fresh g c κs within =
     let k = c.args.table.now.site in
     let l = k.layout in
     let mesh = shape_of k.mesh.now in
@@ -84,7 +84,7 @@ finish_all-requires-clause-fresh g c =
     full_fresh (setup_at k) mesh x old u w v c.args.needs.now u.owned (c.open_rows.result + 1) c.open_rows.ensures.opened c.begin.ensures.begun done.ruling c.requires.between.fresh
 
 pub finish_all-requires-clause-retire : goal.finish_all-requires-clause-retire
-finish_all-requires-clause-retire g c =
+finish_all-requires-clause-retire g c κs within =
     let k = c.args.table.now.site in
     let l = k.layout in
     let mesh = shape_of k.mesh.now in
@@ -97,7 +97,7 @@ finish_all-requires-clause-retire g c =
     full_retire (setup_at k) mesh x old u w v c.args.needs.now u.owned (c.open_rows.result + 1) c.open_rows.ensures.opened c.begin.ensures.begun done.ruling c.args.retire.now c.requires.retire
 
 pub finish_all-requires-clause-forest : goal.finish_all-requires-clause-forest
-finish_all-requires-clause-forest g c =
+finish_all-requires-clause-forest g c κs within =
     let k = c.args.table.now.site in
     let l = k.layout in
     let mesh = shape_of k.mesh.now in
